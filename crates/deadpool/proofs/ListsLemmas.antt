@@ -1,0 +1,81 @@
+-- What setting, adding or taking one element changes in a list, and cases of tests.
+use Rattle.std.proofs.Common.{◌≡◌, ◌≢◌, ℕ, ◌+◌, zero, suc, ◌≤◌, List, [], ◌∷◌, ◌++◌, Bool, true, false, cond, length, set, refl, ap, ◌∙◌, arith, Option, Some, None, length-append}
+use Rattle.std.specs.List.{cons_option}
+use Rattle.std.specs.Prelude.{slice_get, filter, filter_map, is_some}
+use Rattle.std.proofs.lemmas.Bool.{cond_both}
+use Rattle.std.proofs.lemmas.List.Elements.{filter-append, filter_map-append}
+
+-- 1 where the test holds
+abbrev pub one_if : Bool → ℕ
+one_if true = 1
+one_if false = 0
+
+-- the length with one more element under a test
+length-cond : {X : Type 0} (b : Bool) (x : X) (xs : List X) → length (cond b (x ∷ xs) xs) ≡ one_if b + length xs
+length-cond true x xs = omega arith
+length-cond false x xs = omega arith
+
+-- so many are left of an element that may be none
+length-cons_option : {Y : Type 0} (o : Option Y) (ys : List Y) → length (cons_option o ys) ≡ one_if (is_some o) + length ys
+length-cons_option None ys = omega arith
+length-cons_option (Some y) ys = omega arith
+
+module _ {X : Type 0} where
+  -- the element that was set is there
+  pub get-set_same : (xs : List X) (n : ℕ) (old new : X) → slice_get xs n ≡ Some old → slice_get (set xs n new) n ≡ Some new
+  get-set_same [] n old new h = cc
+  get-set_same (x ∷ xs) zero old new h = refl
+  get-set_same (x ∷ xs) (suc n) old new h = get-set_same xs n old new h
+
+  -- the others are as they were
+  pub get-set_other : (xs : List X) (n m : ℕ) (new : X) → m ≢ n → slice_get (set xs n new) m ≡ slice_get xs m
+  get-set_other [] n m new h = refl
+  get-set_other (x ∷ xs) zero zero new h = absurd (h refl)
+  get-set_other (x ∷ xs) zero (suc m) new h = refl
+  get-set_other (x ∷ xs) (suc n) zero new h = refl
+  get-set_other (x ∷ xs) (suc n) (suc m) new h = get-set_other xs n m new (λ e. h (ap suc e))
+
+  -- an element stays where more are added at the back
+  pub get-append : (xs ys : List X) (n : ℕ) (x : X) → slice_get xs n ≡ Some x → slice_get (xs ++ ys) n ≡ Some x
+  get-append [] ys n x h = cc
+  get-append (y ∷ xs) ys zero x h = h
+  get-append (y ∷ xs) ys (suc n) x h = get-append xs ys n x h
+
+  -- a count changes by the one element that is set
+  pub count-set : (f : X → Bool) (xs : List X) (n : ℕ) (old new : X) → slice_get xs n ≡ Some old
+      → length (filter f (set xs n new)) + one_if (f old) ≡ length (filter f xs) + one_if (f new)
+  count-set f [] n old new h = cc
+  count-set f (x ∷ xs) zero old new h =
+      let same : x ≡ old = cc in
+      rw (same, length-cond (f new) new (filter f xs), length-cond (f old) old (filter f xs)) (omega arith)
+  count-set f (x ∷ xs) (suc n) old new h =
+      let rest = count-set f xs n old new h in
+      rw (length-cond (f x) x (filter f (set xs n new)), length-cond (f x) x (filter f xs)) (omega (arith, rest))
+
+  -- a count grows by the one element that is added
+  pub count-push : (f : X → Bool) (xs : List X) (x : X) → length (filter f (xs ++ x ∷ [])) ≡ length (filter f xs) + one_if (f x)
+  count-push f xs x =
+      ap length (filter-append f xs (x ∷ [])) ∙ length-append (filter f xs) (filter f (x ∷ []))
+      ∙ ap (λ k. length (filter f xs) + k) (length-cond (f x) x [] ∙ omega arith)
+
+  -- a list of what elements hold changes by the one element that is set
+  pub held-set : {Y : Type 0} (f : X → Option Y) (xs : List X) (n : ℕ) (old new : X) → slice_get xs n ≡ Some old
+      → length (filter_map f (set xs n new)) + one_if (is_some (f old)) ≡ length (filter_map f xs) + one_if (is_some (f new))
+  held-set f [] n old new h = cc
+  held-set f (x ∷ xs) zero old new h =
+      let same : x ≡ old = cc in
+      rw (same, length-cons_option (f new) (filter_map f xs), length-cons_option (f old) (filter_map f xs)) (omega arith)
+  held-set f (x ∷ xs) (suc n) old new h =
+      let rest = held-set f xs n old new h in
+      rw (length-cons_option (f x) (filter_map f (set xs n new)), length-cons_option (f x) (filter_map f xs)) (omega (arith, rest))
+
+  -- a list of what elements hold grows by the one element that is added
+  pub held-push : {Y : Type 0} (f : X → Option Y) (xs : List X) (x : X) → length (filter_map f (xs ++ x ∷ [])) ≡ length (filter_map f xs) + one_if (is_some (f x))
+  held-push f xs x =
+      ap length (filter_map-append f xs (x ∷ [])) ∙ length-append (filter_map f xs) (filter_map f (x ∷ []))
+      ∙ ap (λ k. length (filter_map f xs) + k) (length-cons_option (f x) [] ∙ omega arith)
+
+  -- what passes a test is no more than what there was
+  pub filter-shorter : (f : X → Bool) (xs : List X) → length (filter f xs) ≤ length xs
+  filter-shorter f [] = omega arith
+  filter-shorter f (x ∷ xs) = let rest = filter-shorter f xs in cond_both (f x) _ _ (λ ys. length ys ≤ length (x ∷ xs)) (λ y. omega (arith, rest)) (λ n. omega (arith, rest))

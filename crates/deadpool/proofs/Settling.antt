@@ -1,0 +1,177 @@
+-- The pool that a desk and its gets stand for, as one get changes and as the desk settles.
+use Rattle.std.proofs.Common.{◌≡◌, ℕ, ◌+◌, ◌-◌, ◌≤◌, List, [], ◌∷◌, ◌++◌, true, false, cond, length, set, take, drop, map, min, refl, sym, ap, ◌∙◌, arith, inl, inr, Option, Some, append-nil, if◌then◌else◌}
+use Rattle.std.specs.List.{slice_get}
+use Rattle.std.proofs.lemmas.Bool.{cases_Bool, cases_lt, or_left, or_right}
+use Rattle.std.proofs.lemmas.List.{map-set, map-append, take-map, drop-map, length-map, length-set}
+use Rattle.std.proofs.lemmas.Option.{slice_get-map}
+use Rattle.deadpool_parts.specs.Numbers.{has_number}
+use Rattle.deadpool_parts.specs.declared.moment.Runtime.{Runtime}
+use Rattle.deadpool_parts.specs.declared.config.Timeouts.{Timeouts}
+use Rattle.deadpool.specs.HookLists.{HookLists}
+use Rattle.deadpool.specs.DeskState.{DeskState, places, grants, settled}
+use Rattle.deadpool.specs.DeskSteps.{is_listed, unqueued}
+use Rattle.deadpool.specs.Stages.{Getting}
+use Rattle.deadpool.specs.Pool.{Pool, Party, is_going, is_creating, prepared_by, places as pool_places, grants as pool_grants, settle}
+use Rattle.deadpool.specs.Steps.{unqueued as pool_unqueued}
+use Rattle.deadpool.specs.Moves.{NobodyWaits}
+use Rattle.deadpool.specs.Image.{party_of, owner, is_under_way, image, IsOwned, IsCounted}
+use Rattle.deadpool.specs.declared.managed.slot.Slot.{Slot}
+use Rattle.deadpool.proofs.Lists.{count-set, count_given-set, so_many}
+use Rattle.deadpool.proofs.Tickets.{NoTicket, OneTicket, queueing, IsOwned-settled, owners-set, owners-absent, owners-unqueued, owners-queueing, owner-queueing}
+
+module _ {V C R S F A : Type 0} where
+  -- nobody who waits can be granted a place
+  grants-none : (p : Pool V C R S F A) → NobodyWaits p → pool_grants p ≡ 0
+  grants-none p nobody =
+      elim (cases_Bool p.is_open) [
+        | inr shut ↦ ap (λ b. if b then min (length p.waiting) (p.limit - pool_places p) else 0) shut
+        | inl is_open ↦
+            let all : min (length p.waiting) (p.limit - pool_places p) ≡ 0 =
+              elim (cases_lt (pool_places p) p.limit) [
+                | inl free ↦ let none : length p.waiting ≡ 0 = ap length (nobody is_open free) in omega arith
+                | inr full ↦ omega arith
+              ] in
+            ap (λ b. if b then min (length p.waiting) (p.limit - pool_places p) else 0) is_open ∙ all
+      ]
+
+  -- where nobody waits, settling changes nothing
+  pub settle-none : (p : Pool V C R S F A) → NobodyWaits p → settle p ≡ p
+  settle-none p nobody =
+      ap (λ k. record p { granted = p.granted ++ take k p.waiting; waiting = drop k p.waiting }) (grants-none p nobody)
+      ∙ ap (λ ns. record p { granted = ns }) (append-nil p.granted)
+
+module _ {V C R S : Type 0} where
+  -- what a get adds to the counts: a place that it holds with nothing else
+  abbrev pub goes : Option (Getting V C R S) → ℕ
+  goes x = cond (is_going (party_of x)) 1 0
+
+  -- a creation under way
+  abbrev pub creates : Option (Getting V C R S) → ℕ
+  creates x = cond (is_creating (party_of x)) 1 0
+
+  -- an object under preparation
+  abbrev pub prepares : Option (Getting V C R S) → ℕ
+  prepares x = so_many (prepared_by (party_of x))
+
+  -- 1 until it has ended
+  abbrev pub lasts : Option (Getting V C R S) → ℕ
+  lasts x = cond (is_under_way x) 1 0
+
+  -- the desk's counts change as those of the gets do where one of them changes
+  pub record Shifts (d d' : DeskState V) (old new : Option (Getting V C R S)) (out out' : List (Slot V)) : Type 0 where
+    pub going : d'.going + goes old ≡ d.going + goes new
+    pub creations : d'.creations + creates old ≡ d.creations + creates new
+    pub outside : d'.outside + prepares old + length out ≡ d.outside + prepares new + length out'
+    pub room : length out' + lasts new ≤ length out + lasts old
+
+  -- so the counts stay those of the gets
+  pub IsCounted-set : (d d' : DeskState V) (gets : List (Option (Getting V C R S))) (n : ℕ) (old new : Option (Getting V C R S)) (out out' : List (Slot V))
+      → slice_get gets n ≡ Some old → IsCounted d gets out → IsOwned d' (set gets n new) → Shifts d d' old new out out' → IsCounted d' (set gets n new) out'
+  IsCounted-set d d' gets n old new out out' h k o s =
+      let e : map party_of (set gets n new) ≡ set (map party_of gets) n (party_of new) = map-set party_of gets n new in
+      let here : slice_get (map party_of gets) n ≡ Some (party_of old) = slice_get-map party_of gets n ∙ (rw h refl) in
+      let c0 = count-set is_going (map party_of gets) n (party_of old) (party_of new) here in
+      let c1 = count-set is_creating (map party_of gets) n (party_of old) (party_of new) here in
+      let c2 = count_given-set prepared_by (map party_of gets) n (party_of old) (party_of new) here in
+      let c3 = count-set is_under_way gets n old new h in
+      record {
+        tickets = o;
+        going = rw e (omega (arith, c0, k.going, s.going));
+        creations = rw e (omega (arith, c1, k.creations, s.creations));
+        outside = rw e (omega (arith, c2, k.outside, s.outside));
+        room = rw (length-set gets n new) (omega (arith, c3, k.room, s.room))
+      }
+
+  -- settling changes no count
+  pub IsCounted-settled : (d : DeskState V) (gets : List (Option (Getting V C R S))) (out : List (Slot V)) → IsCounted d gets out → IsCounted (settled d) gets out
+  IsCounted-settled d gets out k =
+      record { tickets = IsOwned-settled d gets k.tickets; going = k.going; creations = k.creations; outside = k.outside; room = k.room }
+
+module _ {V C R S F A : Type 0} (runtime : Option Runtime) (hooks : HookLists F A) (timeouts : Timeouts) (first most : ℕ) where
+  -- the pool that a desk, its gets and the objects out stand for
+  abbrev img : DeskState V → List (Option (Getting V C R S)) → List (Slot V) → Pool V C R S F A
+  img = image runtime hooks timeouts first most
+
+  -- the pool has as many places held as the desk
+  pub places-image : (d : DeskState V) (gets : List (Option (Getting V C R S))) (out : List (Slot V)) → IsCounted d gets out → pool_places (img d gets out) ≡ places d
+  places-image d gets out k =
+      let l : length (map (owner gets) d.granted) ≡ length d.granted = length-map d.granted (owner gets) in
+      omega (arith, l, k.creations, k.outside, k.going)
+
+  -- the desk settles as the pool does
+  pub settles : (d : DeskState V) (gets : List (Option (Getting V C R S))) (out : List (Slot V)) → IsCounted d gets out → img (settled d) gets out ≡ settle (img d gets out)
+  settles d gets out k =
+      let l : length (map (owner gets) d.waiting) ≡ length d.waiting = length-map d.waiting (owner gets) in
+      let by : ℕ → ℕ → ℕ = λ waiting held. if d.is_open then min waiting (d.limit - held) else 0 in
+      let same : grants d ≡ pool_grants (img d gets out) =
+        ap (λ m. by m (places d)) (sym l) ∙ ap (by (length (map (owner gets) d.waiting))) (sym (places-image d gets out k)) in
+      let with : List ℕ → List ℕ → Pool V C R S F A = λ granted waiting. record (img d gets out) { granted = granted; waiting = waiting } in
+      ap (λ ns. with ns (map (owner gets) (drop (grants d) d.waiting)))
+        (map-append (owner gets) d.granted (take (grants d) d.waiting) ∙ ap (λ ns. map (owner gets) d.granted ++ ns) (sym (take-map (owner gets) (grants d) d.waiting)))
+      ∙ ap (with (map (owner gets) d.granted ++ take (grants d) (map (owner gets) d.waiting))) (sym (drop-map (owner gets) (grants d) d.waiting))
+      ∙ ap (λ m. with (map (owner gets) d.granted ++ take m (map (owner gets) d.waiting)) (drop m (map (owner gets) d.waiting))) same
+
+-- another party stands at n
+abbrev pub put : {V C R S F A : Type 0} → ℕ → Option (Party V C R S) → Pool V C R S F A → Pool V C R S F A
+put n party p = record p { parties = set p.parties n party }
+
+-- and is queued no more
+abbrev pub put_off : {V C R S F A : Type 0} → ℕ → Option (Party V C R S) → Pool V C R S F A → Pool V C R S F A
+put_off n party p = put n party (pool_unqueued n p)
+
+module _ {V C R S F A : Type 0} (runtime : Option Runtime) (hooks : HookLists F A) (timeouts : Timeouts) (first most : ℕ)
+    (d : DeskState V) (gets : List (Option (Getting V C R S))) (out : List (Slot V)) (o : IsOwned d gets) (n : ℕ) (old new : Option (Getting V C R S)) (h : slice_get gets n ≡ Some old) where
+  -- the pool with these gets
+  abbrev in_pool : DeskState V → List (Option (Getting V C R S)) → Pool V C R S F A
+  in_pool d' gets' = image runtime hooks timeouts first most d' gets' out
+
+  -- the pool with another queue and other parties
+  abbrev with : List ℕ → List ℕ → List (Option (Party V C R S)) → Pool V C R S F A
+  with granted waiting parties = record (in_pool d gets) { granted = granted; waiting = waiting; parties = parties }
+
+  -- two such pools with the same parts
+  with_same : (g g' w w' : List ℕ) (p p' : List (Option (Party V C R S))) → g ≡ g' → w ≡ w' → p ≡ p' → with g w p ≡ with g' w' p'
+  with_same g g' w w' p p' e f q = ap (λ x. with x w p) e ∙ ap (λ x. with g' x p) f ∙ ap (with g' w') q
+
+  -- who was granted a place is in the queue
+  in_granted : (u : ℕ) → has_number u d.granted ≡ true → is_listed u d ≡ true
+  in_granted u k = or_left (has_number u d.granted) (has_number u d.waiting) k
+
+  -- and so is who waits
+  in_waiting : (u : ℕ) → has_number u d.waiting ≡ true → is_listed u d ≡ true
+  in_waiting u k = or_right (has_number u d.granted) (has_number u d.waiting) k
+
+  -- a get without a ticket is in no queue
+  pub unqueued-none : NoTicket old → pool_unqueued n (in_pool d gets) ≡ in_pool d gets
+  unqueued-none none =
+      with_same _ _ _ _ _ _ (owners-absent d gets o n old new h d.granted in_granted none) (owners-absent d gets o n old new h d.waiting in_waiting none) refl
+
+  -- a get without a ticket changes, and gets none
+  pub put-image : NoTicket old → NoTicket new → put n (party_of new) (in_pool d gets) ≡ in_pool d (set gets n new)
+  put-image none no_new =
+      with_same _ _ _ _ _ _ (sym (owners-set d gets o n old new h d.granted none no_new)) (sym (owners-set d gets o n old new h d.waiting none no_new))
+        (sym (map-set party_of gets n new))
+
+  -- and it is in no queue
+  pub put_off-image : NoTicket old → NoTicket new → put_off n (party_of new) (in_pool d gets) ≡ in_pool d (set gets n new)
+  put_off-image none no_new = ap (put n (party_of new)) (unqueued-none none) ∙ put-image none no_new
+
+  -- a queued get leaves the queue
+  pub put_off-unqueued : (t : ℕ) → owner gets t ≡ n → OneTicket t old → NoTicket new → put_off n (party_of new) (in_pool d gets) ≡ in_pool (unqueued t d) (set gets n new)
+  put_off-unqueued t mine one no_new =
+      with_same _ _ _ _ _ _
+        (sym (owners-unqueued d gets o n old new h t mine one no_new d.granted in_granted))
+        (sym (owners-unqueued d gets o n old new h t mine one no_new d.waiting in_waiting))
+        (sym (map-set party_of gets n new))
+
+  -- a get joins the queue
+  pub put-queueing : (t : ℕ) → is_listed t d ≡ false → NoTicket old → OneTicket t new
+      → put n (party_of new) (record (in_pool d gets) { waiting = (in_pool d gets).waiting ++ n ∷ [] }) ≡ in_pool (queueing t d) (set gets n new)
+  put-queueing t fresh none one =
+      let at : ℕ → List ℕ = λ m. m ∷ [] in
+      with_same _ _ _ _ _ _
+        (sym (owners-queueing d gets o n old new h t fresh none one d.granted in_granted))
+        (sym (map-append (owner (set gets n new)) d.waiting (t ∷ [])
+          ∙ ap (λ ns. ns ++ owner (set gets n new) t ∷ []) (owners-queueing d gets o n old new h t fresh none one d.waiting in_waiting)
+          ∙ ap (λ m. map (owner gets) d.waiting ++ at m) (owner-queueing d gets o n old new h t fresh one)))
+        (sym (map-set party_of gets n new))

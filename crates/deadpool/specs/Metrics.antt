@@ -1,0 +1,13 @@
+-- What is known of an object's past.
+use Rattle.std.specs.Prelude.{◌+◌, min, Some, None}
+use Rattle.deadpool_parts.specs.Numbers.{largest_usize}
+use Rattle.deadpool_parts.specs.declared.moment.Moment.{Moment}
+use Rattle.deadpool.specs.declared.managed.metrics.Metrics.{Metrics}
+
+-- those of an object that is created now
+abbrev pub new_metrics : Moment → Metrics
+new_metrics now = record { created = now; recycled = None; recycle_count = 0 }
+
+-- those after one more recycling, now. The count stays at its greatest value
+abbrev pub recycled_at : Moment → Metrics → Metrics
+recycled_at now m = record m { recycled = Some now; recycle_count = min (m.recycle_count + 1) largest_usize }

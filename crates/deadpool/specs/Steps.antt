@@ -1,0 +1,97 @@
+-- The steps of a managed pool that ask nobody.
+use Rattle.std.specs.Prelude.{ℕ, ◌+◌, ◌-◌, min, max, Bool, true, false, List, [], ◌∷◌, ◌++◌, length, take, drop, Option, Some, None, Result, Ok, Err, if◌then◌else◌, nat_lt, ◌==◌, slice_get, slice_set, unwrap_or}
+use Rattle.std.specs.List.{find}
+use Rattle.deadpool_parts.specs.Numbers.{without_number, largest_usize}
+use Rattle.deadpool_parts.specs.declared.errors.PoolError.{PoolError}
+use Rattle.deadpool_parts.specs.declared.errors.PoolError.TheVariants.{NumbersExhausted}
+use Rattle.deadpool.specs.Calls.{start}
+use Rattle.deadpool.specs.DeskState.{next_idle, other_idle}
+use Rattle.deadpool.specs.Pool.{Pool, Party, Standing, going, creating, recycling, finished, creating_count, size, settle}
+use Rattle.deadpool.specs.declared.managed.slot.Slot.{Slot}
+use Rattle.deadpool.specs.declared.managed.prepare.Preparation.TheVariants.{PreRecycle}
+use Rattle.deadpool.specs.declared.replay.moves.Reply.{Reply}
+use Rattle.deadpool.specs.declared.replay.moves.Reply.TheVariants.{More, Pending, Failed}
+
+-- a count of handles that has come here stays here
+abbrev pub most_handles : ℕ
+most_handles = 18446744073709551615
+
+module _ {V : Type 0} where
+  -- a list by rising number, with one more object
+  abbrev pub with_slot : Slot V → List (Slot V) → List (Slot V)
+  with_slot s [] = s ∷ []
+  with_slot s (t ∷ ts) = if nat_lt s.number t.number then s ∷ t ∷ ts else t ∷ with_slot s ts
+
+  -- the object with the number
+  abbrev pub find_slot : ℕ → List (Slot V) → Option (Slot V)
+  find_slot n xs = find (λ s. s.number == n) xs
+
+  -- the objects without the one that has the number
+  abbrev pub without_slot : ℕ → List (Slot V) → List (Slot V)
+  without_slot n [] = []
+  without_slot n (s ∷ ss) = if s.number == n then ss else s ∷ without_slot n ss
+
+  -- the objects, where the one with the number has another value
+  abbrev pub with_put : ℕ → V → List (Slot V) → List (Slot V)
+  with_put n v [] = []
+  with_put n v (s ∷ ss) = if s.number == n then record s { value = v } ∷ ss else s ∷ with_put n v ss
+
+module _ {V C R S F A : Type 0} where
+  -- the party stands elsewhere
+  abbrev pub to : ℕ → Party V C R S → Standing V C R S → Pool V C R S F A → Pool V C R S F A
+  to n party standing p = record p { parties = slice_set p.parties n (Some (record party { standing = standing })) }
+
+  -- the party is queued no more
+  abbrev pub unqueued : ℕ → Pool V C R S F A → Pool V C R S F A
+  unqueued n p = record p { waiting = without_number n p.waiting; granted = without_number n p.granted }
+
+  -- the party has ended, and what it held is free
+  abbrev pub ended : ℕ → Party V C R S → Pool V C R S F A → Pool V C R S F A
+  ended n party p = settle (to n party finished (unqueued n p))
+
+  -- the party is no more, and what it held is free
+  abbrev pub removed : ℕ → Pool V C R S F A → Pool V C R S F A
+  removed n p = settle (record (unqueued n p) { parties = slice_set p.parties n None })
+
+  -- a smaller limit gives up the idle from the front while there are too many objects
+  abbrev pub resized : ℕ → Pool V C R S F A → Pool V C R S F A
+  resized n p = settle (record p { limit = n; reserve = max p.reserve n; idle = drop (min (length p.idle) (size p - n)) p.idle })
+
+  abbrev pub closed : Pool V C R S F A → Pool V C R S F A
+  closed p = record (resized 0 p) { is_open = false }
+
+  abbrev pub cloned : Pool V C R S F A → Pool V C R S F A
+  cloned p = record p { handles = min (p.handles + 1) most_handles }
+
+  -- the last handle takes the idle objects with it
+  abbrev pub handle_dropped : Pool V C R S F A → Pool V C R S F A
+  handle_dropped p =
+      let left = if p.handles == most_handles then most_handles else p.handles - 1 in
+      record p { handles = left; idle = if left == 0 then [] else p.idle }
+
+module _ {V E C R S F A : Type 0} where
+  -- the party ends without an object
+  abbrev pub fail : ℕ → Party V C R S → PoolError E → Pool V C R S F A → Reply V E × Pool V C R S F A
+  fail n party cause p = (Failed cause, ended n party p)
+
+  -- the party stands so until its next poll
+  abbrev pub rest : ℕ → Party V C R S → Standing V C R S → Pool V C R S F A → Reply V E × Pool V C R S F A
+  rest n party standing p = (Pending, to n party standing p)
+
+  -- there is more to do for the party, at once
+  abbrev pub go_on : ℕ → Party V C R S → Standing V C R S → Pool V C R S F A → Reply V E × Pool V C R S F A
+  go_on n party standing p = (More, to n party standing p)
+
+  -- how a party that holds a place is served, by the next idle object and how many it may take
+  abbrev pub serve_from : Option (Slot V) → ℕ → ℕ → Party V C R S → Pool V C R S F A → Reply V E × Pool V C R S F A
+  serve_from (Some slot) allowed n party p =
+      if nat_lt 0 allowed
+      then go_on n party (recycling (PreRecycle slot start) (Some (allowed - 1))) (record p { idle = other_idle p.mode p.idle })
+      else rest n party (going None) p
+  serve_from None allowed n party p =
+      if nat_lt (p.next + creating_count p) largest_usize then go_on n party (creating None None) p else fail n party NumbersExhausted p
+
+  -- A party that holds a place, and stands in no list, is served: an idle object, if one is there and allowed, or a creation.
+  -- An allowance of none is as many as are idle.
+  abbrev pub serve : ℕ → Party V C R S → Option ℕ → Pool V C R S F A → Reply V E × Pool V C R S F A
+  serve n party allowance p = serve_from (next_idle p.mode p.idle) (unwrap_or allowance (length p.idle)) n party p

@@ -1,0 +1,63 @@
+-- What a trial makes of a turn, and of an object that comes back.
+use Rattle.std.specs.Prelude.{◌≡◌, List, Option, Some, None, Ok, Err, ⊤}
+use Rattle.deadpool_parts.specs.declared.moment.Moment.{Moment}
+use Rattle.deadpool_parts.specs.declared.moment.Runtime.{Runtime}
+use Rattle.deadpool.specs.HookLists.{HookLists}
+use Rattle.deadpool.specs.Stages.{Getting}
+use Rattle.deadpool.specs.Get.{Made, Makes, AdvancesFrom}
+use Rattle.deadpool.specs.declared.managed.desk.Desk.{Ghosts as DeskOf}
+use Rattle.deadpool_parts.specs.Program.{Return, ask, ◌>>=◌}
+use Rattle.deadpool.specs.Outside.{Asking, May, Detach}
+use Rattle.deadpool.specs.Steps.{with_slot}
+use Rattle.deadpool.specs.declared.managed.slot.Slot.{Slot}
+use Rattle.deadpool.specs.declared.managed.get.Turn.{Turn}
+use Rattle.deadpool.specs.declared.managed.get.Turn.TheVariants.{More, Pending, Done}
+use Rattle.deadpool.specs.declared.managed.desk.BackReply.{BackReply}
+use Rattle.deadpool.specs.declared.managed.desk.BackReply.TheVariants as back
+use Rattle.deadpool.specs.declared.replay.moves.Reply.{Reply}
+use Rattle.deadpool.specs.declared.replay.moves.Reply.TheVariants as reply
+
+module _ {V E : Type 0} where
+  -- the objects out, with the one that a turn gives
+  abbrev pub given : Turn V E → List (Slot V) → List (Slot V)
+  given (Done (Ok slot)) out = with_slot slot out
+  given (Done (Err cause)) out = out
+  given More out = out
+  given Pending out = out
+
+  abbrev pub reply_to : Turn V E → Reply V E
+  reply_to More = reply.More
+  reply_to Pending = reply.Pending
+  reply_to (Done (Ok slot)) = reply.Object slot.number
+  reply_to (Done (Err cause)) = reply.Failed cause
+
+module _ {V : Type 0} where
+  -- the pool knew of the object
+  abbrev pub IsTaken : BackReply V → Type 0
+  IsTaken (back.Unknown slot) = ⊥
+  IsTaken _ = ⊤
+
+module _ {V E C R S F A : Type 0} where
+  -- one that is given up is detached
+  abbrev pub reply_to_back : BackReply V → Asking V E C R S F A (Reply V E)
+  reply_to_back back.Kept = Return reply.Kept
+  reply_to_back (back.Dropped slot) = Return reply.Dropped
+  reply_to_back (back.Detach slot) = ask (Detach slot.value) >>= λ left. Return reply.Detached
+  reply_to_back (back.Unknown slot) = Return reply.NoSuch
+
+-- one advance of a get by its two states: what it made of the desk, and its turn
+pub record AdvancedGet {D V E C R S F A : Type 0} (d : DeskOf D V) (may : May V E C R S F A) (runtime : Option Runtime) (hooks : HookLists F A) (now : Moment)
+    (g : Getting V C R S) (desk : D) (get' : Option (Getting V C R S)) (desk' : D) (turn : Option (Turn V E)) : Type 0 where
+  pub after : Getting V C R S
+  pub came_to : Turn V E
+  pub made : Made V
+  pub makes : Makes d desk made desk'
+  pub advances : AdvancesFrom may runtime hooks now g.timeouts g.stage made after.stage came_to
+  pub timeouts : after.timeouts ≡ g.timeouts
+  pub get_is : get' ≡ Some after
+  pub turn_is : turn ≡ Some came_to
+
+-- an advance of a get that was cancelled changes nothing
+abbrev pub AdvancesGet : {D V E C R S F A : Type 0} → DeskOf D V → May V E C R S F A → Option Runtime → HookLists F A → Moment → Option (Getting V C R S) → D → Option (Getting V C R S) → D → Option (Turn V E) → Type 0
+AdvancesGet d may runtime hooks now None desk get' desk' turn = (get' ≡ None) × (desk' ≡ desk) × (turn ≡ None)
+AdvancesGet d may runtime hooks now (Some g) desk get' desk' turn = AdvancedGet d may runtime hooks now g desk get' desk' turn

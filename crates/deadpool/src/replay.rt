@@ -1,0 +1,7 @@
+//! Runs of moves over a managed pool on one thread, by any number of parties.
+
+mod moves;
+mod trial;
+
+pub use moves::{Move, Reply};
+pub use trial::Trial;

@@ -1,0 +1,387 @@
+//! A managed pool on one thread, with its parties and the objects that are out.
+ghost use Rattle.std.specs.Prelude.{◌≡◌, ◌==◌, nat_lt, ◌<◌, ◌≤◌, ◌+◌, List, length, Option, MatchResult, IfOk, IfErr, IfSome, vec_len, vec_capacity, ◌↔◌, true, ◌++◌, ◌∷◌, [], ⊤};
+ghost use Rattle.std.specs.List.{position};
+ghost use Rattle.std.specs.Option.{option_map};
+ghost use Rattle.futures.specs.Task.{Keeps};
+ghost use Rattle.deadpool_parts.specs.Program.{Gives};
+ghost use Rattle.deadpool_parts.specs.Runs.{last_of, all_states, Each, Neighbours};
+ghost use Rattle.deadpool_parts.specs.declared.errors.BuildError.{BuildError};
+ghost use Rattle.deadpool.specs.Building.{lacks_any_runtime};
+ghost use Rattle.deadpool.specs.Outside.{may};
+ghost use Rattle.deadpool.specs.Pool.{Pool, opened};
+ghost use Rattle.deadpool.specs.Steps.{find_slot, without_slot, with_slot, with_put};
+ghost use Rattle.deadpool.specs.Moves.{moved, Polls, Makes, PoolRuns, NobodyWaits, WithinReach};
+ghost use Rattle.deadpool.specs.Rank.{rank_at};
+ghost use Rattle.deadpool.specs.TrialFields.{AdvancesGet, given, reply_to, IsTaken, reply_to_back};
+ghost use Rattle.deadpool.specs.declared.replay.moves.Move.TheVariants as move;
+
+use crate::managed::desk::BackReply;
+use crate::managed::{
+    AsyncHook, BuildError, Core, Desk, Environment, GetState, Manager, PoolBuilder, Slot,
+    SyncHook, Timeouts, Turn,
+};
+use crate::replay::{Move, Reply};
+use crate::Moment;
+use futures::task::Context;
+use std::alloc::{AllocError, Global};
+use std::marker::Model;
+
+/// A managed pool on one thread, with its parties and the objects that are out. The clock of its builder is kept and not
+/// asked: each move says its moment.
+#[derive(Drop)]
+pub struct Trial<M: Manager + Drop, F: SyncHook<M> + Drop, A: AsyncHook<M> + Drop, C: Drop> {
+    core: Core<M::Type>,
+    environment: Environment<M, F, A>,
+    timeouts: Timeouts,
+    // By number; none where the party was cancelled.
+    parties: Vec<Option<GetState<M, A>>>,
+    // By rising number.
+    out: Vec<Slot<M::Type>>,
+    most_parties: usize,
+    first: usize,
+    clock: C,
+    alloc: Global,
+}
+
+impl<M: Manager + Drop, F: SyncHook<M> + Drop, A: AsyncHook<M> + Drop, C: Drop> Model for Trial<
+    M,
+    F,
+    A,
+    C,
+> {
+    ghost use Rattle.deadpool.specs.Replay.{Replay};
+
+    ghost Value = { Replay M M.Type M.Creating M.Recycling A.State F A };
+
+    ghost use Rattle.std.specs.Prelude.{◌≤◌, vec_len, vec_capacity};
+    ghost use Rattle.deadpool.specs.Image.{image, IsCounted};
+    ghost use Rattle.deadpool.specs.Laws.{IsLawful};
+
+    ghost view = { λ t. record { pool = image t.environment.runtime t.environment.hooks t.timeouts t.first t.most_parties t.core t.parties.items t.out.items; manager = t.environment.manager } };
+
+    ghost invariant = { λ t. record {
+        counted : IsCounted t.core t.parties.items t.out.items;
+        lawful : IsLawful (image t.environment.runtime t.environment.hooks t.timeouts t.first t.most_parties t.core t.parties.items t.out.items);
+        parties : vec_len t.parties ≤ t.most_parties;
+        seats : t.most_parties ≤ vec_capacity t.parties;
+        hands : t.most_parties ≤ vec_capacity t.out
+    } };
+}
+
+impl<M: Manager + Drop, F: SyncHook<M> + Drop, A: AsyncHook<M> + Drop, C: Drop> Trial<M, F, A, C> {
+    /// A new pool, with room for so many parties, whose first object gets this number. Where it is not made, the builder
+    /// is dropped with all that it has.
+    pub fn new(
+        builder: PoolBuilder<M, F, A, C>,
+        parties: usize,
+        first_number: usize,
+    ) -> Result<Self, BuildError>
+        ensures refused { (result ≡ Err BuildError.NoRuntimeSpecified) ↔ (lacks_any_runtime builder.runtime builder.timeouts ≡ true) }
+        ensures pool { IfOk result (λ t. t.pool ≡ opened builder.max_size builder.queue_mode builder.runtime builder.hooks builder.timeouts first_number parties) }
+        ensures manager { IfOk result (λ t. t.manager ≡ builder.manager) }
+    {
+        if builder.lacks_runtime() {
+            return Err(BuildError::NoRuntimeSpecified);
+        }
+        match Self::open(builder, parties, first_number) {
+            Ok(trial) => Ok(trial),
+            Err(_) => Err(BuildError::OutOfMemory),
+        }
+    }
+
+    // The pool and its tables.
+    fn open(
+        builder: PoolBuilder<M, F, A, C>,
+        parties: usize,
+        first_number: usize,
+    ) -> Result<Self, AllocError>
+        ensures pool { IfOk result (λ t. t.pool ≡ opened builder.max_size builder.queue_mode builder.runtime builder.hooks builder.timeouts first_number parties) }
+        ensures manager { IfOk result (λ t. t.manager ≡ builder.manager) }
+    {
+        let PoolBuilder {
+            alloc,
+            manager,
+            hooks,
+            clock,
+            max_size,
+            timeouts,
+            queue_mode,
+            runtime,
+        } = builder;
+        Ok(Trial {
+            core: Core::new(alloc, max_size, queue_mode, first_number)?,
+            environment: Environment {
+                manager,
+                hooks,
+                runtime,
+            },
+            timeouts,
+            parties: Vec::with_capacity(alloc, parties)?,
+            out: Vec::with_capacity(alloc, parties)?,
+            most_parties: parties,
+            first: first_number,
+            clock,
+            alloc,
+        })
+    }
+
+    /// The value of an object that is out.
+    pub fn value(&self, number: usize) -> Option<&M::Type>
+        ensures { option_map (λ v. v.now) result ≡ option_map (λ s. s.value) (find_slot number self.now.pool.out) }
+    {
+        self.out
+            .iter()
+            .find(|slot| slot.number == number)
+            .map(|slot| &slot.value)
+    }
+
+    /// Makes the moves in turn, and gives the reply to each. Where the list of replies finds no memory, the moves come
+    /// back and nothing ran.
+    pub fn run(
+        &mut self,
+        moves: Vec<Move<M::Type>>,
+        cx: &mut Context<'_>,
+    ) -> Result<Vec<Reply<M::Type, M::Error>>, Vec<Move<M::Type>>>
+        ensures run { MatchResult result
+            (λ replies. (passed : List (List (Pool M.Type M.Creating M.Recycling A.State F A)))
+                × PoolRuns (may M.Manager F.SyncHook A.AsyncHook self.old.manager) self.old.pool moves.items passed replies.items self.new.pool
+                × Each NobodyWaits (all_states self.old.pool passed) × Neighbours WithinReach (all_states self.old.pool passed))
+            (λ refused. (refused ≡ moves) × (self.new ≡ self.old)) }
+        ensures manager { self.new.manager ≡ self.old.manager }
+        ensures kept { Keeps cx.old cx.new }
+    {
+        let Ok(mut replies) = Vec::with_capacity(self.alloc, moves.len()) else {
+            return Err(moves);
+        };
+        for first in moves {
+            let reply = self.make(first, cx);
+            append(&mut replies, reply);
+        }
+        Ok(replies)
+    }
+
+    // One move.
+    fn make(&mut self, next: Move<M::Type>, cx: &mut Context<'_>) -> Reply<M::Type, M::Error>
+        ensures made { (passed : List (Pool M.Type M.Creating M.Recycling A.State F A)) × Makes (may M.Manager F.SyncHook A.AsyncHook self.old.manager) self.old.pool next passed result × (self.new.pool ≡ last_of self.old.pool passed) }
+        ensures manager { self.new.manager ≡ self.old.manager }
+        ensures kept { Keeps cx.old cx.new }
+    {
+        match next {
+            Move::Start(timeouts) => self.start(timeouts),
+            Move::Advance(party, now) => self.advance(party, now, cx),
+            Move::Poll(party, now) => self.poll(party, now, cx),
+            Move::Cancel(party) => self.cancel(party),
+            Move::Put(number, value) => self.put(number, value),
+            Move::Back(number) => self.back(number),
+            Move::Status => self.status(),
+        }
+    }
+
+    fn start(&mut self, timeouts: Option<Timeouts>) -> Reply<M::Type, M::Error>
+        ensures made { Gives (may M.Manager F.SyncHook A.AsyncHook self.old.manager) (moved (move.Start timeouts) self.old.pool) (result, self.new.pool) }
+        ensures manager { self.new.manager ≡ self.old.manager }
+    {
+        if !self.core.has_handle() {
+            return Reply::NoHandle;
+        }
+        let party = self.parties.len();
+        if party >= self.most_parties {
+            return Reply::NoRoom;
+        }
+        let timeouts = timeouts.unwrap_or(self.timeouts);
+        append(&mut self.parties, Some(GetState::new(timeouts)));
+        Reply::Started(party)
+    }
+
+    fn advance(&mut self, party: usize, now: Moment, cx: &mut Context<'_>) -> Reply<M::Type, M::Error>
+        ensures made { Gives (may M.Manager F.SyncHook A.AsyncHook self.old.manager) (moved (move.Advance party now) self.old.pool) (result, self.new.pool) }
+        ensures falls { result ≡ Reply.More → rank_at party self.new.pool < rank_at party self.old.pool }
+        ensures manager { self.new.manager ≡ self.old.manager }
+        ensures kept { Keeps cx.old cx.new }
+    {
+        if party >= self.parties.len() {
+            return Reply::NoSuch;
+        }
+        let get = &mut self.parties[party];
+        match advance_get(get, &mut self.core, &self.environment, now, cx) {
+            None => Reply::NoSuch,
+            Some(turn) => hand_out(&mut self.out, turn),
+        }
+    }
+
+    fn poll(&mut self, party: usize, now: Moment, cx: &mut Context<'_>) -> Reply<M::Type, M::Error>
+        ensures made { (passed : List (Pool M.Type M.Creating M.Recycling A.State F A)) × Polls (may M.Manager F.SyncHook A.AsyncHook self.old.manager) party now self.old.pool passed result × (self.new.pool ≡ last_of self.old.pool passed) }
+        ensures manager { self.new.manager ≡ self.old.manager }
+        ensures kept { Keeps cx.old cx.new }
+    {
+        loop {
+            match self.advance(party, now, cx) {
+                Reply::More => {}
+                reply => return reply,
+            }
+        }
+    }
+
+    fn cancel(&mut self, party: usize) -> Reply<M::Type, M::Error>
+        ensures made { Gives (may M.Manager F.SyncHook A.AsyncHook self.old.manager) (moved (move.Cancel party) self.old.pool) (result, self.new.pool) }
+        ensures manager { self.new.manager ≡ self.old.manager }
+    {
+        if party >= self.parties.len() {
+            return Reply::NoSuch;
+        }
+        match self.parties[party].take() {
+            None => Reply::NoSuch,
+            Some(state) => {
+                state.cancel(&mut self.core, &self.environment);
+                Reply::Cancelled
+            }
+        }
+    }
+
+    fn put(&mut self, number: usize, value: M::Type) -> Reply<M::Type, M::Error>
+        ensures made { Gives (may M.Manager F.SyncHook A.AsyncHook self.old.manager) (moved (move.Put number value) self.old.pool) (result, self.new.pool) }
+        ensures manager { self.new.manager ≡ self.old.manager }
+    {
+        match index_of(&self.out, number) {
+            None => Reply::NoSuch,
+            Some(at) => {
+                self.out[at].value = value;
+                Reply::Done
+            }
+        }
+    }
+
+    fn back(&mut self, number: usize) -> Reply<M::Type, M::Error>
+        ensures made { Gives (may M.Manager F.SyncHook A.AsyncHook self.old.manager) (moved (move.Back number) self.old.pool) (result, self.new.pool) }
+        ensures manager { self.new.manager ≡ self.old.manager }
+    {
+        match take_out(&mut self.out, number) {
+            None => Reply::NoSuch,
+            Some(slot) => {
+                let reply = self.core.back(slot);
+                after_back(&self.environment, reply)
+            }
+        }
+    }
+
+    fn status(&self) -> Reply<M::Type, M::Error>
+        ensures { Gives (may M.Manager F.SyncHook A.AsyncHook self.now.manager) (moved move.Status self.now.pool) (result, self.now.pool) }
+    {
+        if !self.core.has_handle() {
+            return Reply::NoHandle;
+        }
+        Reply::Stands(self.core.status())
+    }
+}
+
+// Advances a get that was not cancelled.
+fn advance_get<M, F, A, D>(
+    get: &mut Option<GetState<M, A>>,
+    desk: &mut D,
+    environment: &Environment<M, F, A>,
+    now: Moment,
+    cx: &mut Context<'_>,
+) -> Option<Turn<M::Type, M::Error>>
+where
+    M: Manager + Drop,
+    F: SyncHook<M> + Drop,
+    A: AsyncHook<M> + Drop,
+    D: Desk<M::Type>,
+    ensures advanced { AdvancesGet D.Desk (may M.Manager F.SyncHook A.AsyncHook environment.now.manager) environment.now.runtime environment.now.hooks now get.old desk.old get.new desk.new result }
+    ensures kept { Keeps cx.old cx.new }
+{
+    match get {
+        None => None,
+        Some(state) => Some(state.advance(desk, environment, now, cx)),
+    }
+}
+
+// Appends an item that there is room for.
+fn append<X: Drop>(items: &mut Vec<X>, item: X)
+    requires { vec_len items.old < vec_capacity items.old }
+    ensures items { items.new.items ≡ items.old.items ++ item ∷ [] }
+    ensures len { vec_len items.new ≡ vec_len items.old + 1 }
+    ensures capacity { vec_capacity items.old ≤ vec_capacity items.new }
+{
+    match items.push(item) {
+        Ok(()) => {}
+        Err(_) => unreachable!(),
+    }
+}
+
+// Where the object with the number is.
+fn index_of<T>(out: &Vec<Slot<T>>, number: usize) -> Option<usize>
+    ensures { result ≡ position (λ slot. slot.number == number) out.now.items }
+{
+    out.iter().position(|slot| slot.number == number)
+}
+
+// Where the first object with a greater number is.
+fn index_above<T>(out: &Vec<Slot<T>>, number: usize) -> Option<usize>
+    ensures { result ≡ position (λ slot. nat_lt number slot.number) out.now.items }
+{
+    out.iter().position(|slot| slot.number > number)
+}
+
+// Takes the object with the number from those that are out.
+fn take_out<T: Drop>(out: &mut Vec<Slot<T>>, number: usize) -> Option<Slot<T>>
+    ensures slot { result ≡ find_slot number out.old.items }
+    ensures out { out.new.items ≡ without_slot number out.old.items }
+    ensures capacity { vec_capacity out.new ≡ vec_capacity out.old }
+{
+    match index_of(out, number) {
+        Some(at) => Some(out.remove(at)),
+        None => None,
+    }
+}
+
+// Puts an object among those that are out. There is room for it.
+fn put_out<T: Drop>(out: &mut Vec<Slot<T>>, slot: Slot<T>)
+    requires { vec_len out.old < vec_capacity out.old }
+    ensures out { out.new.items ≡ with_slot slot out.old.items }
+    ensures capacity { vec_capacity out.old ≤ vec_capacity out.new }
+{
+    let at = index_above(out, slot.number).unwrap_or(out.len());
+    match out.insert(at, slot) {
+        Ok(()) => {}
+        Err(_) => unreachable!(),
+    }
+}
+
+// Keeps the object that a turn gives, for which there is room, and says what the turn came to.
+fn hand_out<T: Drop, E>(out: &mut Vec<Slot<T>>, turn: Turn<T, E>) -> Reply<T, E>
+    requires { length (given turn out.old.items) ≤ vec_capacity out.old }
+    ensures out { out.new.items ≡ given turn out.old.items }
+    ensures reply { result ≡ reply_to turn }
+    ensures capacity { vec_capacity out.old ≤ vec_capacity out.new }
+{
+    match turn {
+        Turn::More => Reply::More,
+        Turn::Pending => Reply::Pending,
+        Turn::Done(Err(cause)) => Reply::Failed(cause),
+        Turn::Done(Ok(slot)) => {
+            let number = slot.number;
+            put_out(out, slot);
+            Reply::Object(number)
+        }
+    }
+}
+
+// Says what became of an object that came back. One that is given up is detached.
+fn after_back<M: Manager + Drop, F: SyncHook<M> + Drop, A: AsyncHook<M> + Drop>(
+    environment: &Environment<M, F, A>,
+    reply: BackReply<M::Type>,
+) -> Reply<M::Type, M::Error>
+    requires { IsTaken reply }
+    ensures { Gives (may M.Manager F.SyncHook A.AsyncHook environment.now.manager) (reply_to_back reply) result }
+{
+    match reply {
+        BackReply::Kept => Reply::Kept,
+        BackReply::Dropped(_) => Reply::Dropped,
+        BackReply::Detach(mut slot) => {
+            environment.manager.detach(&mut slot.value);
+            Reply::Detached
+        }
+        BackReply::Unknown(_) => unreachable!(),
+    }
+}

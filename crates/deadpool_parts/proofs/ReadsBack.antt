@@ -1,0 +1,30 @@
+-- What was written is read as the same.
+use Rattle.std.proofs.Common.{ℕ, ◌≡◌, ◌<◌, ◌^◌, Option, Some, None, Ok, IfSome, refl, rules}
+use Rattle.std.specs.Duration.{FitsDuration}
+use Rattle.deadpool_parts.specs.declared.config.QueueMode.{QueueMode}
+use Rattle.deadpool_parts.specs.declared.config.QueueMode.TheVariants.{Fifo, Lifo}
+use Rattle.deadpool_parts.specs.PoolConfig.{ReadsWritten, mode_name, read_queue_mode, read_size}
+use Rattle.deadpool_parts.specs.Timeouts.{Limits, FitsTimeouts, read_duration, read_limits, read_timeout, written_duration, written_limits, written_timeout}
+use Rattle.serde_json.specs.Data.{number, string, unsigned}
+
+pub read_duration-written_duration : (n : ℕ) → FitsDuration n → read_duration (written_duration n) ≡ Some n
+read_duration-written_duration n fits = search rules
+
+pub read_timeout-written_timeout : (t : Option ℕ) → IfSome t FitsDuration → read_timeout (Some (written_timeout t)) ≡ Ok t
+read_timeout-written_timeout None fits = refl
+read_timeout-written_timeout (Some n) fits = rw (read_duration-written_duration n fits)
+
+pub read_limits-written_limits : (l : Limits) → FitsTimeouts l → read_limits (Some (written_limits l)) ≡ Ok l
+read_limits-written_limits l fits =
+    rw (read_timeout-written_timeout l.wait fits.wait, read_timeout-written_timeout l.create fits.create, read_timeout-written_timeout l.recycle fits.recycle)
+
+read_size-written : (n : ℕ) → n < 2 ^ 64 → read_size (Some (number (unsigned n))) ≡ Ok n
+read_size-written n fits = search rules
+
+read_queue_mode-mode_name : (mode : QueueMode) → read_queue_mode (Some (string (mode_name mode))) ≡ Ok mode
+read_queue_mode-mode_name Fifo = refl
+read_queue_mode-mode_name Lifo = refl
+
+pub reads_written : ReadsWritten
+reads_written s fits =
+    rw (read_size-written s.max_size fits.max_size, read_limits-written_limits s.limits fits.limits, read_queue_mode-mode_name s.queue_mode)

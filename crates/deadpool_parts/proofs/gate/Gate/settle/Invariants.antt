@@ -1,0 +1,10 @@
+use Rattle.std.proofs.Common.{◌≡◌}
+use Rattle.deadpool_parts.specs.Gate.{grant}
+use Rattle.deadpool_parts.proofs.gate.Gate.settle.Given as goal
+
+-- as many got a place as the loop has counted
+abbrev pub invariant-loop-given : goal.invariant-loop-given
+invariant-loop-given l = record {
+  waiters : l.self.waiters ≡ grant l._given l.initial.self.waiters;
+  closed : l.self.is_closed ≡ l.initial.self.is_closed;
+}

@@ -1,0 +1,11 @@
+pub mod Gate
+pub mod GateFields
+pub mod GateListed
+pub mod Moments
+pub mod Numbers
+pub mod PoolConfig
+pub mod Program
+pub mod Result
+pub mod Runs
+pub mod Texts
+pub mod Timeouts

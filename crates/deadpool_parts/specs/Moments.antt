@@ -1,0 +1,26 @@
+-- Moments and deadlines. A deadline is reached where now is at or past it.
+use Rattle.std.specs.Prelude.{ℕ, ◌+◌, min, Bool, true, false, Option, Some, None, nat_le, nat_lt}
+use Rattle.std.specs.Option.{option_map}
+use Rattle.std.specs.Duration.{as_nanos}
+use Rattle.std.specs.declared.time.Duration.{Duration}
+use Rattle.deadpool_parts.specs.declared.moment.Moment.{Moment}
+
+abbrev pub largest_moment : ℕ
+largest_moment = 340282366920938463463374607431768211455
+
+-- a moment and a duration, stopped at the greatest moment
+abbrev pub moment_after : Moment → Duration → Moment
+moment_after now d = record { 0 = min (now.0 + as_nanos d) largest_moment }
+
+-- the deadline of a phase that begins now, where it has one
+abbrev pub deadline_after : Moment → Option Duration → Option Moment
+deadline_after now timeout = option_map (moment_after now) timeout
+
+abbrev pub is_reached : Option Moment → Moment → Bool
+is_reached None now = false
+is_reached (Some deadline) now = nat_le deadline.0 now.0
+
+-- a duration is set that is not zero
+abbrev pub is_positive : Option Duration → Bool
+is_positive None = false
+is_positive (Some d) = nat_lt 0 (as_nanos d)

@@ -1,0 +1,67 @@
+-- A configuration in JSON: what a value says, or the first fault in it, and back.
+use Rattle.std.specs.Prelude.{◌≡◌, ℕ, ◌^◌, ◌<◌, nat_lt, is_some, if◌then◌else◌, bytes_eq, List, Option, Some, None, Result, Ok, Err, option_and_then, codes}
+use Rattle.std.specs.Option.{ok_or}
+use Rattle.serde_json.specs.Data.{Data, number, object, string, unsigned, member, no_members}
+use Rattle.serde_json.specs.Find.{get, as_number, as_object, as_str, as_u64}
+use Rattle.deadpool_parts.specs.Result.{result_map, result_and_then}
+use Rattle.deadpool_parts.specs.Timeouts.{Limits, FitsTimeouts, limits_of, read_limits, written_limits}
+use Rattle.deadpool_parts.specs.declared.config.PoolConfig.{PoolConfig}
+use Rattle.deadpool_parts.specs.declared.config.QueueMode.{QueueMode}
+use Rattle.deadpool_parts.specs.declared.config.QueueMode.TheVariants.{Fifo, Lifo}
+use Rattle.deadpool_parts.specs.declared.errors.ConfigError.{ConfigError}
+use Rattle.deadpool_parts.specs.declared.errors.ConfigError.TheVariants.{BadNumber, BadQueueMode, MissingMaxSize, NotAnObject}
+
+-- a configuration, its durations in nanoseconds
+pub record Settings : Type 0 where
+  pub max_size : ℕ
+  pub limits : Limits
+  pub queue_mode : QueueMode
+
+abbrev pub settings_of : PoolConfig → Settings
+settings_of c = record { max_size = c.max_size; limits = limits_of c.timeouts; queue_mode = c.queue_mode }
+
+-- a `PoolConfig` can have these
+pub record FitsPoolConfig (s : Settings) : Type 0 where
+  pub max_size : s.max_size < 2 ^ 64
+  pub limits : FitsTimeouts s.limits
+
+-- ---- reading
+
+-- a number that a `usize` can have
+abbrev pub as_size : ℕ → Option ℕ
+as_size n = if nat_lt n (2 ^ 64) then Some n else None
+
+-- what stands at `max_size`
+abbrev pub read_size : Option Data → Result ℕ ConfigError
+read_size None = Err MissingMaxSize
+read_size (Some d) = ok_or (option_and_then as_size (option_and_then as_u64 (as_number d))) BadNumber
+
+-- the size of the configuration that a value is
+abbrev pub read_max_size : Data → Result ℕ ConfigError
+read_max_size d = if is_some (as_object d) then read_size (get (codes "max_size") d) else Err NotAnObject
+
+abbrev pub mode_named : List ℕ → Option QueueMode
+mode_named name = if bytes_eq name (codes "Fifo") then Some Fifo else (if bytes_eq name (codes "Lifo") then Some Lifo else None)
+
+-- what stands at `queue_mode`
+abbrev pub read_queue_mode : Option Data → Result QueueMode ConfigError
+read_queue_mode None = Ok Fifo
+read_queue_mode (Some d) = ok_or (option_and_then mode_named (as_str d)) BadQueueMode
+
+-- Faults are looked for in the order of these steps.
+abbrev pub read_config : Data → Result Settings ConfigError
+read_config d =
+    result_and_then (λ n. result_and_then (λ l. result_map (λ mode. record { max_size = n; limits = l; queue_mode = mode }) (read_queue_mode (get (codes "queue_mode") d))) (read_limits (get (codes "timeouts") d))) (read_max_size d)
+
+-- ---- writing
+
+abbrev pub mode_name : QueueMode → List ℕ
+mode_name Fifo = codes "Fifo"
+mode_name Lifo = codes "Lifo"
+
+abbrev pub written_config : Settings → Data
+written_config s = object (member (codes "max_size") (number (unsigned s.max_size)) (member (codes "queue_mode") (string (mode_name s.queue_mode)) (member (codes "timeouts") (written_limits s.limits) no_members)))
+
+-- each configuration in range is read as it was written
+abbrev pub ReadsWritten : Type 0
+ReadsWritten = (s : Settings) → FitsPoolConfig s → read_config (written_config s) ≡ Ok s

@@ -1,0 +1,104 @@
+use super::*;
+use std::test::Fail;
+
+/// What the text's value reads as.
+fn read<R: AllocGlobal>(rt: &R, text: &str) -> Result<Result<PoolConfig, ConfigError>, Fail> {
+    let value = Value::from_str(rt.alloc(), text)?;
+    Ok(PoolConfig::from_json(&value))
+}
+
+#[test]
+fn sizes_by_processors(rt: HostRuntime) {
+    for (count, size) in [
+        (0, 0),
+        (9223372036854775807, 18446744073709551614),
+        (9223372036854775808, 18446744073709551615),
+    ] {
+        assert_eq!(rt; PoolConfig::with_processors(count).max_size, size);
+    }
+}
+
+#[test]
+fn names_the_first_fault(rt: HostRuntime) -> Result<(), Fail> {
+    for (text, fault) in [
+        ("[]", ConfigError::NotAnObject),
+        (r#"{"queue_mode":5}"#, ConfigError::MissingMaxSize),
+        (r#"{"max_size":-1}"#, ConfigError::BadNumber),
+        (r#"{"max_size":null}"#, ConfigError::BadNumber),
+        (
+            r#"{"max_size":1,"timeouts":null,"queue_mode":5}"#,
+            ConfigError::NotAnObject,
+        ),
+        (
+            r#"{"max_size":1,"timeouts":{"wait":{"secs":1,"nanos":0,"x":1}}}"#,
+            ConfigError::BadDuration,
+        ),
+        (
+            r#"{"max_size":1,"timeouts":{"wait":{"secs":1}}}"#,
+            ConfigError::BadDuration,
+        ),
+        (
+            r#"{"max_size":1,"timeouts":{"wait":{"secs":18446744073709551615,"nanos":1000000000}}}"#,
+            ConfigError::BadDuration,
+        ),
+        (
+            r#"{"max_size":1,"queue_mode":"lifo"}"#,
+            ConfigError::BadQueueMode,
+        ),
+    ] {
+        assert_eq!(rt; read(&rt, text)?, Err(fault), "at {text}");
+    }
+    Ok(())
+}
+
+#[test]
+fn reads_configurations(rt: HostRuntime) -> Result<(), Fail> {
+    let second = Duration::from_secs(1);
+    for (text, config) in [
+        (
+            r#"{"max_size":1,"timeouts":{"wait":null},"note":[]}"#,
+            PoolConfig::new(1),
+        ),
+        (
+            r#"{"max_size":42,"queue_mode":"Lifo"}"#,
+            PoolConfig {
+                queue_mode: QueueMode::Lifo,
+                ..PoolConfig::new(42)
+            },
+        ),
+        (
+            r#"{"max_size":42,"timeouts":{"wait":{"secs":1,"nanos":0},"create":{"secs":2,"nanos":0},"recycle":{"secs":3,"nanos":0}}}"#,
+            PoolConfig {
+                timeouts: Timeouts {
+                    wait: Some(second),
+                    create: Some(second * 2),
+                    recycle: Some(second * 3),
+                },
+                ..PoolConfig::new(42)
+            },
+        ),
+        (
+            r#"{"max_size":1,"timeouts":{"wait":{"secs":1,"nanos":1500000000}}}"#,
+            PoolConfig {
+                timeouts: Timeouts::wait_millis(2500),
+                ..PoolConfig::new(1)
+            },
+        ),
+    ] {
+        assert_eq!(rt; read(&rt, text)?, Ok(config), "at {text}");
+    }
+    Ok(())
+}
+
+#[test]
+fn writes_every_key(rt: HostRuntime) -> Result<(), Fail> {
+    let text = r#"{"max_size":42,"timeouts":{"wait":{"secs":1,"nanos":0}}}"#;
+    let config = read(&rt, text)?.unwrap_or(PoolConfig::new(0));
+    let written = config.to_json(rt.alloc()).map_err(|_| AllocError)?;
+    assert_eq!(rt;
+        written.to_string(rt.alloc())?.as_str(),
+        r#"{"max_size":42,"queue_mode":"Fifo","timeouts":{"create":null,"recycle":null,"wait":{"nanos":0,"secs":1}}}"#
+    );
+    assert_eq!(rt; PoolConfig::from_json(&written), Ok(config));
+    Ok(())
+}

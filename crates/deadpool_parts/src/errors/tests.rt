@@ -1,0 +1,123 @@
+use super::*;
+use std::process::Abort;
+
+/// A backend's own error.
+#[derive(Clone, Copy, Debug)]
+struct Refused;
+
+impl fmt::Display for Refused {
+    ghost use Rattle.std.specs.Prelude.{Some, codes};
+
+    ghost output = { λ _. Some (codes "refused") };
+
+    fn fmt<W: fmt::Write>(&self, f: &mut fmt::Formatter<W>) -> fmt::Result {
+        f.write_str("refused")
+    }
+}
+
+fn refuses() -> Result<(), Refused> {
+    Err(Refused)
+}
+
+fn recycle() -> RecycleResult<Refused> {
+    refuses()?;
+    Ok(())
+}
+
+fn get() -> Result<(), PoolError<Refused>> {
+    refuses()?;
+    Ok(())
+}
+
+fn shows<R: Abort + AllocGlobal>(
+    rt: &R,
+    error: impl fmt::Display + Drop,
+    text: &str,
+) -> Result<(), AllocError> {
+    let shown = error.to_string(rt.alloc())?;
+    assert_eq!(rt; shown.as_str(), text);
+    Ok(())
+}
+
+#[test]
+fn prints_each_error(rt: HostRuntime) -> Result<(), AllocError> {
+    let rt = &rt;
+    shows(
+        rt,
+        BuildError::NoRuntimeSpecified,
+        "Error occurred while building the pool: Timeouts require a runtime",
+    )?;
+    shows(
+        rt,
+        BuildError::from(AllocError),
+        "Error occurred while building the pool: Out of memory",
+    )?;
+
+    let recycled = "Error occurred while recycling an object: refused";
+    shows(rt, RecycleError::<Refused>::message("refused"), recycled)?;
+    shows(rt, RecycleError::Backend(Refused), recycled)?;
+    shows(rt, HookError::<Refused>::message("refused"), "refused")?;
+    shows(rt, HookError::Backend(Refused), "refused")?;
+
+    shows(rt, CreatePoolError::Config(Refused), "Config: refused")?;
+    shows(
+        rt,
+        CreatePoolError::<Refused>::Build(BuildError::OutOfMemory),
+        "Build: Error occurred while building the pool: Out of memory",
+    )?;
+
+    let texts = [
+        (
+            PoolError::Timeout(TimeoutType::Wait),
+            "Timeout occurred while waiting for a slot to become available",
+        ),
+        (
+            PoolError::Timeout(TimeoutType::Create),
+            "Timeout occurred while creating a new object",
+        ),
+        (
+            PoolError::Timeout(TimeoutType::Recycle),
+            "Timeout occurred while recycling an object",
+        ),
+        (
+            PoolError::Backend(Refused),
+            "Error occurred while creating a new object: refused",
+        ),
+        (
+            PoolError::PostCreateHook(HookError::Backend(Refused)),
+            "`post_create` hook failed: refused\n",
+        ),
+        (
+            PoolError::PostCreateHook(HookError::message("odd")),
+            "`post_create` hook failed: odd\n",
+        ),
+        (PoolError::Closed, "Pool has been closed"),
+        (PoolError::NoRuntimeSpecified, "No runtime specified"),
+        (PoolError::OutOfMemory, "Out of memory"),
+        (PoolError::NumbersExhausted, "Object numbers are exhausted"),
+    ];
+    for (error, text) in texts {
+        shows(rt, error, text)?;
+    }
+
+    for (error, text) in [
+        (ConfigError::NotAnObject, "Configuration is not an object"),
+        (ConfigError::MissingMaxSize, "max_size is missing"),
+        (
+            ConfigError::BadNumber,
+            "max_size is not a whole number in range",
+        ),
+        (ConfigError::BadDuration, "A timeout is not a duration"),
+        (ConfigError::BadQueueMode, "queue_mode is not Fifo or Lifo"),
+        (ConfigError::OutOfMemory, "Out of memory"),
+    ] {
+        shows(rt, error, text)?;
+    }
+    Ok(())
+}
+
+#[test]
+fn converts_a_backend_error(rt: HostRuntime) {
+    assert!(rt; matches!(recycle(), Err(RecycleError::Backend(_))));
+    assert!(rt; matches!(get(), Err(PoolError::Backend(_))));
+}

@@ -1,0 +1,12 @@
+//! What both pools stand on: the queue of those that wait, configuration, errors, the clock and the status.
+#![tactic(auto)]
+
+pub mod config;
+pub mod deadline;
+pub mod errors;
+pub mod gate;
+mod moment;
+mod status;
+
+pub use moment::{Clock, Moment, Runtime};
+pub use status::Status;
