@@ -1,7 +1,7 @@
 -- Moments and deadlines. A deadline is reached where now is at or past it.
-use Rattle.std.specs.Prelude.{ℕ, ◌+◌, min, Bool, true, false, Option, Some, None, nat_le, nat_lt}
+use Rattle.std.specs.Prelude.{ℕ, ◌+◌, ◌-◌, min, Bool, true, false, Option, Some, None, nat_le, nat_lt}
 use Rattle.std.specs.Option.{option_map}
-use Rattle.std.specs.Duration.{as_nanos}
+use Rattle.std.specs.Duration.{as_nanos, max_nanos}
 use Rattle.std.specs.declared.time.Duration.{Duration}
 use Rattle.deadpool_parts.specs.declared.moment.Moment.{Moment}
 
@@ -24,3 +24,7 @@ is_reached (Some deadline) now = nat_le deadline.0 now.0
 abbrev pub is_positive : Option Duration → Bool
 is_positive None = false
 is_positive (Some d) = nat_lt 0 (as_nanos d)
+
+-- how long after a moment another is, in nanoseconds: zero where it is earlier, and at most the longest duration
+abbrev pub nanos_between : Moment → Moment → ℕ
+nanos_between from now = min (now.0 - from.0) max_nanos

@@ -1,6 +1,7 @@
 //! Deadlines of a get's phases.
 ghost use Rattle.std.specs.Prelude.{◌≡◌};
-ghost use Rattle.deadpool_parts.specs.Moments.{deadline_after, is_reached, is_positive, moment_after};
+ghost use Rattle.std.specs.Duration.{as_nanos};
+ghost use Rattle.deadpool_parts.specs.Moments.{deadline_after, is_reached, is_positive, moment_after, nanos_between};
 
 use crate::Moment;
 use std::time::Duration;
@@ -40,4 +41,18 @@ pub fn is_positive(timeout: Option<Duration>) -> bool
         Some(duration) => duration.as_nanos() > 0,
         None => false,
     }
+}
+
+const NANOS_PER_SECOND: u128 = 1_000_000_000;
+
+/// How long after `from` it is now: zero where now is earlier, and at most the longest duration.
+pub fn duration_between(from: Moment, now: Moment) -> Duration
+    ensures { as_nanos result ≡ nanos_between from now }
+{
+    let nanos = now.0.saturating_sub(from.0);
+    let seconds = nanos / NANOS_PER_SECOND;
+    if seconds > u64::MAX as u128 {
+        return Duration::MAX;
+    }
+    Duration::new(seconds as u64, (nanos % NANOS_PER_SECOND) as u32)
 }

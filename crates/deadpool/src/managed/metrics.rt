@@ -1,8 +1,12 @@
 //! What is known of an object's past.
 ghost use Rattle.std.specs.Prelude.{◌≡◌, None};
-ghost use Rattle.deadpool.specs.Metrics.{new_metrics, recycled_at};
+ghost use Rattle.std.specs.Duration.{as_nanos};
+ghost use Rattle.deadpool_parts.specs.Moments.{nanos_between};
+ghost use Rattle.deadpool.specs.Metrics.{new_metrics, recycled_at, last_used_at};
 
 use crate::Moment;
+use deadpool_parts::deadline::duration_between;
+use std::time::Duration;
 
 /// What is known of an object's past.
 #[derive(Clone, Copy, Debug, PartialEq, Eq)]
@@ -25,6 +29,21 @@ impl Metrics {
             recycled: None,
             recycle_count: 0,
         }
+    }
+
+    /// How long ago the object was created: zero where now is earlier, and at most the longest duration.
+    pub fn age(&self, now: Moment) -> Duration
+        ensures { as_nanos result ≡ nanos_between self.now.created now }
+    {
+        duration_between(self.created, now)
+    }
+
+    /// How long ago the object was last recycled, or created if it never was: zero where now is earlier, and at most the
+    /// longest duration.
+    pub fn last_used(&self, now: Moment) -> Duration
+        ensures { as_nanos result ≡ nanos_between (last_used_at self.now) now }
+    {
+        duration_between(self.recycled.unwrap_or(self.created), now)
     }
 
     // The metrics after one more recycling, now.

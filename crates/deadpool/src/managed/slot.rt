@@ -1,5 +1,7 @@
 //! An object of a pool.
-use crate::managed::Metrics;
+ghost use Rattle.std.specs.Prelude.{◌≡◌};
+
+use crate::managed::{Metrics, ObjectId};
 
 /// An object: its number in its pool, its value, and what is known of its past.
 #[derive(Drop)]
@@ -7,4 +9,13 @@ pub struct Slot<T> {
     pub number: usize,
     pub value: T,
     pub metrics: Metrics,
+}
+
+impl<T> Slot<T> {
+    /// The object's identifier.
+    pub fn id(&self) -> ObjectId
+        ensures { result ≡ self.now.number }
+    {
+        ObjectId::new(self.number)
+    }
 }
