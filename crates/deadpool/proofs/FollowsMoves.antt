@@ -186,4 +186,11 @@ module _ {V C R S F A : Type 0} (E : Type 0) (p : Pool V C R S F A) (l : IsLawfu
       by_party_follows n (cancel n) (slice_get p.parties n) refl (λ party e. cancel_follows E (reach p) n party p (Follows-self p l) e)
   moved_follows (move.Put n v) = put_follows (find_slot n p.out) n v
   moved_follows (move.Back n) = back_follows n (find_slot n p.out) refl
+  moved_follows (move.Take n) = take_follows n (find_slot n p.out) refl
+  moved_follows (move.Resize n) = resize_follows n
+  moved_follows (move.Retain kept) = retain_follows kept.items
+  moved_follows move.Close = by_handle_follows (λ q. (reply.Done, closed q)) (closed_follows p l)
+  moved_follows move.Clone = by_handle_follows (λ q. (reply.Done, cloned q)) (cloned_follows p l)
+  moved_follows move.DropHandle = by_handle_follows (λ q. (reply.Done, handle_dropped q)) (handle_dropped_follows p l)
+  moved_follows move.Upgrade = upgrade_follows
   moved_follows move.Status = by_handle_follows (λ q. (reply.Stands (status_of q), q)) (Follows-self p l)

@@ -20,6 +20,11 @@ pub Always-more : {Q : Type 0} {Answer : Q → Type 0} {A : Type 0} (P more : A 
 Always-more P more implies (Return x) always = implies x always
 Always-more P more implies (Ask q k) always = λ a. Always-more P more implies (k a) (always a)
 
+-- two facts that always hold
+pub Always-both : {Q : Type 0} {Answer : Q → Type 0} {A : Type 0} (P also : A → Type 0) (p : Program Q Answer A) → Always P p → Always also p → Always (λ a. P a × also a) p
+Always-both P also (Return x) h k = (h, k)
+Always-both P also (Ask q k) h l = λ a. Always-both P also (k a) (h a) (l a)
+
 module _ {V C R S F A : Type 0} where
   -- a new pool is lawful
   pub opened_lawful : (limit : ℕ) (mode : QueueMode) (runtime : Option Runtime) (hooks : HookLists F A) (timeouts : Timeouts) (first most : ℕ)

@@ -11,7 +11,7 @@ one_if true = 1
 one_if false = 0
 
 -- the length with one more element under a test
-length-cond : {X : Type 0} (b : Bool) (x : X) (xs : List X) → length (cond b (x ∷ xs) xs) ≡ one_if b + length xs
+pub length-cond : {X : Type 0} (b : Bool) (x : X) (xs : List X) → length (cond b (x ∷ xs) xs) ≡ one_if b + length xs
 length-cond true x xs = omega arith
 length-cond false x xs = omega arith
 

@@ -1,7 +1,9 @@
 -- The steps at a desk, each by its reply: when the reply comes, and the state after it.
-use Rattle.std.specs.Prelude.{◌≡◌, ◌≢◌, ℕ, ◌+◌, ◌-◌, ◌<◌, ◌≤◌, Bool, true, false, ◌||◌, List, [], ◌∷◌, ◌++◌, length, Option, Some, None, unwrap_or}
+use Rattle.std.specs.Prelude.{◌≡◌, ◌≢◌, ℕ, ◌+◌, ◌-◌, ◌<◌, ◌≤◌, Bool, true, false, ◌||◌, ◌==◌, nat_lt, if◌then◌else◌, [], ◌∷◌, ◌++◌, length, drop, min, max, Option, Some, None, unwrap_or, Result, Ok, Err}
+use Rattle.std.specs.declared.alloc.AllocError.{AllocError}
 use Rattle.deadpool_parts.specs.Numbers.{has_number, without_number, largest_usize}
 use Rattle.deadpool.specs.DeskState.{DeskState, next_idle, other_idle, places, size, settled}
+use Rattle.deadpool.specs.Steps.{most_handles}
 use Rattle.deadpool.specs.declared.managed.slot.Slot.{Slot}
 use Rattle.deadpool.specs.declared.managed.desk.Serving.{Serving}
 use Rattle.deadpool.specs.declared.managed.desk.Serving.TheVariants as serving
@@ -17,6 +19,10 @@ use Rattle.deadpool.specs.declared.managed.desk.CreatedReply.{CreatedReply}
 use Rattle.deadpool.specs.declared.managed.desk.CreatedReply.TheVariants as created
 use Rattle.deadpool.specs.declared.managed.desk.BackReply.{BackReply}
 use Rattle.deadpool.specs.declared.managed.desk.BackReply.TheVariants as back
+use Rattle.deadpool.specs.declared.managed.desk.TakeReply.{TakeReply}
+use Rattle.deadpool.specs.declared.managed.desk.TakeReply.TheVariants as taking
+use Rattle.deadpool.specs.declared.managed.desk.HandleReply.{HandleReply}
+use Rattle.deadpool.specs.declared.managed.desk.HandleReply.TheVariants as handle
 use Rattle.deadpool.specs.declared.managed.desk.Held.{Held}
 use Rattle.deadpool.specs.declared.managed.desk.Held.TheVariants as held
 
@@ -101,3 +107,45 @@ module _ {T : Type 0} where
   Cancels d held.Place Done d' = (0 < d.going) × (d' ≡ settled (record d { going = d.going - 1 }))
   Cancels d held.Creation reply d' = Fails d reply d'
   Cancels d held.Object reply d' = Refuses d reply d'
+
+  -- an object that is out leaves for good
+  abbrev pub Takes : DeskState T → TakeReply → DeskState T → Type 0
+  Takes d taking.Unknown d' = (d.outside ≡ 0) × (d' ≡ d)
+  Takes d (taking.Taken detach) d' = (0 < d.outside) × (detach ≡ nat_lt 0 d.handles) × (d' ≡ settled (record d { outside = d.outside - 1 }))
+
+  -- with another limit the idle objects at the front go while there are too many objects
+  abbrev pub resized : ℕ → DeskState T → DeskState T
+  resized limit d = settled (record d { limit = limit; reserve = max d.reserve limit; idle = drop (min (length d.idle) (size d - limit)) d.idle })
+
+  -- The pool gets another limit, if it is open. Only a limit beyond the room needs memory.
+  abbrev pub Resizes : DeskState T → ℕ → Result (Unit {0}) AllocError → DeskState T → Type 0
+  Resizes d limit (Ok done) d' = d' ≡ (if d.is_open then resized limit d else d)
+  Resizes d limit (Err refused) d' = (d.is_open ≡ true) × (d.reserve < limit) × (d' ≡ d)
+
+  -- the pool closes, and nothing stays idle
+  abbrev pub Closes : DeskState T → DeskState T → Type 0
+  Closes d d' = d' ≡ record d { limit = 0; is_open = false; idle = [] }
+
+  abbrev pub one_handle_more : DeskState T → DeskState T
+  one_handle_more d = record d { handles = min (d.handles + 1) most_handles }
+
+  -- the last handle takes the idle objects with it
+  abbrev pub one_handle_less : DeskState T → DeskState T
+  one_handle_less d =
+      let left = if d.handles == most_handles then most_handles else d.handles - 1 in
+      record d { handles = left; idle = if left == 0 then [] else d.idle }
+
+  -- one handle more, for one who has one
+  abbrev pub Clones : DeskState T → HandleReply → DeskState T → Type 0
+  Clones d handle.NoHandle d' = (d.handles ≡ 0) × (d' ≡ d)
+  Clones d handle.Done d' = (0 < d.handles) × (d' ≡ one_handle_more d)
+
+  -- one handle less
+  abbrev pub DropsHandle : DeskState T → HandleReply → DeskState T → Type 0
+  DropsHandle d handle.NoHandle d' = (d.handles ≡ 0) × (d' ≡ d)
+  DropsHandle d handle.Done d' = (0 < d.handles) × (d' ≡ one_handle_less d)
+
+  -- one handle more, for one who has none, if there still is one
+  abbrev pub Upgrades : DeskState T → Bool → DeskState T → Type 0
+  Upgrades d true d' = (0 < d.handles) × (d' ≡ one_handle_more d)
+  Upgrades d false d' = (d.handles ≡ 0) × (d' ≡ d)

@@ -6,6 +6,7 @@ pub mod Calls
 pub mod CoreFields
 pub mod DeskState
 pub mod DeskSteps
+pub mod FirstPoll
 pub mod Get
 pub mod HookLists
 pub mod Image
@@ -19,6 +20,8 @@ pub mod Prepare
 pub mod Rank
 pub mod Replay
 pub mod Retained
+pub mod Retains
+pub mod RunLaws
 pub mod Script
 pub mod ScriptsFirstPath
 pub mod ScriptsOwnSteps

@@ -101,6 +101,13 @@ module _ {V E C R S F A : Type 0} where
   moved (move.Cancel n) p = by_party (slice_get p.parties n) (cancel n) p
   moved (move.Put n v) p = Return (put_at (find_slot n p.out) n v p)
   moved (move.Back n) p = back_at (find_slot n p.out) n p
+  moved (move.Take n) p = take_at (find_slot n p.out) n p
+  moved (move.Resize n) p = resize n p
+  moved (move.Retain kept) p = retain kept.items p
+  moved move.Close p = Return (by_handle (λ q. (reply.Done, closed q)) p)
+  moved move.Clone p = Return (by_handle (λ q. (reply.Done, cloned q)) p)
+  moved move.DropHandle p = Return (by_handle (λ q. (reply.Done, handle_dropped q)) p)
+  moved move.Upgrade p = Return (upgrade p)
   moved move.Status p = Return (by_handle (λ q. (reply.Stands (status_of q), q)) p)
 
 module _ {V E C R S F A : Type 0} (may : May V E C R S F A) where

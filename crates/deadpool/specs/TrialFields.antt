@@ -1,5 +1,5 @@
 -- What a trial makes of a turn, and of an object that comes back.
-use Rattle.std.specs.Prelude.{◌≡◌, List, Option, Some, None, Ok, Err, ⊤}
+use Rattle.std.specs.Prelude.{◌≡◌, Bool, true, false, List, Option, Some, None, Ok, Err, ⊤}
 use Rattle.deadpool_parts.specs.declared.moment.Moment.{Moment}
 use Rattle.deadpool_parts.specs.declared.moment.Runtime.{Runtime}
 use Rattle.deadpool.specs.HookLists.{HookLists}
@@ -12,6 +12,10 @@ use Rattle.deadpool.specs.Steps.{with_slot}
 use Rattle.deadpool.specs.declared.managed.slot.Slot.{Slot}
 use Rattle.deadpool.specs.declared.managed.get.Turn.{Turn}
 use Rattle.deadpool.specs.declared.managed.get.Turn.TheVariants.{More, Pending, Done}
+use Rattle.deadpool.specs.declared.managed.desk.HandleReply.{HandleReply}
+use Rattle.deadpool.specs.declared.managed.desk.HandleReply.TheVariants as handle
+use Rattle.deadpool.specs.declared.managed.desk.TakeReply.{TakeReply}
+use Rattle.deadpool.specs.declared.managed.desk.TakeReply.TheVariants as taking
 use Rattle.deadpool.specs.declared.managed.desk.BackReply.{BackReply}
 use Rattle.deadpool.specs.declared.managed.desk.BackReply.TheVariants as back
 use Rattle.deadpool.specs.declared.replay.moves.Reply.{Reply}
@@ -44,6 +48,18 @@ module _ {V E C R S F A : Type 0} where
   reply_to_back (back.Dropped slot) = Return reply.Dropped
   reply_to_back (back.Detach slot) = ask (Detach slot.value) >>= λ left. Return reply.Detached
   reply_to_back (back.Unknown slot) = Return reply.NoSuch
+
+module _ {V E C R S F A : Type 0} where
+  -- an object that has left the pool is detached while the pool has a handle
+  abbrev pub reply_to_take : V → TakeReply → Asking V E C R S F A (Reply V E)
+  reply_to_take value (taking.Taken true) = ask (Detach value) >>= λ left. Return (reply.Taken left)
+  reply_to_take value (taking.Taken false) = Return (reply.Taken value)
+  reply_to_take value taking.Unknown = Return reply.NoSuch
+
+-- a step that needs a handle is done, or there is none
+abbrev pub reply_to_handle : {V E : Type 0} → HandleReply → Reply V E
+reply_to_handle handle.Done = reply.Done
+reply_to_handle handle.NoHandle = reply.NoHandle
 
 -- one advance of a get by its two states: what it made of the desk, and its turn
 pub record AdvancedGet {D V E C R S F A : Type 0} (d : DeskOf D V) (may : May V E C R S F A) (runtime : Option Runtime) (hooks : HookLists F A) (now : Moment)

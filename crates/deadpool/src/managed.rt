@@ -7,11 +7,13 @@ mod builder;
 pub(crate) mod desk;
 mod get;
 mod hooks;
+pub mod laws;
 mod manager;
 mod metrics;
 mod object_id;
 mod prepare;
 mod retain;
+mod review;
 mod slot;
 mod state;
 
@@ -22,7 +24,8 @@ pub use deadpool_parts::errors::{
     BuildError, ConfigError, CreatePoolError, HookError, HookResult, PoolError, RecycleError, RecycleResult, TimeoutType,
 };
 pub use desk::{
-    AgainReply, AskReply, BackReply, CreatedReply, Desk, EnterReply, Held, Serving, StepReply,
+    AgainReply, AskReply, BackReply, CreatedReply, Desk, EnterReply, HandleReply, Held, Serving,
+    StepReply, TakeReply,
 };
 pub use get::{GetState, Stage, Turn};
 pub use hooks::{AsyncHook, FnHook, Hook, HookAnswer, Hooks, NoHook, SyncHook};
@@ -30,6 +33,6 @@ pub use manager::{Environment, Manager};
 pub use metrics::Metrics;
 pub use object_id::ObjectId;
 pub use prepare::{Position, Preparation};
-pub use retain::RetainResult;
+pub use retain::{RetainResult, Retainer};
 pub use slot::Slot;
 pub use state::Core;

@@ -1,5 +1,6 @@
 //! Runs of moves over a managed pool on one thread, by any number of parties.
 
+pub mod laws;
 mod moves;
 mod trial;
 

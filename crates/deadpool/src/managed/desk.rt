@@ -1,22 +1,29 @@
-//! What a get asks of its pool: one step at a time, each with its reply.
+//! What is asked of a pool: one step at a time, each with its reply. Gets ask, and objects that go back, and the pool's
+//! owner.
 //!
 //! A get that holds a place and no object is served: it is given an idle object, or it begins a creation. Of the steps
 //! below, those that lower a count answer `Unknown` where there is nothing to lower, and change nothing.
-ghost use Rattle.std.specs.Prelude.{ℕ, Bool, Option};
+ghost use Rattle.std.specs.Prelude.{ℕ, Bool, Option, Result};
+ghost use Rattle.std.specs.declared.alloc.AllocError.{AllocError};
 ghost use Rattle.deadpool_parts.specs.declared.status.Status.{Status};
 ghost use Rattle.deadpool.specs.Allowance.{IsWithinAllowance};
+ghost use Rattle.deadpool.specs.Retained.{Retained};
+ghost use Rattle.deadpool.specs.declared.managed.retain.Retainer.{Ghosts as RetainerOf};
 ghost use Rattle.deadpool.specs.declared.managed.slot.Slot.{Slot};
 ghost use Rattle.deadpool.specs.declared.managed.desk.AgainReply.{AgainReply};
 ghost use Rattle.deadpool.specs.declared.managed.desk.AskReply.{AskReply};
 ghost use Rattle.deadpool.specs.declared.managed.desk.BackReply.{BackReply};
 ghost use Rattle.deadpool.specs.declared.managed.desk.CreatedReply.{CreatedReply};
 ghost use Rattle.deadpool.specs.declared.managed.desk.EnterReply.{EnterReply};
+ghost use Rattle.deadpool.specs.declared.managed.desk.HandleReply.{HandleReply};
 ghost use Rattle.deadpool.specs.declared.managed.desk.Held.{Held};
 ghost use Rattle.deadpool.specs.declared.managed.desk.StepReply.{StepReply};
+ghost use Rattle.deadpool.specs.declared.managed.desk.TakeReply.{TakeReply};
 
 use crate::Status;
 use crate::gate::Ticket;
-use crate::managed::Slot;
+use crate::managed::{RetainResult, Retainer, Slot};
+use std::alloc::AllocError;
 
 /// How a get that holds a place is served.
 #[derive(Drop)]
@@ -89,6 +96,25 @@ pub enum BackReply<T> {
     Unknown(Slot<T>),
 }
 
+/// The reply to an object that leaves the pool for good.
+#[derive(Clone, Copy, Debug, PartialEq, Eq)]
+pub enum TakeReply {
+    /// It has left.
+    Taken {
+        /// Whether it has to be detached: the pool has a handle left.
+        detach: bool,
+    },
+    Unknown,
+}
+
+/// The reply to a step on the count of handles.
+#[derive(Clone, Copy, Debug, PartialEq, Eq)]
+pub enum HandleReply {
+    Done,
+    /// The pool has no handle left, and nothing has changed.
+    NoHandle,
+}
+
 /// What a get that is cancelled holds.
 #[derive(Clone, Copy, Debug, PartialEq, Eq)]
 pub enum Held {
@@ -124,6 +150,21 @@ pub trait Desk<T> {
     ghost cancels: { Self → Held → StepReply → Self → Type 0 };
 
     ghost stands: { Self → Status → Type 0 };
+
+    ghost takes: { Self → TakeReply → Self → Type 0 };
+
+    ghost resizes: { Self → ℕ → Result (Unit {0}) AllocError → Self → Type 0 };
+
+    // This holds of the retainers before and after the step too.
+    ghost retains: { (R : Type 0) → RetainerOf R T → Self → R → Result (Retained T) AllocError → Self → R → Type 0 };
+
+    ghost closes: { Self → Self → Type 0 };
+
+    ghost clones: { Self → HandleReply → Self → Type 0 };
+
+    ghost drops_handle: { Self → HandleReply → Self → Type 0 };
+
+    ghost upgrades: { Self → Bool → Self → Type 0 };
 
     /// A new get asks for a place, and joins the queue where none is free and `wait` says so.
     fn enter(&mut self, wait: bool) -> EnterReply<T>
@@ -165,4 +206,39 @@ pub trait Desk<T> {
     /// How the pool stands.
     fn status(&self) -> Status
         ensures { stands self.now result };
+
+    /// An object that is out leaves the pool for good, and its place is free.
+    fn take(&mut self) -> TakeReply
+        ensures { takes self.old result self.new };
+
+    /// The pool gets another limit, a number of objects. While it has more objects than that, idle ones are dropped, the
+    /// front one first, without a detach. A closed pool stays as it is. A limit beyond the room for objects takes memory
+    /// first: where none is found, nothing has changed. The room never shrinks.
+    fn resize(&mut self, limit: usize) -> Result<(), AllocError>
+        ensures { resizes self.old limit result self.new };
+
+    /// Asks about each idle object once, front to back, and gives up those that are not kept: each is detached before the
+    /// next is asked about. The list of their values takes memory first, for as many as are idle: where none is found,
+    /// nothing is asked and nothing has changed. With nothing idle it takes none.
+    fn retain<R: Retainer<T>>(&mut self, retainer: &mut R) -> Result<RetainResult<T>, AllocError>
+        requires { R.can_call retainer.old }
+        ensures retained { retains R R.Retainer self.old retainer.old result self.new retainer.new }
+        ensures can_call { R.can_call retainer.new };
+
+    /// The pool closes for good: its limit is 0, and the idle objects are dropped without a detach.
+    fn close(&mut self)
+        ensures { closes self.old self.new };
+
+    /// There is one more handle. A count that has reached the greatest `u64` stays there.
+    fn clone_handle(&mut self) -> HandleReply
+        ensures { clones self.old result self.new };
+
+    /// There is one handle less. The last one takes the idle objects with it, which are dropped without a detach. A count
+    /// that has reached the greatest `u64` stays there.
+    fn drop_handle(&mut self) -> HandleReply
+        ensures { drops_handle self.old result self.new };
+
+    /// There is one more handle, for an owner that has none: true exactly where one is left. Otherwise nothing changes.
+    fn upgrade(&mut self) -> bool
+        ensures { upgrades self.old result self.new };
 }

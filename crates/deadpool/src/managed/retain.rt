@@ -1,5 +1,35 @@
-//! What a retain gives.
+//! What a retain asks, and what it gives.
+ghost use Rattle.std.specs.Prelude.{⊤, ℕ, Bool};
+ghost use Rattle.deadpool.specs.declared.managed.metrics.Metrics.{Metrics};
+
+use crate::managed::Metrics;
 use std::marker::Model;
+
+/// Says which idle objects a retain keeps, and is told of each of the others. It may change with each call.
+///
+/// An implementation states by its relations which answers its calls may give. By default every answer is allowed.
+pub trait Retainer<T> {
+    // Holds of the retainers that may be called, and again of what each call leaves.
+    ghost can_call: { Self → Type 0 } = { λ _. ⊤ };
+
+    // Holds of each answer about an object's number, value and past, with the retainer that it leaves.
+    ghost may_keep: { Self → ℕ → T → Metrics → Bool → Self → Type 0 } = { λ _ _ _ _ _ _. ⊤ };
+
+    // Holds of each value that `detach` may leave, with the retainer that it leaves.
+    ghost may_detach: { Self → T → T → Self → Type 0 } = { λ _ _ _ _. ⊤ };
+
+    /// Says whether an idle object is kept.
+    fn keeps(&mut self, number: usize, value: &T, metrics: &Metrics) -> bool
+        requires { can_call self.old }
+        ensures answer { may_keep self.old number value.now metrics.now result self.new }
+        ensures can_call { can_call self.new };
+
+    /// Is told of the value of an object that is not kept.
+    fn detach(&mut self, value: &mut T)
+        requires { can_call self.old }
+        ensures answer { may_detach self.old value.old value.new self.new }
+        ensures can_call { can_call self.new };
+}
 
 /// What became of the idle objects in a retain.
 #[derive(Drop)]

@@ -1,14 +1,17 @@
 //! The state of a managed pool on one thread: its queue, its idle objects, and three counts.
 ghost use Rattle.std.specs.Prelude.{◌≡◌, ◌+◌, ◌-◌, ◌≤◌, true, nat_lt, [], IfOk, max};
 ghost use Rattle.deadpool.specs.DeskState.{places, settled, next_idle, other_idle, status_of};
-ghost use Rattle.deadpool.specs.DeskSteps.{Serves, Enters, Asks, GoesOn, Discards, Creates, Fails, Refuses, TakesBack, Cancels};
+ghost use Rattle.deadpool.specs.DeskSteps.{Serves, Enters, Asks, GoesOn, Discards, Creates, Fails, Refuses, TakesBack, Cancels, Takes, Resizes, Closes, Clones, DropsHandle, Upgrades};
+ghost use Rattle.deadpool.specs.Retains.{Retains};
 
 use crate::Status;
 use crate::gate::{Ask, Entry, Gate, Ticket, Withdrawn};
 use crate::managed::desk::{
-    AgainReply, AskReply, BackReply, CreatedReply, Desk, EnterReply, Held, Serving, StepReply,
+    AgainReply, AskReply, BackReply, CreatedReply, Desk, EnterReply, HandleReply, Held, Serving,
+    StepReply, TakeReply,
 };
-use crate::managed::{QueueMode, Slot};
+use crate::managed::review::review;
+use crate::managed::{QueueMode, RetainResult, Retainer, Slot};
 use circular_buffer::HeapCircularBuffer;
 use std::alloc::{AllocError, Global};
 use std::marker::Model;
@@ -150,6 +153,20 @@ impl<T: Drop> Desk<T> for Core<T> {
 
     ghost stands = { λ core status. status ≡ status_of core };
 
+    ghost takes = { Takes };
+
+    ghost resizes = { Resizes };
+
+    ghost retains = { λ R asks. Retains asks };
+
+    ghost closes = { Closes };
+
+    ghost clones = { Clones };
+
+    ghost drops_handle = { DropsHandle };
+
+    ghost upgrades = { Upgrades };
+
     fn enter(&mut self, wait: bool) -> EnterReply<T> {
         let room = self.room();
         match self.gate.enter(room, wait) {
@@ -274,6 +291,73 @@ impl<T: Drop> Desk<T> for Core<T> {
             size: idle + self.outside,
             available: idle.saturating_sub(pending),
             waiting: pending.saturating_sub(idle),
+        }
+    }
+
+    fn take(&mut self) -> TakeReply {
+        if self.outside == 0 {
+            return TakeReply::Unknown;
+        }
+        let detach = self.handles > 0;
+        self.outside -= 1;
+        self.settle();
+        TakeReply::Taken { detach }
+    }
+
+    fn resize(&mut self, limit: usize) -> Result<(), AllocError> {
+        if self.gate.is_closed() {
+            return Ok(());
+        }
+        if limit > self.ring.capacity() {
+            self.ring.resize(limit)?;
+        }
+        self.limit = limit;
+        let idle = self.ring.len();
+        let excess = (idle + self.outside).saturating_sub(limit);
+        self.ring.truncate_front(idle.saturating_sub(excess));
+        self.settle();
+        Ok(())
+    }
+
+    fn retain<R: Retainer<T>>(&mut self, retainer: &mut R) -> Result<RetainResult<T>, AllocError> {
+        let removed = review(&mut self.ring, retainer)?;
+        Ok(RetainResult {
+            retained: self.ring.len(),
+            removed,
+        })
+    }
+
+    fn close(&mut self) {
+        self.limit = 0;
+        self.ring.clear();
+        self.gate.close();
+    }
+
+    fn clone_handle(&mut self) -> HandleReply {
+        if self.handles == 0 {
+            return HandleReply::NoHandle;
+        }
+        self.handles = self.handles.saturating_add(1);
+        HandleReply::Done
+    }
+
+    fn drop_handle(&mut self) -> HandleReply {
+        if self.handles == 0 {
+            return HandleReply::NoHandle;
+        }
+        if self.handles < u64::MAX {
+            self.handles -= 1;
+        }
+        if self.handles == 0 {
+            self.ring.clear();
+        }
+        HandleReply::Done
+    }
+
+    fn upgrade(&mut self) -> bool {
+        match self.clone_handle() {
+            HandleReply::Done => true,
+            HandleReply::NoHandle => false,
         }
     }
 }

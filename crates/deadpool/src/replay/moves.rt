@@ -17,8 +17,22 @@ pub enum Move<T> {
     Put(usize, T),
     /// An object comes back.
     Back(usize),
+    /// An object leaves the pool for good.
+    Take(usize),
+    /// The pool gets another limit.
+    Resize(usize),
+    /// Of the idle objects those with these numbers are kept.
+    Retain(Vec<usize>),
+    /// The pool is closed.
+    Close,
     /// The pool's state is asked for.
     Status,
+    /// The pool gets one more handle.
+    Clone,
+    /// A handle of the pool is dropped.
+    DropHandle,
+    /// The pool gets one more handle, from an owner that has none.
+    Upgrade,
 }
 
 /// The reply to a move.

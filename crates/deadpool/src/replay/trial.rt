@@ -1,5 +1,5 @@
 //! A managed pool on one thread, with its parties and the objects that are out.
-ghost use Rattle.std.specs.Prelude.{◌≡◌, ◌==◌, nat_lt, ◌<◌, ◌≤◌, ◌+◌, List, length, Option, MatchResult, IfOk, IfErr, IfSome, vec_len, vec_capacity, ◌↔◌, true, ◌++◌, ◌∷◌, [], ⊤};
+ghost use Rattle.std.specs.Prelude.{◌≡◌, ◌≢◌, ◌==◌, nat_lt, ◌<◌, ◌≤◌, ◌+◌, List, length, Option, MatchResult, IfOk, IfErr, IfSome, vec_len, vec_capacity, ◌↔◌, true, ◌++◌, ◌∷◌, [], ⊤};
 ghost use Rattle.std.specs.List.{position};
 ghost use Rattle.std.specs.Option.{option_map};
 ghost use Rattle.futures.specs.Task.{Keeps};
@@ -12,13 +12,15 @@ ghost use Rattle.deadpool.specs.Pool.{Pool, opened};
 ghost use Rattle.deadpool.specs.Steps.{find_slot, without_slot, with_slot, with_put};
 ghost use Rattle.deadpool.specs.Moves.{moved, Polls, Makes, PoolRuns, NobodyWaits, WithinReach};
 ghost use Rattle.deadpool.specs.Rank.{rank_at};
-ghost use Rattle.deadpool.specs.TrialFields.{AdvancesGet, given, reply_to, IsTaken, reply_to_back};
+ghost use Rattle.deadpool.specs.TrialFields.{AdvancesGet, given, reply_to, IsTaken, reply_to_back, reply_to_take, reply_to_handle};
+ghost use Rattle.deadpool_parts.specs.Numbers.{has_number};
+ghost use Rattle.deadpool.specs.Answers.{LeavesOrKeeps};
 ghost use Rattle.deadpool.specs.declared.replay.moves.Move.TheVariants as move;
 
-use crate::managed::desk::BackReply;
+use crate::managed::desk::{BackReply, HandleReply, TakeReply};
 use crate::managed::{
-    AsyncHook, BuildError, Core, Desk, Environment, GetState, Manager, PoolBuilder, Slot,
-    SyncHook, Timeouts, Turn,
+    AsyncHook, BuildError, Core, Desk, Environment, GetState, Manager, Metrics, PoolBuilder,
+    Retainer, Slot, SyncHook, Timeouts, Turn,
 };
 use crate::replay::{Move, Reply};
 use crate::Moment;
@@ -173,7 +175,14 @@ impl<M: Manager + Drop, F: SyncHook<M> + Drop, A: AsyncHook<M> + Drop, C: Drop> 
             Move::Cancel(party) => self.cancel(party),
             Move::Put(number, value) => self.put(number, value),
             Move::Back(number) => self.back(number),
+            Move::Take(number) => self.take(number),
+            Move::Resize(limit) => self.resize(limit),
+            Move::Retain(kept) => self.retain(&kept),
+            Move::Close => self.close(),
             Move::Status => self.status(),
+            Move::Clone => self.clone_handle(),
+            Move::DropHandle => self.drop_handle(),
+            Move::Upgrade => self.upgrade(),
         }
     }
 
@@ -271,6 +280,104 @@ impl<M: Manager + Drop, F: SyncHook<M> + Drop, A: AsyncHook<M> + Drop, C: Drop> 
             return Reply::NoHandle;
         }
         Reply::Stands(self.core.status())
+    }
+
+    fn take(&mut self, number: usize) -> Reply<M::Type, M::Error>
+        ensures made { Gives (may M.Manager F.SyncHook A.AsyncHook self.old.manager) (moved (move.Take number) self.old.pool) (result, self.new.pool) }
+        ensures manager { self.new.manager ≡ self.old.manager }
+    {
+        match take_out(&mut self.out, number) {
+            None => Reply::NoSuch,
+            Some(slot) => {
+                let reply = self.core.take();
+                after_take(&self.environment, slot, reply)
+            }
+        }
+    }
+
+    fn resize(&mut self, limit: usize) -> Reply<M::Type, M::Error>
+        ensures made { Gives (may M.Manager F.SyncHook A.AsyncHook self.old.manager) (moved (move.Resize limit) self.old.pool) (result, self.new.pool) }
+        ensures manager { self.new.manager ≡ self.old.manager }
+    {
+        if !self.core.has_handle() {
+            return Reply::NoHandle;
+        }
+        match self.core.resize(limit) {
+            Ok(()) => Reply::Done,
+            Err(_) => Reply::OutOfMemory,
+        }
+    }
+
+    fn retain(&mut self, kept: &Vec<usize>) -> Reply<M::Type, M::Error>
+        ensures made { Gives (may M.Manager F.SyncHook A.AsyncHook self.old.manager) (moved (move.Retain kept.now) self.old.pool) (result, self.new.pool) }
+        ensures manager { self.new.manager ≡ self.old.manager }
+    {
+        if !self.core.has_handle() {
+            return Reply::NoHandle;
+        }
+        let mut keeping = Keeping {
+            kept: kept.as_slice(),
+            manager: &self.environment.manager,
+        };
+        match self.core.retain(&mut keeping) {
+            Ok(retained) => Reply::Retained(retained),
+            Err(_) => Reply::OutOfMemory,
+        }
+    }
+
+    fn close(&mut self) -> Reply<M::Type, M::Error>
+        ensures made { Gives (may M.Manager F.SyncHook A.AsyncHook self.old.manager) (moved (move.Close) self.old.pool) (result, self.new.pool) }
+        ensures manager { self.new.manager ≡ self.old.manager }
+    {
+        if !self.core.has_handle() {
+            return Reply::NoHandle;
+        }
+        self.core.close();
+        Reply::Done
+    }
+
+    fn clone_handle(&mut self) -> Reply<M::Type, M::Error>
+        ensures made { Gives (may M.Manager F.SyncHook A.AsyncHook self.old.manager) (moved (move.Clone) self.old.pool) (result, self.new.pool) }
+        ensures manager { self.new.manager ≡ self.old.manager }
+    {
+        let reply = self.core.clone_handle();
+        after_handle(reply)
+    }
+
+    fn drop_handle(&mut self) -> Reply<M::Type, M::Error>
+        ensures made { Gives (may M.Manager F.SyncHook A.AsyncHook self.old.manager) (moved (move.DropHandle) self.old.pool) (result, self.new.pool) }
+        ensures manager { self.new.manager ≡ self.old.manager }
+    {
+        let reply = self.core.drop_handle();
+        after_handle(reply)
+    }
+
+    fn upgrade(&mut self) -> Reply<M::Type, M::Error>
+        ensures made { Gives (may M.Manager F.SyncHook A.AsyncHook self.old.manager) (moved (move.Upgrade) self.old.pool) (result, self.new.pool) }
+        ensures manager { self.new.manager ≡ self.old.manager }
+    {
+        Reply::Upgraded(self.core.upgrade())
+    }
+}
+
+// Keeps the objects with some numbers, and has the manager told of the others.
+#[derive(Drop)]
+struct Keeping<'a, M> {
+    kept: &'a [usize],
+    manager: &'a M,
+}
+
+impl<M: Manager> Retainer<M::Type> for Keeping<'_, M> {
+    ghost may_keep = { λ r number value metrics answer left. (answer ≡ has_number number r.kept.now) × (left ≡ r) };
+
+    ghost may_detach = { λ r value given left. LeavesOrKeeps (M.may_detach r.manager.now) value given × (left ≡ r) };
+
+    fn keeps(&mut self, number: usize, _value: &M::Type, _metrics: &Metrics) -> bool {
+        self.kept.contains(&number)
+    }
+
+    fn detach(&mut self, value: &mut M::Type) {
+        self.manager.detach(value);
     }
 }
 
@@ -383,5 +490,35 @@ fn after_back<M: Manager + Drop, F: SyncHook<M> + Drop, A: AsyncHook<M> + Drop>(
             Reply::Detached
         }
         BackReply::Unknown(_) => unreachable!(),
+    }
+}
+
+// Gives the value of an object that has left the pool, detached where that is due.
+fn after_take<M: Manager + Drop, F: SyncHook<M> + Drop, A: AsyncHook<M> + Drop>(
+    environment: &Environment<M, F, A>,
+    slot: Slot<M::Type>,
+    reply: TakeReply,
+) -> Reply<M::Type, M::Error>
+    requires { reply ≢ TakeReply.Unknown }
+    ensures { Gives (may M.Manager F.SyncHook A.AsyncHook environment.now.manager) (reply_to_take slot.value reply) result }
+{
+    let mut value = slot.value;
+    match reply {
+        TakeReply::Taken { detach: true } => {
+            environment.manager.detach(&mut value);
+            Reply::Taken(value)
+        }
+        TakeReply::Taken { detach: false } => Reply::Taken(value),
+        TakeReply::Unknown => unreachable!(),
+    }
+}
+
+// The reply to a step that needs a handle.
+fn after_handle<T, E>(reply: HandleReply) -> Reply<T, E>
+    ensures { result ≡ reply_to_handle reply }
+{
+    match reply {
+        HandleReply::Done => Reply::Done,
+        HandleReply::NoHandle => Reply::NoHandle,
     }
 }

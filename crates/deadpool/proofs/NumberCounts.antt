@@ -1,0 +1,169 @@
+-- How often a number stands in a list, among objects, and among what parties prepare.
+use Rattle.std.proofs.Common.{◌≡◌, ℕ, ◌+◌, ◌-◌, ◌≤◌, suc, List, [], ◌∷◌, ◌++◌, Bool, true, false, length, map, take, drop, get_or, refl, sym, ap, ◌∙◌, subst, arith, inl, inr, Option, Some, None, length-append}
+use Rattle.std.specs.Prelude.{◌==◌, nat_lt, filter, filter_map}
+use Rattle.std.specs.List.{cons_option}
+use Rattle.std.proofs.lemmas.Bool.{cases_Bool, cond_both, eqb-true, eq-eqb}
+use Rattle.std.proofs.lemmas.List.{take_more, take_all, take-append-drop}
+use Rattle.std.proofs.lemmas.Option.{slice_get_within, get_or_from_slice_get}
+use Rattle.std.proofs.lemmas.List.Elements.{filter-append}
+use Rattle.deadpool_parts.specs.Numbers.{has_number}
+use Rattle.deadpool_parts.specs.declared.config.QueueMode.{QueueMode}
+use Rattle.deadpool_parts.specs.declared.config.QueueMode.TheVariants.{Fifo, Lifo}
+use Rattle.deadpool.specs.DeskState.{next_idle, other_idle}
+use Rattle.deadpool.specs.Laws.{IsOnce}
+use Rattle.deadpool.specs.Steps.{find_slot, without_slot, with_slot, with_put}
+use Rattle.deadpool.specs.declared.managed.slot.Slot.{Slot}
+use Rattle.deadpool.proofs.ListsLemmas.{one_if, length-cond}
+
+-- how often the number stands in the list
+abbrev pub times : ℕ → List ℕ → ℕ
+times n xs = length (filter (λ m. m == n) xs)
+
+-- by the first and the others
+pub times-cons : (n x : ℕ) (xs : List ℕ) → times n (x ∷ xs) ≡ one_if (x == n) + times n xs
+times-cons n x xs = length-cond (x == n) x (filter (λ m. m == n) xs)
+
+-- of two lists
+pub times-append : (n : ℕ) (xs ys : List ℕ) → times n (xs ++ ys) ≡ times n xs + times n ys
+times-append n xs ys = ap length (filter-append (λ m. m == n) xs ys) ∙ length-append (filter (λ m. m == n) xs) (filter (λ m. m == n) ys)
+
+-- a number that is not there stands there at no place
+pub times-none : (n : ℕ) (xs : List ℕ) → has_number n xs ≡ false → times n xs ≡ 0
+times-none n [] h = refl
+times-none n (x ∷ xs) h =
+    elim (cases_Bool (x == n)) [
+      | inl here ↦ let clash : true ≡ false = rw here at h in cc
+      | inr other ↦ let rest : has_number n xs ≡ false = rw other at h in rw other (times-none n xs rest)
+    ]
+
+-- one that is there stands there
+pub times-some : (n : ℕ) (xs : List ℕ) → has_number n xs ≡ true → 1 ≤ times n xs
+times-some n [] h = cc
+times-some n (x ∷ xs) h =
+    elim (cases_Bool (x == n)) [
+      | inl here ↦ rw here (omega arith)
+      | inr other ↦ let rest : has_number n xs ≡ true = rw other at h in rw other (times-some n xs rest)
+    ]
+
+-- in a list in which none stands twice
+pub times-once : (n : ℕ) (xs : List ℕ) → IsOnce xs → times n xs ≤ 1
+times-once n [] once = omega arith
+times-once n (x ∷ xs) once =
+    elim (cases_Bool (x == n)) [
+      | inl here ↦
+          let gone : has_number n xs ≡ false = subst (λ (m : ℕ). has_number m xs ≡ false) (eqb-true x n here) once.0 in
+          let none = times-none n xs gone in
+          rw here (omega (arith, none))
+      | inr other ↦ rw other (times-once n xs once.1)
+    ]
+
+-- a list in which each stands once at most
+pub once-times : (xs : List ℕ) → ((n : ℕ) → times n xs ≤ 1) → IsOnce xs
+once-times [] h = tt
+once-times (x ∷ xs) h =
+    let others : (n : ℕ) → times n xs ≤ 1 = λ n. let all = h n in let more = times-cons n x xs in omega (arith, all, more) in
+    let all = h x in
+    let here = times-cons x x xs in
+    let one : one_if (x == x) ≡ 1 = ap one_if (eq-eqb x x refl) in
+    elim (cases_Bool (has_number x xs)) [
+      | inl there ↦ let some = times-some x xs there in absurd (omega (arith, all, here, one, some))
+      | inr gone ↦ (gone, once-times xs others)
+    ]
+
+module _ {V : Type 0} where
+  -- how many of the objects have the number
+  abbrev pub held : ℕ → List (Slot V) → ℕ
+  held n xs = length (filter (λ s. s.number == n) xs)
+
+  -- the same by their numbers
+  pub times-map : (n : ℕ) (xs : List (Slot V)) → times n (map (λ s. s.number) xs) ≡ held n xs
+  times-map n [] = refl
+  times-map n (x ∷ xs) = elim (cases_Bool (x.number == n)) [ inl here ↦ rw here (ap suc (times-map n xs)) | inr other ↦ rw other (times-map n xs) ]
+
+  -- by the first and the others
+  pub held-cons : (n : ℕ) (x : Slot V) (xs : List (Slot V)) → held n (x ∷ xs) ≡ one_if (x.number == n) + held n xs
+  held-cons n x xs = length-cond (x.number == n) x (filter (λ s. s.number == n) xs)
+
+  -- of two lists
+  pub held-append : (n : ℕ) (xs ys : List (Slot V)) → held n (xs ++ ys) ≡ held n xs + held n ys
+  held-append n xs ys = ap length (filter-append (λ s. s.number == n) xs ys) ∙ length-append (filter (λ s. s.number == n) xs) (filter (λ s. s.number == n) ys)
+
+  -- the object that is served is one of the idle, and the others are left
+  pub held-served : (n : ℕ) (mode : QueueMode) (idle : List (Slot V)) (slot : Slot V) → next_idle mode idle ≡ Some slot
+      → held n (other_idle mode idle) + one_if (slot.number == n) ≡ held n idle
+  held-served n Fifo [] slot h = cc
+  held-served n Fifo (x ∷ xs) slot h = let same : x ≡ slot = cc in let more = held-cons n slot xs in rw same (omega (arith, more))
+  held-served n Lifo idle slot h =
+      let last = length idle - 1 in
+      let within = slice_get_within idle last slot h in
+      let all : take (last + 1) idle ≡ idle = take_all (last + 1) idle (omega (arith, within)) in
+      let here : get_or idle last slot ≡ slot = get_or_from_slice_get idle last slot slot h in
+      let parts : idle ≡ take last idle ++ slot ∷ [] = sym all ∙ take_more idle last slot within ∙ ap (λ x. take last idle ++ x ∷ []) here in
+      let sum : held n idle ≡ held n (take last idle) + held n (slot ∷ []) = ap (held n) parts ∙ held-append n (take last idle) (slot ∷ []) in
+      let one = held-cons n slot [] in
+      omega (arith, sum, one)
+
+  -- one more is out
+  pub held-with_slot : (n : ℕ) (s : Slot V) (xs : List (Slot V)) → held n (with_slot s xs) ≡ held n xs + one_if (s.number == n)
+  held-with_slot n s [] = let one = held-cons n s [] in omega (arith, one)
+  held-with_slot n s (x ∷ xs) =
+      let old = held-cons n x xs in
+      let first = held-cons n s (x ∷ xs) in
+      let later = held-cons n x (with_slot s xs) in
+      let rest = held-with_slot n s xs in
+      cond_both (nat_lt s.number x.number) _ _ (λ ys. held n ys ≡ held n (x ∷ xs) + one_if (s.number == n)) (λ before. omega (arith, first)) (λ after. omega (arith, old, later, rest))
+
+  -- one that is found is out no more
+  pub held-without_slot : (n k : ℕ) (slot : Slot V) (xs : List (Slot V)) → find_slot k xs ≡ Some slot → held n (without_slot k xs) + one_if (slot.number == n) ≡ held n xs
+  held-without_slot n k slot [] h = cc
+  held-without_slot n k slot (x ∷ xs) h =
+      let old = held-cons n x xs in
+      elim (cases_Bool (x.number == k)) [
+        | inl here ↦ let same : x ≡ slot = let found = rw here at h in cc in let old = held-cons n slot xs in rw (here, same) (omega (arith, old))
+        | inr other ↦
+            let rest = held-without_slot n k slot xs (rw other at h) in
+            let later = held-cons n x (without_slot k xs) in
+            rw other (omega (arith, old, later, rest))
+      ]
+
+  -- a value has no number
+  pub held-with_put : (n k : ℕ) (v : V) (xs : List (Slot V)) → held n (with_put k v xs) ≡ held n xs
+  held-with_put n k v [] = refl
+  held-with_put n k v (x ∷ xs) =
+      let old = held-cons n x xs in
+      let put = held-cons n (record x { value = v }) xs in
+      let later = held-cons n x (with_put k v xs) in
+      let rest = held-with_put n k v xs in
+      cond_both (x.number == k) _ _ (λ ys. held n ys ≡ held n (x ∷ xs)) (λ here. omega (arith, old, put)) (λ other. omega (arith, old, later, rest))
+
+  -- no more are left than there were
+  pub held-drop : (n k : ℕ) (xs : List (Slot V)) → held n (drop k xs) ≤ held n xs
+  held-drop n k xs =
+      let sum = held-append n (take k xs) (drop k xs) in
+      let parts : held n (take k xs ++ drop k xs) ≡ held n xs = ap (held n) (take-append-drop k xs) in
+      omega (arith, sum, parts)
+
+  -- nor under a test
+  pub held-filter : (n : ℕ) (f : Slot V → Bool) (xs : List (Slot V)) → held n (filter f xs) ≤ held n xs
+  held-filter n f [] = omega arith
+  held-filter n f (x ∷ xs) =
+      let old = held-cons n x xs in
+      let kept = held-cons n x (filter f xs) in
+      let rest = held-filter n f xs in
+      cond_both (f x) _ _ (λ ys. held n ys ≤ held n (x ∷ xs)) (λ stays. omega (arith, old, kept, rest)) (λ goes. omega (arith, old, rest))
+
+  -- the object that may be there has the number
+  abbrev pub is_at : ℕ → Option (Slot V) → Bool
+  is_at n None = false
+  is_at n (Some slot) = slot.number == n
+
+  held-cons_option : (n : ℕ) (o : Option (Slot V)) (xs : List (Slot V)) → held n (cons_option o xs) ≡ one_if (is_at n o) + held n xs
+  held-cons_option n None xs = omega arith
+  held-cons_option n (Some slot) xs = held-cons n slot xs
+
+  -- of those that each may hold
+  pub held-filter_map : {X : Type 0} (n : ℕ) (f : X → Option (Slot V)) (xs : List X) → held n (filter_map f xs) ≡ length (filter (λ x. is_at n (f x)) xs)
+  held-filter_map n f [] = refl
+  held-filter_map n f (x ∷ xs) =
+      held-cons_option n (f x) (filter_map f xs) ∙ ap (λ k. one_if (is_at n (f x)) + k) (held-filter_map n f xs)
+      ∙ sym (length-cond (is_at n (f x)) x (filter (λ y. is_at n (f y)) xs))

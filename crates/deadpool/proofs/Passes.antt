@@ -1,0 +1,150 @@
+-- What each step of a pool has: the limits, the numbers of its objects, and the order of its queue.
+use Rattle.std.proofs.Common.{◌≡◌, ℕ, ◌+◌, ◌≤◌, List, [], ◌∷◌, ◌++◌, Bool, true, false, not, ◌&&◌, length, set, take, drop, refl, sym, ap, ◌∙◌, arith, Option, Some, append_assoc, subst, cond, inl, inr}
+use Rattle.std.specs.Prelude.{slice_get, filter, ◌==◌}
+use Rattle.std.proofs.lemmas.Bool.{cases_Bool, eqb-true, or_cases, and_parts}
+use Rattle.std.proofs.lemmas.List.{take-append-drop, append-nil}
+use Rattle.deadpool_parts.specs.Numbers.{has_number, without_number}
+use Rattle.deadpool.specs.Pool.{Pool, Party, prepared_by, preparing, grants, settle}
+use Rattle.deadpool.specs.Laws.{queue}
+use Rattle.deadpool.specs.RunLaws.{KeepsOrder, HasFewIdle, numbers}
+use Rattle.deadpool.specs.declared.managed.slot.Slot.{Slot}
+use Rattle.deadpool.proofs.ListsLemmas.{one_if, count-set}
+use Rattle.deadpool.proofs.NumberLists.{without_number-append, without_number-shorter, has_number-without}
+use Rattle.deadpool.proofs.NumberCounts.{times, held, is_at, times-map, held-append, held-filter_map}
+
+-- where all pass the test nothing goes
+filter-all : (xs : List ℕ) → filter (λ n. true) xs ≡ xs
+filter-all [] = refl
+filter-all (x ∷ xs) = ap (λ ys. x ∷ ys) (filter-all xs)
+
+-- two tests, one after the other
+filter-both : (f g : ℕ → Bool) (xs : List ℕ) → filter f (filter g xs) ≡ filter (λ n. g n && f n) xs
+filter-both f g [] = refl
+filter-both f g (x ∷ xs) =
+    elim (cases_Bool (g x)) [
+      | inl stays ↦ rw stays (ap (λ ys. cond (f x) (x ∷ ys) ys) (filter-both f g xs))
+      | inr goes ↦ rw goes (filter-both f g xs)
+    ]
+
+-- a queue that stays
+pub order_same : (xs : List ℕ) → KeepsOrder xs xs
+order_same xs = record { stays = λ n. true; joins = []; is = sym (append-nil (filter (λ n. true) xs) ∙ filter-all xs); few = omega arith; fresh = λ n h. cc }
+
+-- and one party goes
+pub order_without : (n : ℕ) (xs ys zs : List ℕ) → KeepsOrder xs (ys ++ zs) → KeepsOrder xs (without_number n ys ++ without_number n zs)
+order_without n xs ys zs k =
+    let fewer = without_number-shorter n k.joins in
+    let few = k.few in
+    record {
+      stays = λ m. k.stays m && not (m == n);
+      joins = without_number n k.joins;
+      is = sym (without_number-append n ys zs) ∙ ap (without_number n) k.is ∙ without_number-append n (filter k.stays xs) k.joins
+          ∙ ap (λ left. left ++ without_number n k.joins) (filter-both (λ m. not (m == n)) k.stays xs);
+      few = omega (arith, fewer, few);
+      fresh = λ m h. k.fresh m (and_parts (has_number m k.joins) (not (m == n)) (sym (has_number-without m n k.joins) ∙ h)).0;
+    }
+
+-- one that was not there joins at the end
+pub order_joined : (n : ℕ) (xs ys : List ℕ) → has_number n (xs ++ ys) ≡ false → KeepsOrder (xs ++ ys) (xs ++ (ys ++ n ∷ []))
+order_joined n xs ys gone = record {
+  stays = λ m. true;
+  joins = n ∷ [];
+  is = sym (append_assoc xs ys (n ∷ [])) ∙ ap (λ zs. zs ++ n ∷ []) (sym (filter-all (xs ++ ys)));
+  few = omega arith;
+  fresh = λ m h.
+      elim (or_cases (n == m) false h) [
+        | inl here ↦ subst (λ (k : ℕ). has_number k (xs ++ ys) ≡ false) (eqb-true n m here) gone
+        | inr clash ↦ cc
+      ];
+}
+
+module _ {V C R S : Type 0} where
+  -- the party prepares the object with the number
+  abbrev pub prepares : ℕ → Option (Party V C R S) → Bool
+  prepares n party = is_at n (prepared_by party)
+
+module _ {V C R S F A : Type 0} where
+  -- how often the number stands among the objects that are idle, under preparation or out
+  abbrev pub count : ℕ → Pool V C R S F A → ℕ
+  count n p = held n p.idle + (length (filter (prepares n) p.parties) + held n p.out)
+
+  -- the same by the list of all of them
+  pub times-numbers : (n : ℕ) (p : Pool V C R S F A) → times n (numbers p) ≡ count n p
+  times-numbers n p =
+      let all = times-map n (p.idle ++ preparing p ++ p.out) in
+      let parts = held-append n (p.idle ++ preparing p) p.out in
+      let more = held-append n p.idle (preparing p) in
+      let middle = held-filter_map n prepared_by p.parties in
+      omega (arith, all, parts, more, middle)
+
+-- From p a step may lead to q. It sets another limit only where it may.
+pub record Passes {V C R S F A : Type 0} (sets : Bool) (p q : Pool V C R S F A) : Type 0 where
+  pub limit : sets ≡ false → q.limit ≡ p.limit
+  pub few_idle : HasFewIdle p → HasFewIdle q
+  pub closed : (p.is_open ≡ false → p.limit ≡ 0) → q.is_open ≡ false → q.limit ≡ 0
+  pub first : q.first ≡ p.first
+  -- the step makes a new object
+  pub grows : Bool
+  pub next : q.next ≡ p.next + one_if grows
+  pub few : (n : ℕ) → count n q ≤ count n p + one_if (grows && (p.next == n))
+  pub order : KeepsOrder (queue p) (queue q)
+
+module _ {V C R S F A : Type 0} where
+  -- nothing happens
+  pub passes_self : (sets : Bool) (p : Pool V C R S F A) → Passes sets p p
+  passes_self sets p = record {
+    limit = λ same. refl;
+    few_idle = λ few. few;
+    closed = λ c. c;
+    first = refl;
+    grows = false;
+    next = omega arith;
+    few = λ n. omega arith;
+    order = order_same (queue p);
+  }
+
+  -- those that wait are granted what is free
+  pub settle_passes : (sets : Bool) (p q : Pool V C R S F A) → Passes sets p q → Passes sets p (settle q)
+  settle_passes sets p q s =
+      let same : queue (settle q) ≡ queue q = append_assoc q.granted (take (grants q) q.waiting) (drop (grants q) q.waiting) ∙ ap (λ ys. q.granted ++ ys) (take-append-drop (grants q) q.waiting) in
+      let k = s.order in
+      record {
+        limit = s.limit;
+        few_idle = s.few_idle;
+        closed = s.closed;
+        first = s.first;
+        grows = s.grows;
+        next = s.next;
+        few = s.few;
+        order = record { stays = k.stays; joins = k.joins; is = same ∙ k.is; few = k.few; fresh = k.fresh };
+      }
+
+  -- A party stands elsewhere, or is no more. Idle and out are so, and so is the queue.
+  pub party_passes : (n : ℕ) (old new : Option (Party V C R S)) (grows : Bool) (next : ℕ) (idle out : List (Slot V)) (granted waiting : List ℕ) (p : Pool V C R S F A)
+      → slice_get p.parties n ≡ Some old → next ≡ p.next + one_if grows → length idle ≤ length p.idle → KeepsOrder (queue p) (granted ++ waiting)
+      → ((m : ℕ) → held m idle + (one_if (prepares m new) + held m out) ≤ held m p.idle + (one_if (prepares m old) + held m p.out) + one_if (grows && (p.next == m)))
+      → Passes false p (record p { next = next; parties = set p.parties n new; idle = idle; out = out; granted = granted; waiting = waiting })
+  party_passes n old new grows next idle out granted waiting p h e fewer order same = record {
+    limit = λ kept. refl;
+    few_idle = λ few. omega (arith, fewer, few);
+    closed = λ c. c;
+    first = refl;
+    grows = grows;
+    next = e;
+    few = λ m. let one = count-set (prepares m) p.parties n old new h in let all = same m in omega (arith, one, all);
+    order = order;
+  }
+
+  -- other objects
+  pub objects_pass : (handles : ℕ) (idle out : List (Slot V)) (p : Pool V C R S F A) → (HasFewIdle p → length idle ≤ p.limit)
+      → ((m : ℕ) → held m idle + held m out ≤ held m p.idle + held m p.out) → Passes false p (record p { handles = handles; idle = idle; out = out })
+  objects_pass handles idle out p fewer same = record {
+    limit = λ kept. refl;
+    few_idle = fewer;
+    closed = λ c. c;
+    first = refl;
+    grows = false;
+    next = omega arith;
+    few = λ m. let all = same m in omega (arith, all);
+    order = order_same (queue p);
+  }

@@ -1,0 +1,79 @@
+-- What is prepared keeps its number, whatever the manager and the hooks answer.
+use Rattle.std.proofs.Common.{◌≡◌, ℕ, Option, Result, Ok, Err, refl}
+use Rattle.std.specs.declared.time.Duration.{Duration}
+use Rattle.std.proofs.lemmas.Bool.{cond_both}
+use Rattle.futures.specs.declared.task.Poll.{Poll}
+use Rattle.futures.specs.declared.task.Poll.TheVariants as poll
+use Rattle.deadpool_parts.specs.Moments.{deadline_after, is_reached}
+use Rattle.deadpool_parts.specs.Program.{Program, Return, Ask, Always, ◌>>=◌}
+use Rattle.deadpool_parts.specs.declared.moment.Moment.{Moment}
+use Rattle.deadpool_parts.specs.declared.moment.Runtime.{Runtime}
+use Rattle.deadpool_parts.specs.declared.errors.RecycleError.{RecycleError}
+use Rattle.deadpool_parts.proofs.Programs.{Always-bind}
+use Rattle.deadpool.specs.HookLists.{HookLists}
+use Rattle.deadpool.specs.Outside.{Asking}
+use Rattle.deadpool.specs.Calls.{pass, start}
+use Rattle.deadpool.specs.Prepare.{approved, approve, recycled, poll_recycling, begin_recycling, reviewed, prepare, object_of, with_value, lacks_runtime}
+use Rattle.deadpool.specs.declared.managed.slot.Slot.{Slot}
+use Rattle.deadpool.specs.declared.managed.prepare.Position.{Position}
+use Rattle.deadpool.specs.declared.managed.prepare.Verdict.{Verdict}
+use Rattle.deadpool.specs.declared.managed.prepare.Verdict.TheVariants as verdict
+use Rattle.deadpool.specs.declared.managed.prepare.Preparation.{Preparation}
+use Rattle.deadpool.specs.declared.managed.prepare.Preparation.TheVariants.{PreRecycle, Recycle, PostRecycle}
+use Rattle.deadpool.specs.declared.managed.prepare.Prepared.{Prepared}
+use Rattle.deadpool.specs.declared.managed.prepare.Prepared.TheVariants.{Accepted, GivenUp, Pending}
+
+-- what always holds after the first, where so much always holds of what that gave
+pub Always-then : {Q : Type 0} {Answer : Q → Type 0} {A B : Type 0} (given : A → Type 0) (P : B → Type 0) (p : Program Q Answer A) (f : A → Program Q Answer B)
+    → Always given p → ((a : A) → given a → Always P (f a)) → Always P (p >>= f)
+Always-then given P (Return x) f always next = next x always
+Always-then given P (Ask q k) f always next = λ a. Always-then given P (k a) f (always a) next
+
+module _ {V R S : Type 0} where
+  -- the object that was prepared
+  abbrev pub object_in : Prepared V R S → Slot V
+  object_in (Accepted slot) = slot
+  object_in (GivenUp slot) = slot
+  object_in (Pending preparation) = object_of preparation
+
+  -- it has the number
+  abbrev pub IsNumber : ℕ → Prepared V R S → Type 0
+  IsNumber n x = (object_in x).number ≡ n
+
+module _ {V E S : Type 0} (R : Type 0) where
+  approved_number : (now : Moment) (slot : Slot V) (x : Verdict S E × V) → IsNumber slot.number (approved {R = R} now slot x)
+  approved_number now slot (verdict.Accepted, v) = refl
+  approved_number now slot (verdict.Refused e, v) = refl
+  approved_number now slot (verdict.Pending at, v) = refl
+
+module _ {V F A : Type 0} (E C R S : Type 0) (now : Moment) (hooks : HookLists F A) where
+  approve_number : (slot : Slot V) (at : Position S) → Always (IsNumber slot.number) (approve {E = E} {C = C} {R = R} now hooks slot at)
+  approve_number slot at = Always-bind (IsNumber slot.number) (pass at.accepted _ at.begun slot.value slot.metrics) (λ x. Return (approved now slot x)) (λ x. approved_number R now slot x)
+
+  recycled_number : (deadline : Option Moment) (slot : Slot V) (x : Poll (Result (Unit {0}) (RecycleError E)) × R × V)
+      → Always (IsNumber slot.number) (recycled {C = C} {S = S} now hooks deadline slot x)
+  recycled_number deadline slot (poll.Ready (Ok u), r, v) = approve_number (with_value v slot) start
+  recycled_number deadline slot (poll.Ready (Err e), r, v) = refl
+  recycled_number deadline slot (poll.Pending, r, v) = cond_both (is_reached deadline now) _ _ (IsNumber slot.number) (λ late. refl) (λ early. refl)
+
+  poll_number : (deadline : Option Moment) (r : R) (slot : Slot V) → Always (IsNumber slot.number) (poll_recycling {E = E} {C = C} {S = S} now hooks deadline r slot)
+  poll_number deadline r slot = λ x. recycled_number deadline slot x
+
+  begin_number : (runtime : Option Runtime) (timeout : Option Duration) (slot : Slot V) → Always (IsNumber slot.number) (begin_recycling {E = E} {C = C} {R = R} {S = S} now runtime timeout hooks slot)
+  begin_number runtime timeout slot =
+      let P : Asking V E C R S F A (Prepared V R S) → Type 0 = Always (IsNumber slot.number) in
+      cond_both (lacks_runtime runtime timeout) _ _ P (λ lacks. refl) (λ serves b. poll_number (deadline_after now timeout) b.0 (with_value b.1 slot))
+
+  reviewed_number : (runtime : Option Runtime) (timeout : Option Duration) (slot : Slot V) (x : Verdict S E × V)
+      → Always (IsNumber slot.number) (reviewed {C = C} {R = R} now runtime timeout hooks slot x)
+  reviewed_number runtime timeout slot (verdict.Accepted, v) = begin_number runtime timeout (with_value v slot)
+  reviewed_number runtime timeout slot (verdict.Refused e, v) = refl
+  reviewed_number runtime timeout slot (verdict.Pending at, v) = refl
+
+  -- an idle object's preparation
+  pub prepare_number : (runtime : Option Runtime) (timeout : Option Duration) (preparation : Preparation V R S)
+      → Always (IsNumber (object_of preparation).number) (prepare {E = E} {C = C} now runtime timeout hooks preparation)
+  prepare_number runtime timeout (PreRecycle slot at) =
+      Always-bind (IsNumber slot.number) (pass at.accepted _ at.begun slot.value slot.metrics) (reviewed now runtime timeout hooks slot) (λ x. reviewed_number runtime timeout slot x)
+  prepare_number runtime timeout (Recycle slot r deadline) = poll_number deadline r slot
+  prepare_number runtime timeout (PostRecycle slot at) = approve_number slot at

@@ -1,0 +1,100 @@
+-- A retain of a trial: the objects with some numbers are kept, and the manager is told of the others.
+use Rattle.std.proofs.Common.{◌≡◌, ◌≢◌, ℕ, List, [], ◌∷◌, Bool, true, false, cond, length, ◌==◌, arith, Option, Some, None, Result, Ok, Err, refl, sym, ap, ◌∙◌, subst, inl, inr}
+use Rattle.std.specs.List.{filter}
+use Rattle.std.specs.declared.alloc.AllocError.{AllocError}
+use Rattle.std.proofs.lemmas.Bool.Decides.{nat_tests}
+use Rattle.deadpool_parts.specs.Numbers.{has_number}
+use Rattle.deadpool_parts.specs.Program.{Gives, Return, ask, ◌>>=◌}
+use Rattle.deadpool_parts.proofs.Programs.{Gives-bind}
+use Rattle.deadpool_parts.specs.declared.moment.Runtime.{Runtime}
+use Rattle.deadpool_parts.specs.declared.config.Timeouts.{Timeouts}
+use Rattle.deadpool.specs.HookLists.{HookLists}
+use Rattle.deadpool.specs.Outside.{May, Asking, Detach, Reserve}
+use Rattle.deadpool.specs.DeskState.{DeskState}
+use Rattle.deadpool.specs.Retained.{Retained}
+use Rattle.deadpool.specs.Retains.{KeepsSlot, GivesUpSlot, Reviews, Retains}
+use Rattle.deadpool.specs.Stages.{Getting}
+use Rattle.deadpool.specs.Pool.{Pool}
+use Rattle.deadpool.specs.Moves.{give_up, retain, retain_with}
+use Rattle.deadpool.specs.Image.{image, IsCounted}
+use Rattle.deadpool.specs.declared.managed.retain.Retainer.{Ghosts as RetainerOf}
+use Rattle.deadpool.specs.declared.managed.slot.Slot.{Slot}
+use Rattle.deadpool.specs.declared.replay.moves.Reply.{Reply}
+use Rattle.deadpool.specs.declared.replay.moves.Reply.TheVariants as reply
+use Rattle.deadpool.proofs.Ends.{Gives-same}
+use Rattle.deadpool.proofs.Settles.{same_counted}
+
+-- a list of one or more is not empty
+busy : {V : Type 0} (s : Slot V) (ss : List (Slot V)) → (length (s ∷ ss) == 0) ≡ false
+busy s ss = grind (arith, nat_tests)
+
+module _ {V E C R S F A K : Type 0} (may : May V E C R S F A) (memory : (found : Bool) → may Reserve found) (asks : RetainerOf K V) (kept : List ℕ)
+    (stays : K → Type 0) (keeps : (r : K) (slot : Slot V) (answer : Bool) (r' : K) → stays r → asks.may_keep r slot.number slot.value slot.metrics answer r' → (answer ≡ has_number slot.number kept) × stays r')
+    (tells : (r : K) (value left : V) (r' : K) → stays r → asks.may_detach r value left r' → may (Detach value) left × stays r') where
+  -- those that are kept are those with the numbers, and the others' values are what the manager left of them
+  reviewed : (idle : List (Slot V)) (r : K) (stay : List (Slot V)) (removed : List V) (r' : K) → stays r → Reviews asks idle r stay removed r'
+      → (stay ≡ filter (λ s. has_number s.number kept) idle) × Gives may (give_up {E = E} {C = C} {R = R} {S = S} {F = F} {A = A} kept idle) removed
+  reviewed [] r stay removed r' same ran = (ran.0, sym ran.1)
+  reviewed (s ∷ ss) r stay removed r' same (inl (next, others, asked, is, rest)) =
+      let answered = keeps r s true next same asked in
+      let later = reviewed ss next others removed r' answered.1 rest in
+      let yes : has_number s.number kept ≡ true = sym answered.0 in
+      rw yes (is ∙ ap (λ (xs : List (Slot V)). s ∷ xs) later.0, later.1)
+  reviewed (s ∷ ss) r stay removed r' same (inr (next, left, others, given, is, rest)) =
+      let answered = keeps r s false given.0 same given.1 in
+      let told = tells given.0 s.value left next answered.1 given.2 in
+      let later = reviewed ss next stay others r' told.1 rest in
+      let no : has_number s.number kept ≡ false = sym answered.0 in
+      rw no (later.0,
+        (left, (told.0,
+          Gives-bind may (give_up kept ss) (λ vs. Return (left ∷ vs)) others removed later.1 (sym is))))
+
+  module _ (runtime : Option Runtime) (hooks : HookLists F A) (timeouts : Timeouts) (first most : ℕ)
+      (core core' : DeskState V) (gets : List (Option (Getting V C R S))) (out : List (Slot V)) (counted : IsCounted core gets out) (some : (core.handles == 0) ≡ false) (r r' : K) (same : stays r) where
+    abbrev before : Pool V C R S F A
+    before = image runtime hooks timeouts first most core gets out
+
+    abbrev after : Pool V C R S F A
+    after = image runtime hooks timeouts first most core' gets out
+
+    -- what a retain asks, where a handle is left or not, and where something is idle or not
+    abbrev retaining : Bool → Bool → Asking V E C R S F A (Reply V E × Pool V C R S F A)
+    retaining none empty =
+        cond none (Return (reply.NoHandle, before)) (cond empty (Return (reply.Retained record { retained = 0; removed = [] }, before)) (ask Reserve >>= retain_with kept before))
+
+    still_counted : (idle : List (Slot V)) → core' ≡ record core { idle = idle } → IsCounted core' gets out
+    still_counted idle is = subst (λ (d : DeskState V). IsCounted d gets out) (sym is) (same_counted core (record core { idle = idle }) gets out counted refl refl refl refl refl)
+
+    kept_some : (idle : List (Slot V)) → core.idle ≡ idle → (given : Retained V) (stay : List (Slot V)) → Reviews asks idle r stay given.removed r' → given.retained ≡ length stay → core' ≡ record core { idle = stay }
+        → Gives may (retaining false (length idle == 0)) (reply.Retained given, after)
+    kept_some [] e given stay ran count is =
+        let nothing : stay ≡ [] = ran.0 in
+        let unchanged : core' ≡ core = is ∙ ap (λ (xs : List (Slot V)). let d : DeskState V = record core { idle = xs } in d) (nothing ∙ sym e) in
+        let as_given : record { retained = 0; removed = [] } ≡ given =
+          ap (λ n. let x : Retained V = record { retained = n; removed = [] } in x) (sym (count ∙ ap length nothing)) ∙ ap (λ (vs : List V). let x : Retained V = record { retained = given.retained; removed = vs } in x) (sym ran.1) in
+        ap (λ (x : Retained V). (reply.Retained x, before)) as_given ∙ ap (λ (d : DeskState V). (reply.Retained given, image runtime hooks timeouts first most d gets out)) (sym unchanged)
+    kept_some (s ∷ ss) e given stay ran count is =
+        let all = reviewed (s ∷ ss) r stay given.removed r' same ran in
+        let stays : filter (λ t. has_number t.number kept) core.idle ≡ stay = ap (filter (λ (t : Slot V). has_number t.number kept)) e ∙ sym all.0 in
+        let gone : Gives may (give_up {E = E} {C = C} {R = R} {S = S} {F = F} {A = A} kept core.idle) given.removed = rw e all.1 in
+        let as_given : record { retained = length (filter (λ t. has_number t.number kept) core.idle); removed = given.removed } ≡ given =
+          ap (λ n. let x : Retained V = record { retained = n; removed = given.removed } in x) (ap length stays ∙ sym count) in
+        let as_after : record before { idle = filter (λ t. has_number t.number kept) core.idle } ≡ after =
+          ap (λ (xs : List (Slot V)). let p : Pool V C R S F A = record before { idle = xs } in p) stays ∙ ap (λ (d : DeskState V). image runtime hooks timeouts first most d gets out) (sym is) in
+        rw (busy s ss) (true, (memory true,
+          Gives-bind may (give_up kept core.idle) (λ vs. Return (reply.Retained record { retained = length (filter (λ t. has_number t.number kept) core.idle); removed = vs }, record before { idle = filter (λ t. has_number t.number kept) core.idle })) given.removed (reply.Retained given, after)
+            gone (ap (λ (x : Retained V). (reply.Retained x, record before { idle = filter (λ t. has_number t.number kept) core.idle })) as_given ∙ ap (λ (p : Pool V C R S F A). (reply.Retained given, p)) as_after)))
+
+    pub retained_ok : (given : Retained V) → Retains asks core r (Ok given) core' r' → Gives may (retain kept before) (reply.Retained given, after) × IsCounted core' gets out
+    retained_ok given ran =
+        (Gives-same may _ (retaining false (length core.idle == 0)) _ (ap (λ b. retaining b (length core.idle == 0)) some) (kept_some core.idle refl given ran.0 ran.1 ran.2 ran.3),
+          still_counted ran.0 ran.3)
+
+    refused_some : (idle : List (Slot V)) → idle ≢ [] → core' ≡ core → Gives may (retaining false (length idle == 0)) (reply.OutOfMemory, after)
+    refused_some [] nonempty unchanged = absurd (nonempty refl)
+    refused_some (s ∷ ss) nonempty unchanged = rw (busy s ss) (false, (memory false, ap (λ (d : DeskState V). (reply.OutOfMemory, image runtime hooks timeouts first most d gets out)) (sym unchanged)))
+
+    pub retained_err : (e : AllocError) → Retains asks core r (Err e) core' r' → Gives may (retain kept before) (reply.OutOfMemory, after) × IsCounted core' gets out
+    retained_err e ran =
+        (Gives-same may _ (retaining false (length core.idle == 0)) _ (ap (λ b. retaining b (length core.idle == 0)) some) (refused_some core.idle ran.0 ran.1),
+          subst (λ (d : DeskState V). IsCounted d gets out) (sym ran.1) counted)

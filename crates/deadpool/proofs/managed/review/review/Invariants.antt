@@ -1,0 +1,15 @@
+use Rattle.std.proofs.Common.{◌≡◌, ◌≤◌, length, vec_len, vec_capacity}
+use Rattle.deadpool.proofs.Reviewing.{IsReviewing}
+use Rattle.deadpool.proofs.managed.review.review.Given as goal
+
+-- the ring keeps its room, and there is memory for each value
+abbrev pub invariant-loop-asked : goal.invariant-loop-asked
+invariant-loop-asked g l = record {
+  can_call : g.R.Retainer.can_call l.retainer;
+  count : l.count ≡ length l.initial.ring.items;
+  capacity : l.ring.capacity ≡ l.initial.ring.capacity;
+  fits : length l.initial.ring.items ≤ l.initial.ring.capacity;
+  fewer : vec_len l.removed ≤ l._asked;
+  memory : l.count ≤ vec_capacity l.removed;
+  reviewing : IsReviewing g.R.Retainer l.initial.ring.items l.initial.retainer l._asked l.ring.items l.removed.items l.retainer;
+}

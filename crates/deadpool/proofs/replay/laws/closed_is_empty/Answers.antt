@@ -1,0 +1,7 @@
+use Rattle.deadpool.specs.Outside.{may}
+use Rattle.deadpool.specs.RunLaws.{IsEmptyIfClosed}
+use Rattle.deadpool.proofs.RunsWell.{each_state}
+use Rattle.deadpool.proofs.replay.laws.closed_is_empty.Goals as goal
+
+pub returns : goal.returns
+returns g c = λ manager. each_state (may g.M.Manager g.F.SyncHook g.A.AsyncHook manager) IsEmptyIfClosed (λ q w. w.closed)

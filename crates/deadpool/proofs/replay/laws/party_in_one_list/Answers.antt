@@ -1,0 +1,8 @@
+use Rattle.deadpool.specs.Outside.{may}
+use Rattle.deadpool.specs.RunLaws.{IsListedOnce}
+use Rattle.deadpool.proofs.OneList.{listed_once}
+use Rattle.deadpool.proofs.RunsWell.{each_state}
+use Rattle.deadpool.proofs.replay.laws.party_in_one_list.Goals as goal
+
+pub returns : goal.returns
+returns g c = λ manager. each_state (may g.M.Manager g.F.SyncHook g.A.AsyncHook manager) IsListedOnce (λ q w. listed_once q w.lawful)

@@ -1,0 +1,140 @@
+-- What is true of every state of every run, and of each two neighbours in it.
+use Rattle.std.specs.Prelude.{◌≡◌, ℕ, ◌+◌, ◌<◌, ◌≤◌, Bool, true, false, List, [], ◌∷◌, ◌++◌, length, map, ⊤, Option, if◌then◌else◌, is_some}
+use Rattle.std.specs.List.{filter}
+use Rattle.deadpool_parts.specs.Numbers.{has_number}
+use Rattle.deadpool_parts.specs.Runs.{all_states, Each, Neighbours}
+use Rattle.deadpool_parts.specs.declared.config.QueueMode.{QueueMode}
+use Rattle.deadpool_parts.specs.declared.config.Timeouts.{Timeouts}
+use Rattle.deadpool_parts.specs.declared.moment.Runtime.{Runtime}
+use Rattle.deadpool.specs.HookLists.{HookLists}
+use Rattle.deadpool.specs.Outside.{May}
+use Rattle.deadpool.specs.Pool.{Pool, Party, opened, is_going, is_creating, prepared_by, preparing, size, reach}
+use Rattle.deadpool.specs.Moves.{PoolRuns}
+use Rattle.deadpool.specs.Laws.{IsOnce, IsLawful, queue}
+use Rattle.deadpool.specs.declared.replay.moves.Move.{Move}
+use Rattle.deadpool.specs.declared.replay.moves.Move.TheVariants as move
+use Rattle.deadpool.specs.declared.replay.moves.Reply.{Reply}
+
+-- the places at which the test holds, where the first is so
+abbrev pub places_from : {X : Type 0} → ℕ → (X → Bool) → List X → List ℕ
+places_from n f [] = []
+places_from n f (x ∷ xs) = if f x then n ∷ places_from (n + 1) f xs else places_from (n + 1) f xs
+
+-- P holds of each and each later one
+abbrev pub Later : {X : Type 0} → (X → X → Type 0) → List X → Type 0
+Later P [] = ⊤
+Later P (x ∷ xs) = Each (P x) xs × Later P xs
+
+-- after is before without some of its numbers, and at its end a number that was not there, or none
+pub record KeepsOrder (before after : List ℕ) : Type 0 where
+  pub stays : ℕ → Bool
+  pub joins : List ℕ
+  pub is : after ≡ filter stays before ++ joins
+  pub few : length joins ≤ 1
+  pub fresh : (n : ℕ) → has_number n joins ≡ true → has_number n before ≡ false
+
+module _ {V C R S : Type 0} where
+  -- the party prepares an object
+  abbrev pub is_preparing : Option (Party V C R S) → Bool
+  is_preparing party = is_some (prepared_by party)
+
+module _ {V C R S F A : Type 0} where
+  -- of the objects that are idle, under preparation or out
+  abbrev pub numbers : Pool V C R S F A → List ℕ
+  numbers p = map (λ slot. slot.number) (p.idle ++ preparing p ++ p.out)
+
+  -- the parties that wait, were granted a place, hold one and nothing else, create or prepare
+  abbrev pub listed : Pool V C R S F A → List ℕ
+  listed p = p.waiting ++ p.granted ++ places_from 0 is_going p.parties ++ places_from 0 is_creating p.parties ++ places_from 0 is_preparing p.parties
+
+  -- no more are idle than the limit
+  abbrev pub HasFewIdle : Pool V C R S F A → Type 0
+  HasFewIdle p = length p.idle ≤ p.limit
+
+  -- a closed pool has limit 0 and nothing idle
+  abbrev pub IsEmptyIfClosed : Pool V C R S F A → Type 0
+  IsEmptyIfClosed p = p.is_open ≡ false → (p.limit ≡ 0) × (p.idle ≡ [])
+
+  -- no object's number stands twice, and only numbers that were given stand there
+  pub record IsNumbered (p : Pool V C R S F A) : Type 0 where
+    pub once : IsOnce (numbers p)
+    pub given : (n : ℕ) → has_number n (numbers p) ≡ true → (p.first ≤ n) × (n < p.next)
+    pub rising : p.first ≤ p.next
+
+  -- no party is in two lists, nor twice in one
+  abbrev pub IsListedOnce : Pool V C R S F A → Type 0
+  IsListedOnce p = IsOnce (listed p)
+
+  -- what is true of every state of a run from a new pool
+  pub record IsWell (p : Pool V C R S F A) : Type 0 where
+    pub lawful : IsLawful p
+    pub few_idle : HasFewIdle p
+    pub closed : IsEmptyIfClosed p
+    pub numbered : IsNumbered p
+
+  -- a new object has the next number, which then rises by one
+  pub record CountsOn (p q : Pool V C R S F A) : Type 0 where
+    pub first : q.first ≡ p.first
+    pub next : p.next ≤ q.next
+    pub new : (n : ℕ) → has_number n (numbers q) ≡ true → has_number n (numbers p) ≡ false → (n ≡ p.next) × (q.next ≡ p.next + 1)
+
+  -- a number that was given, and stands in no list, stays so
+  abbrev pub NoneReturns : Pool V C R S F A → Pool V C R S F A → Type 0
+  NoneReturns p q = (n : ℕ) → n < p.next → has_number n (numbers p) ≡ false → has_number n (numbers q) ≡ false
+
+  -- the queue changes only by removals, and by one party at its end
+  abbrev pub KeepsQueue : Pool V C R S F A → Pool V C R S F A → Type 0
+  KeepsQueue p q = KeepsOrder (queue p) (queue q)
+
+  -- from one state to the next
+  pub record Succeeds (p q : Pool V C R S F A) : Type 0 where
+    pub counted : CountsOn p q
+    pub queued : KeepsQueue p q
+
+-- a new pool is well
+abbrev pub OpensWell : (V C R S F A : Type 0) → Type 0
+OpensWell V C R S F A = (limit : ℕ) (mode : QueueMode) (runtime : Option Runtime) (hooks : HookLists F A) (timeouts : Timeouts) (first most : ℕ)
+    → IsWell (opened {V = V} {C = C} {R = R} {S = S} limit mode runtime hooks timeouts first most)
+
+-- the move may give the pool another limit
+abbrev pub sets_limit : {V : Type 0} → Move V → Bool
+sets_limit (move.Start timeouts) = false
+sets_limit (move.Advance n now) = false
+sets_limit (move.Poll n now) = false
+sets_limit (move.Cancel n) = false
+sets_limit (move.Put n v) = false
+sets_limit (move.Back n) = false
+sets_limit (move.Take n) = false
+sets_limit (move.Resize n) = true
+sets_limit (move.Retain kept) = false
+sets_limit move.Close = true
+sets_limit move.Clone = false
+sets_limit move.DropHandle = false
+sets_limit move.Upgrade = false
+sets_limit move.Status = false
+
+module _ {V E C R S F A : Type 0} (may : May V E C R S F A) where
+  -- P holds of every state of every run that begins well
+  abbrev pub EachState : (Pool V C R S F A → Type 0) → Type 0
+  EachState P = (moves : List (Move V)) (p after : Pool V C R S F A) (passed : List (List (Pool V C R S F A))) (answers : List (Reply V E))
+      → IsWell p → PoolRuns may p moves passed answers after → Each P (all_states p passed)
+
+  -- P holds of each two neighbours in every such run
+  abbrev pub EachStep : (Pool V C R S F A → Pool V C R S F A → Type 0) → Type 0
+  EachStep P = (moves : List (Move V)) (p after : Pool V C R S F A) (passed : List (List (Pool V C R S F A))) (answers : List (Reply V E))
+      → IsWell p → PoolRuns may p moves passed answers after → Neighbours P (all_states p passed)
+
+  -- P holds of each state of every such run and each later one
+  abbrev pub EachLater : (Pool V C R S F A → Pool V C R S F A → Type 0) → Type 0
+  EachLater P = (moves : List (Move V)) (p after : Pool V C R S F A) (passed : List (List (Pool V C R S F A))) (answers : List (Reply V E))
+      → IsWell p → PoolRuns may p moves passed answers after → Later P (all_states p passed)
+
+  -- every such run ends well
+  abbrev pub EndsWell : Type 0
+  EndsWell = (moves : List (Move V)) (p after : Pool V C R S F A) (passed : List (List (Pool V C R S F A))) (answers : List (Reply V E))
+      → IsWell p → PoolRuns may p moves passed answers after → IsWell after
+
+  -- where such a run begins within its limit, and no move sets one, the size stays within it
+  abbrev pub StaysWithin : Type 0
+  StaysWithin = (moves : List (Move V)) (p after : Pool V C R S F A) (passed : List (List (Pool V C R S F A))) (answers : List (Reply V E))
+      → IsWell p → reach p ≤ p.limit → Each (λ m. sets_limit m ≡ false) moves → PoolRuns may p moves passed answers after → Each (λ q. size q ≤ q.limit) (all_states p passed)

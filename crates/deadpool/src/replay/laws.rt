@@ -1,0 +1,53 @@
+//! What is true of every state of every run from a pool that is well, and of each two neighbours in it, whatever the manager
+//! and the hooks answer. A function here does nothing: its contract is the law.
+ghost use Rattle.deadpool.specs.Outside.{may};
+ghost use Rattle.deadpool.specs.RunLaws.{OpensWell, EachState, EachStep, EachLater, EndsWell, StaysWithin, HasFewIdle, IsEmptyIfClosed, IsNumbered, CountsOn, NoneReturns, KeepsQueue, IsListedOnce};
+
+use crate::managed::{AsyncHook, Manager, SyncHook};
+
+/// A new pool is well.
+pub fn opened_is_well<M: Manager, F: SyncHook<M>, A: AsyncHook<M>>()
+    ensures { OpensWell M.Type M.Creating M.Recycling A.State F A }
+{}
+
+/// A run from a pool that is well ends with one.
+pub fn run_ends_well<M: Manager, F: SyncHook<M>, A: AsyncHook<M>>()
+    ensures { (manager : M) → EndsWell (may M.Manager F.SyncHook A.AsyncHook manager) }
+{}
+
+/// No more objects are idle than the limit.
+pub fn idle_within_limit<M: Manager, F: SyncHook<M>, A: AsyncHook<M>>()
+    ensures { (manager : M) → EachState (may M.Manager F.SyncHook A.AsyncHook manager) HasFewIdle }
+{}
+
+/// A closed pool has limit 0 and nothing idle.
+pub fn closed_is_empty<M: Manager, F: SyncHook<M>, A: AsyncHook<M>>()
+    ensures { (manager : M) → EachState (may M.Manager F.SyncHook A.AsyncHook manager) IsEmptyIfClosed }
+{}
+
+/// No number stands twice among the objects that are idle, under preparation or out, and only numbers from the first up to but
+/// not including the next stand there.
+pub fn numbers_stand_once<M: Manager, F: SyncHook<M>, A: AsyncHook<M>>()
+    ensures { (manager : M) → EachState (may M.Manager F.SyncHook A.AsyncHook manager) IsNumbered }
+{}
+
+/// A new object has the next number, which then rises by one. So the number of an object that has left never returns.
+pub fn new_object_has_next<M: Manager, F: SyncHook<M>, A: AsyncHook<M>>()
+    ensures next { (manager : M) → EachStep (may M.Manager F.SyncHook A.AsyncHook manager) CountsOn }
+    ensures gone { (manager : M) → EachLater (may M.Manager F.SyncHook A.AsyncHook manager) NoneReturns }
+{}
+
+/// Those that were granted a place, followed by those that wait, change only by removals and by one party at the end.
+pub fn queue_keeps_order<M: Manager, F: SyncHook<M>, A: AsyncHook<M>>()
+    ensures { (manager : M) → EachStep (may M.Manager F.SyncHook A.AsyncHook manager) KeepsQueue }
+{}
+
+/// A party is in at most one list.
+pub fn party_in_one_list<M: Manager, F: SyncHook<M>, A: AsyncHook<M>>()
+    ensures { (manager : M) → EachState (may M.Manager F.SyncHook A.AsyncHook manager) IsListedOnce }
+{}
+
+/// Where a run begins with its reach within the limit, and no move may set a limit, the size never passes the limit.
+pub fn size_within_limit<M: Manager, F: SyncHook<M>, A: AsyncHook<M>>()
+    ensures { (manager : M) → StaysWithin (may M.Manager F.SyncHook A.AsyncHook manager) }
+{}
