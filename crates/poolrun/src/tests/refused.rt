@@ -1,0 +1,166 @@
+//! What is not in the language, and what just is.
+use super::play;
+use crate::engine;
+use crate::fault::Fault;
+use std::test::Fail;
+
+// Each as the second line, after a pool.
+const BAD_LINES: [&[u8]; 43] = [
+    b"poll 0",
+    b"poll 0 -1",
+    b"poll 0 +1",
+    b"poll 0 0 0",
+    b"poll 0  0",
+    b"poll 0 0x1",
+    b"poll 18446744073709551616 0",
+    b"poll 0 340282366920938463463374607431768211456",
+    b"Status",
+    b"status ",
+    b"status\r",
+    b"status\t",
+    b" status",
+    b" ",
+    b"\r",
+    b" # comment",
+    b"stat",
+    b"statuses",
+    b"start ",
+    b"start  - -",
+    b"start 1 2",
+    b"start - - - -",
+    b"start -- - -",
+    b"start 18446744073709551616 - -",
+    b"advance",
+    b"advance 0",
+    b"cancel",
+    b"cancel -",
+    b"put 0",
+    b"put 0 18446744073709551616",
+    b"put 0 1 2",
+    b"back",
+    b"back 0 0",
+    b"answer",
+    b"answer recycle",
+    b"answer recycle ",
+    b"answer recycle ok  ok",
+    b"answer create add",
+    b"answer create ok add",
+    b"answer detach ok",
+    b"answer pre OK",
+    b"pool 1 fifo none 0",
+    b"\xff",
+];
+
+// Each as the first line.
+const BAD_FIRST_LINES: [&[u8]; 17] = [
+    b"start",
+    b"advance 0 0",
+    b"poll 0 0",
+    b"cancel 0",
+    b"put 0 0",
+    b"back 0",
+    b"status",
+    b"answer create ok",
+    b"pool",
+    b"pool 1 fifo none",
+    b"pool 1 fifo none 0 0",
+    b"pool 1 FIFO none 0",
+    b"pool 1 fifo timer 0",
+    b"pool -1 fifo none 0",
+    b"pool 18446744073709551616 fifo none 0",
+    b"pool 1 fifo none 18446744073709551616",
+    b"get",
+];
+
+#[test]
+fn a_line_that_is_no_move_ends_the_run(rt: HostRuntime) -> Result<(), Fail> {
+    for line in BAD_LINES {
+        let script = [b"pool 1 fifo none 0\n", line, b"\nstatus\n"].concat(rt.alloc())?;
+        let (written, ending) = play(&rt, &script)?;
+        assert_eq!(rt; written.as_str(), "ok\n", "at {line:?}");
+        assert_eq!(rt; ending, Err(Fault::NotAMove(2)), "at {line:?}");
+    }
+    for line in BAD_FIRST_LINES {
+        let (written, ending) = play(&rt, line)?;
+        assert_eq!(rt; written.as_str(), "", "at {line:?}");
+        assert_eq!(rt; ending, Err(Fault::NotAMove(1)), "at {line:?}");
+    }
+    Ok(())
+}
+
+// Scripts, what they write, and how they end.
+const ODD_SCRIPTS: [(&[u8], &str, Result<(), Fault>); 5] = [
+    (b"", "", Ok(())),
+    (b"\n\n# nothing\n", "", Ok(())),
+    // Skipped lines are counted, and may hold any bytes.
+    (
+        b"#\xff \r\n\npool 1 fifo none 0\n#\nstop\n",
+        "ok\n",
+        Err(Fault::NotAMove(5)),
+    ),
+    // The last line may have no line feed.
+    (b"pool 1 fifo none 0\nstart", "ok\nparty 0\n", Ok(())),
+    // A pool that is refused is none.
+    (
+        b"pool 18446744073709551615 fifo none 0\nstatus",
+        "error Error occurred while building the pool: Out of memory\n",
+        Err(Fault::NotAMove(2)),
+    ),
+];
+
+#[test]
+fn odd_scripts_have_their_ends(rt: HostRuntime) -> Result<(), Fail> {
+    for (script, replies, want) in ODD_SCRIPTS {
+        let (written, ending) = play(&rt, script)?;
+        assert_eq!(rt; written.as_bytes(), replies.as_bytes());
+        assert_eq!(rt; ending, want);
+    }
+    Ok(())
+}
+
+#[test]
+fn no_more_parties_than_there_is_room_for(rt: HostRuntime) -> Result<(), Fail> {
+    let mut script = Vec::new(rt.alloc());
+    script.extend_from_slice(b"pool 0 fifo none 0\n")?;
+    for _party in 0..1025 {
+        script.extend_from_slice(b"start\n")?;
+    }
+    let (written, ending) = play(&rt, &script)?;
+    assert!(rt;
+        written
+            .as_str()
+            .ends_with("party 1022\nparty 1023\nno room\n")
+    );
+    assert_eq!(rt; ending, Ok(()));
+    Ok(())
+}
+
+#[test]
+fn arguments_are_refused(rt: HostRuntime) -> Result<(), Fail> {
+    let arguments = vec![in rt.alloc(); String::from_str(rt.alloc(), "threads")?]?;
+    let mut written = Vec::new(rt.alloc());
+    let mut reader: &[u8] = b"pool 1 fifo none 0\n";
+    let ending = engine::run(&rt, &arguments, &mut reader, &mut written);
+    assert_eq!(rt; ending, Err(Fault::Usage));
+    assert!(rt; written.is_empty());
+    let ending = engine::run(&rt, &[], &mut reader, &mut written);
+    assert_eq!(rt; ending, Ok(()));
+    assert_eq!(rt; written.as_slice(), b"ok\n".as_slice());
+    Ok(())
+}
+
+#[test]
+fn faults_have_their_texts(rt: HostRuntime) -> Result<(), Fail> {
+    for (fault, text, status) in [
+        (Fault::Usage, "usage: poolrun [threads N M]", 2),
+        (Fault::NotAMove(12), "line 12: not a move", 2),
+        (Fault::OutOfMemory, "out of memory", 1),
+        (Fault::InputFailed, "input failed", 1),
+        (Fault::OutputFailed, "output failed", 1),
+    ] {
+        let shown = fault.to_string(rt.alloc())?;
+        assert_eq!(rt; shown.as_str(), text);
+        assert_eq!(rt; fault.status(), status);
+    }
+    Ok(())
+}

@@ -1,0 +1,78 @@
+//! The replies to the lines of a script.
+use crate::engine::ScriptTrial;
+use crate::manager::Refused;
+use deadpool::Status;
+use deadpool::managed::RetainResult;
+use deadpool::replay::Reply;
+use std::alloc::AllocError;
+
+/// Appends the reply to a move, and ends its line.
+pub fn write_reply(
+    text: &mut String,
+    reply: Reply<u64, Refused>,
+    trial: &ScriptTrial<'_>,
+) -> Result<(), AllocError> {
+    match reply {
+        Reply::Started(party) => write!(text, "party {party}")?,
+        Reply::NoRoom => text.push_str("no room")?,
+        Reply::NoSuch => text.push_str("no such")?,
+        Reply::NoHandle => text.push_str("no handle")?,
+        Reply::More => text.push_str("more")?,
+        Reply::Pending => text.push_str("pending")?,
+        Reply::Object(number) => write_object(text, number, trial)?,
+        Reply::Failed(cause) => write!(text, "error {cause}")?,
+        Reply::Cancelled => text.push_str("cancelled")?,
+        Reply::Done => text.push_str("ok")?,
+        Reply::Kept => text.push_str("kept")?,
+        Reply::Detached => text.push_str("detached")?,
+        Reply::Dropped => text.push_str("dropped")?,
+        Reply::Taken(value) => write!(text, "taken {value}")?,
+        Reply::OutOfMemory => text.push_str("out of memory")?,
+        Reply::Retained(retain) => write_retained(text, &retain)?,
+        Reply::Stands(status) => write_status(text, status)?,
+        Reply::Upgraded(true) => text.push_str("ok")?,
+        Reply::Upgraded(false) => text.push_str("none")?,
+    }
+    end_line(text)
+}
+
+fn write_object(
+    text: &mut String,
+    number: usize,
+    trial: &ScriptTrial<'_>,
+) -> Result<(), AllocError> {
+    match trial.value(number) {
+        Some(value) => write!(text, "object {number} value {value}"),
+        None => text.push_str("no such"),
+    }
+}
+
+fn write_retained(text: &mut String, retain: &RetainResult<u64>) -> Result<(), AllocError> {
+    let retained = retain.retained;
+    write!(text, "retained {retained} removed")?;
+    for value in retain.removed.iter() {
+        write!(text, " {value}")?;
+    }
+    Ok(())
+}
+
+fn write_status(text: &mut String, status: Status) -> Result<(), AllocError> {
+    let Status {
+        max_size,
+        size,
+        available,
+        waiting,
+    } = status;
+    write!(
+        text,
+        "max {max_size} size {size} available {available} waiting {waiting}"
+    )
+}
+
+/// Ends the line of a reply, where its text has not ended it.
+pub fn end_line(text: &mut String) -> Result<(), AllocError> {
+    if !text.as_str().ends_with('\n') {
+        text.push('\n')?;
+    }
+    Ok(())
+}
