@@ -81,7 +81,7 @@ module _ {V E C R S F A : Type 0} (may : May V E C R S F A) (runtime : Option Ru
         → Shifts core d (stands old) (stands s) out out' → IsCounted d (set gets n (stands s)) out'
     moves_on d s out' e f no_new shifts =
         IsCounted-set core d gets n (stands old) (stands s) out out' h k
-          (IsOwned-like core (set gets n (stands s)) (IsOwned-set core gets k.tickets n (stands old) (stands s) h none no_new) d e f) shifts
+        (IsOwned-like core (set gets n (stands s)) (IsOwned-set core gets k.tickets n (stands old) (stands s) h none no_new) d e f) shifts
 
     -- its party stands elsewhere
     put_as : (s : Stage V C R S) → NoTicket (stands s) → put n (party_of (stands s)) pool ≡ image runtime hooks timeouts first most core (set gets n (stands s)) out
@@ -108,12 +108,11 @@ module _ {V E C R S F A : Type 0} (may : May V E C R S F A) (runtime : Option Ru
     creation_fails : (cause : PoolError E) → Pairs (settled without_creation) stage.Finished (turn.Done (Err cause)) (fail n (party creator) cause pool)
     creation_fails cause =
         let counted : IsCounted without_creation (set gets n (stands stage.Finished)) out =
-          moves_on creator h (λ u. refl) without_creation stage.Finished out refl refl (λ u. refl)
-            record { going = refl; creations = let one = one_creation in omega arith; outside = refl; room = omega arith } in
-        (
+        moves_on creator h (λ u. refl) without_creation stage.Finished out refl refl (λ u. refl)
+        record { going = refl; creations = let one = one_creation in omega arith; outside = refl; room = omega arith } in (
           ap (λ (q : Pool V C R S F A). (reply.Failed cause, q))
-            (ends_free runtime hooks timeouts first most core gets out n (stands stage.Finished) without_creation (put_off_as creator h (λ u. refl) stage.Finished (λ u. refl)) counted),
-          IsCounted-settled without_creation (set gets n (stands stage.Finished)) out counted
+              (ends_free runtime hooks timeouts first most core gets out n (stands stage.Finished) without_creation (put_off_as creator h (λ u. refl) stage.Finished (λ u. refl)) counted),
+          IsCounted-settled without_creation (set gets n (stands stage.Finished)) out counted,
         )
 
     -- so does one that is told to the desk
@@ -125,14 +124,13 @@ module _ {V E C R S F A : Type 0} (may : May V E C R S F A) (runtime : Option Ru
     -- one that ends well is an object with the next number
     creation_ends : (value : V) (c : C) (deadline : Option Moment)
         → Pairs (record core { creations = core.creations - 1; next = core.next + 1; outside = core.outside + 1 })
-          (stage.Checking record { number = core.next; value = value; metrics = new_metrics now } start) turn.More
-          (created n (party creator) now deadline pool (poll.Ready (Ok value), c))
+        (stage.Checking record { number = core.next; value = value; metrics = new_metrics now } start) turn.More
+        (created n (party creator) now deadline pool (poll.Ready (Ok value), c))
     creation_ends value c deadline =
-        let new : Stage V C R S = stage.Checking record { number = core.next; value = value; metrics = new_metrics now } start in
-        (
+        let new : Stage V C R S = stage.Checking record { number = core.next; value = value; metrics = new_metrics now } start in (
           ap (λ (q : Pool V C R S F A). (reply.More, record q { next = core.next + 1 })) (put_as creator h (λ u. refl) new (λ u. refl)),
           moves_on creator h (λ u. refl) (record core { creations = core.creations - 1; next = core.next + 1; outside = core.outside + 1 }) new out refl refl (λ u. refl)
-            record { going = refl; creations = let one = one_creation in omega arith; outside = omega arith; room = omega arith }
+              record { going = refl; creations = let one = one_creation in omega arith; outside = omega arith; room = omega arith },
         )
 
     -- what a creation came to, at the desk and in the pool
@@ -145,9 +143,10 @@ module _ {V E C R S F A : Type 0} (may : May V E C R S F A) (runtime : Option Ru
     creation_answered deadline (poll.Ready (Err cause), c) (failing reply) s t e a = creation_failed (Backend cause) reply s t e a.0 a.1
     creation_answered deadline (poll.Pending, c) no_step s t e a =
         let new : Stage V C R S = stage.Creating (Some c) deadline in
-        rw (a.1, a.2, e)
-        (cond-false (is_reached deadline now) _ _ a.0 ∙ ap (λ (q : Pool V C R S F A). (reply.Pending, q)) (put_as creator h (λ u. refl) new (λ u. refl)),
-          moves_on creator h (λ u. refl) core new out refl refl (λ u. refl) record { going = refl; creations = refl; outside = refl; room = omega arith })
+        rw (a.1, a.2, e) (
+          cond-false (is_reached deadline now) _ _ a.0 ∙ ap (λ (q : Pool V C R S F A). (reply.Pending, q)) (put_as creator h (λ u. refl) new (λ u. refl)),
+          moves_on creator h (λ u. refl) core new out refl refl (λ u. refl) record { going = refl; creations = refl; outside = refl; room = omega arith },
+        )
     creation_answered deadline (poll.Pending, c) (failing reply) s t e a =
         let all = creation_failed (Timeout phase.Create) reply s t e a.1 a.2 in
         (cond-true (is_reached deadline now) _ _ a.0 ∙ all.0, all.1)
@@ -157,8 +156,8 @@ module _ {V E C R S F A : Type 0} (may : May V E C R S F A) (runtime : Option Ru
   creation_made : (begun : Option C) (until deadline : Option Moment) (made : Made V) (s : Stage V C R S) (t : Turn V E) → slice_get gets n ≡ Some (stands (stage.Creating begun until))
       → Makes core_desk core made core' → (x : Poll (Result V E) × C) → Gives may (create begun) x → AfterCreation now deadline x made s t
       → Gives may (create begun >>= λ y. Return (created n (party (stage.Creating begun until)) now deadline pool y))
-          (reply_to t, image runtime hooks timeouts first most core' (set gets n (stands s)) (given t out))
-        × IsCounted core' (set gets n (stands s)) (given t out)
+      (reply_to t, image runtime hooks timeouts first most core' (set gets n (stands s)) (given t out))
+      × IsCounted core' (set gets n (stands s)) (given t out)
   creation_made begun until deadline made s t h e x g a =
       let all = creation_answered begun until h deadline x made s t e a in
       (Gives-bind may (create begun) (λ y. Return (created n (party (stage.Creating begun until)) now deadline pool y)) x _ g all.0, all.1)
@@ -198,58 +197,58 @@ module _ {V E C R S F A : Type 0} (may : May V E C R S F A) (runtime : Option Ru
     -- the object is handed out
     object_given : (slot : Slot V) → Pairs core stage.Finished (turn.Done (Ok slot)) (hand_out n (party old) slot pool)
     object_given slot =
-        let longer = length-with_slot slot out in
-        (
+        let longer = length-with_slot slot out in (
           ap (λ (q : Pool V C R S F A). (reply.Object slot.number, record q { out = with_slot slot out })) (put_as old h none stage.Finished (λ u. refl)),
           moves_on old h none core stage.Finished (with_slot slot out) refl refl (λ u. refl)
-            record { going = omega (arith, goes_none); creations = omega (arith, creates_none); outside = omega (arith, prepares_one, longer); room = omega (arith, lasts_still, longer) }
+              record { going = omega (arith, goes_none); creations = omega (arith, creates_none); outside = omega (arith, prepares_one, longer); room = omega (arith, lasts_still, longer) },
         )
 
     -- the get rests with the object until its next poll
     object_rests : (new : Stage V C R S) → NoTicket (stands new) → goes (stands new) ≡ 0 → creates (stands new) ≡ 0 → prepares (stands new) ≡ 1 → lasts (stands new) ≡ 1
         → Pairs core new turn.Pending (rest n (party old) (standing_of new) pool)
-    object_rests new no_new g c p l =
-        (
-          ap (λ (q : Pool V C R S F A). (reply.Pending, q)) (put_as old h none new no_new),
-          moves_on old h none core new out refl refl no_new
-            record { going = omega (arith, goes_none, g); creations = omega (arith, creates_none, c); outside = omega (arith, prepares_one, p); room = omega (arith, lasts_still, l) }
-        )
+    object_rests new no_new g c p l = (
+      ap (λ (q : Pool V C R S F A). (reply.Pending, q)) (put_as old h none new no_new),
+      moves_on old h none core new out refl refl no_new
+          record { going = omega (arith, goes_none, g); creations = omega (arith, creates_none, c); outside = omega (arith, prepares_one, p); room = omega (arith, lasts_still, l) },
+    )
 
     -- an idle object is given up, and the get keeps its place
     object_discarded : (allowance : Option ℕ)
         → Pairs (record core { outside = core.outside - 1; going = core.going + 1 }) (stage.Going allowance) turn.More (go_on n (party old) (standing_of (stage.Going allowance)) pool)
-    object_discarded allowance =
-        (
-          ap (λ (q : Pool V C R S F A). (reply.More, q)) (put_as old h none (stage.Going allowance) (λ u. refl)),
-          moves_on old h none (record core { outside = core.outside - 1; going = core.going + 1 }) (stage.Going allowance) out refl refl (λ u. refl)
-            record {
-              going = omega (arith, goes_none); creations = omega (arith, creates_none);
-              outside = let one = one_object in omega (arith, prepares_one); room = omega (arith, lasts_still)
-            }
-        )
+    object_discarded allowance = (
+      ap (λ (q : Pool V C R S F A). (reply.More, q)) (put_as old h none (stage.Going allowance) (λ u. refl)),
+      moves_on old h none (record core { outside = core.outside - 1; going = core.going + 1 }) (stage.Going allowance) out refl refl (λ u. refl)
+          record {
+            going = omega (arith, goes_none);
+            creations = omega (arith, creates_none);
+            outside = let one = one_object in omega (arith, prepares_one);
+            room = omega (arith, lasts_still);
+          },
+    )
 
     -- a new object is given up with its place
     object_refused : (cause : PoolError E) → Pairs (settled (record core { outside = core.outside - 1 })) stage.Finished (turn.Done (Err cause)) (fail n (party old) cause pool)
     object_refused cause =
         let left : DeskState V = record core { outside = core.outside - 1 } in
         let counted : IsCounted left (set gets n (stands stage.Finished)) out =
-          moves_on old h none left stage.Finished out refl refl (λ u. refl)
-            record {
-              going = omega (arith, goes_none); creations = omega (arith, creates_none);
-              outside = let one = one_object in omega (arith, prepares_one); room = omega (arith, lasts_still)
-            } in
-        (
+        moves_on old h none left stage.Finished out refl refl (λ u. refl)
+        record {
+          going = omega (arith, goes_none);
+          creations = omega (arith, creates_none);
+          outside = let one = one_object in omega (arith, prepares_one);
+          room = omega (arith, lasts_still);
+        } in (
           ap (λ (q : Pool V C R S F A). (reply.Failed cause, q))
-            (ends_free runtime hooks timeouts first most core gets out n (stands stage.Finished) left (put_off_as old h none stage.Finished (λ u. refl)) counted),
-          IsCounted-settled left (set gets n (stands stage.Finished)) out counted
+              (ends_free runtime hooks timeouts first most core gets out n (stands stage.Finished) left (put_off_as old h none stage.Finished (λ u. refl)) counted),
+          IsCounted-settled left (set gets n (stands stage.Finished)) out counted,
         )
 
   -- what a preparation came to
   prepared_answered : (preparation : Preparation V R S) (allowance : Option ℕ) (x : Prepared V R S) (made : Made V) (s : Stage V C R S) (t : Turn V E)
       → slice_get gets n ≡ Some (stands (stage.Recycling preparation allowance)) → Makes core_desk core made core' → AfterPrepared may allowance x made s t
       → Gives may (reviewed n (party (stage.Recycling preparation allowance)) allowance pool x)
-          (reply_to t, image runtime hooks timeouts first most core' (set gets n (stands s)) (given t out))
-        × IsCounted core' (set gets n (stands s)) (given t out)
+      (reply_to t, image runtime hooks timeouts first most core' (set gets n (stands s)) (given t out))
+      × IsCounted core' (set gets n (stands s)) (given t out)
   prepared_answered preparation allowance (prepared.Accepted slot) no_step s t h e a =
       rw (a.0, a.1, e) (object_given (stage.Recycling preparation allowance) h (λ u. refl) refl refl refl refl slot)
   prepared_answered preparation allowance (prepared.Pending left) no_step s t h e a =
@@ -275,8 +274,8 @@ module _ {V E C R S F A : Type 0} (may : May V E C R S F A) (runtime : Option Ru
   checked_answered : (slot : Slot V) (at : Position S) (x : Verdict S E × V) (made : Made V) (s : Stage V C R S) (t : Turn V E)
       → slice_get gets n ≡ Some (stands (stage.Checking slot at)) → Makes core_desk core made core' → AfterChecked may slot x made s t
       → Gives may (checked n (party (stage.Checking slot at)) slot pool x)
-          (reply_to t, image runtime hooks timeouts first most core' (set gets n (stands s)) (given t out))
-        × IsCounted core' (set gets n (stands s)) (given t out)
+      (reply_to t, image runtime hooks timeouts first most core' (set gets n (stands s)) (given t out))
+      × IsCounted core' (set gets n (stands s)) (given t out)
   checked_answered slot at (verdict.Accepted, v) no_step s t h e a =
       rw (a.0, a.1, e) (object_given (stage.Checking slot at) h (λ u. refl) refl refl refl refl (with_value v slot))
   checked_answered slot at (verdict.Pending left, v) no_step s t h e a =

@@ -62,7 +62,7 @@ module _ {V E C R S F A : Type 0} (may : May V E C R S F A) (runtime : Option Ru
   removes_empty : (old : Stage V C R S) → slice_get gets n ≡ Some (stands old) → NoTicket (stands old) → Shifts core core (stands old) None out out → Removes core
   removes_empty old h none shifts =
       let counted : IsCounted core gone out =
-        IsCounted-set core core gets n (stands old) None out out h k (IsOwned-set core gets k.tickets n (stands old) None h none (λ u. refl)) shifts in
+      IsCounted-set core core gets n (stands old) None out out h k (IsOwned-set core gets k.tickets n (stands old) None h none (λ u. refl)) shifts in
       (ends_empty runtime hooks timeouts first most core gets out n None k nobody (stands old) h none (λ u. refl) counted, counted)
 
   -- a get that held a place, and is counted no more
@@ -72,12 +72,11 @@ module _ {V E C R S F A : Type 0} (may : May V E C R S F A) (runtime : Option Ru
   removes_counted old going creations outside h none shifts =
       let left : DeskState V = record core { going = going; creations = creations; outside = outside } in
       let counted : IsCounted left gone out =
-        IsCounted-set core left gets n (stands old) None out out h k
-          (IsOwned-like core gone (IsOwned-set core gets k.tickets n (stands old) None h none (λ u. refl)) left refl refl) shifts in
-      (
+      IsCounted-set core left gets n (stands old) None out out h k
+      (IsOwned-like core gone (IsOwned-set core gets k.tickets n (stands old) None h none (λ u. refl)) left refl refl) shifts in (
         ends_free runtime hooks timeouts first most core gets out n None left
-          (put_off-image runtime hooks timeouts first most core gets out k.tickets n (stands old) None h none (λ u. refl)) counted,
-        IsCounted-settled left gone out counted
+            (put_off-image runtime hooks timeouts first most core gets out k.tickets n (stands old) None h none (λ u. refl)) counted,
+        IsCounted-settled left gone out counted,
       )
 
   module _ (ticket : ℕ) (deadline : Option Moment) (h : slice_get gets n ≡ Some (stands (stage.Queued ticket deadline))) where
@@ -91,13 +90,12 @@ module _ {V E C R S F A : Type 0} (may : May V E C R S F A) (runtime : Option Ru
         let left : DeskState V = unqueued ticket core in
         let old : Option (Getting V C R S) = stands (stage.Queued ticket deadline) in
         let counted : IsCounted left gone out =
-          IsCounted-set core left gets n old None out out h k
-            (IsOwned-unqueued core gets k.tickets n old None h ticket is_ours.0 is_ours.1 (λ u. refl) (λ u. refl))
-            record { going = refl; creations = refl; outside = refl; room = omega arith } in
-        (
+        IsCounted-set core left gets n old None out out h k
+        (IsOwned-unqueued core gets k.tickets n old None h ticket is_ours.0 is_ours.1 (λ u. refl) (λ u. refl))
+        record { going = refl; creations = refl; outside = refl; room = omega arith } in (
           ends_free runtime hooks timeouts first most core gets out n None left
-            (put_off-unqueued runtime hooks timeouts first most core gets out k.tickets n old None h ticket is_ours.1 (λ u. refl) (λ u. refl)) counted,
-          IsCounted-settled left gone out counted
+              (put_off-unqueued runtime hooks timeouts first most core gets out k.tickets n old None h ticket is_ours.1 (λ u. refl) (λ u. refl)) counted,
+          IsCounted-settled left gone out counted,
         )
 
     -- so it is at the desk
@@ -109,7 +107,7 @@ module _ {V E C R S F A : Type 0} (may : May V E C R S F A) (runtime : Option Ru
   cancels_going : (allowance : Option ℕ) (reply : StepReply) → slice_get gets n ≡ Some (stands (stage.Going allowance)) → DeskCancels core held.Place reply core' → Goal (stage.Going allowance) core'
   cancels_going allowance step.Done h e =
       let all = removes_counted (stage.Going allowance) (core.going - 1) core.creations core.outside h (λ u. refl)
-        record { going = let some = e.0 in omega arith; creations = refl; outside = refl; room = omega arith } in
+      record { going = let some = e.0 in omega arith; creations = refl; outside = refl; room = omega arith } in
       rw e.1 (ap (λ (q : Pool V C R S F A). (reply.Cancelled, q)) all.0, all.1)
   cancels_going allowance step.Unknown h e =
       absurd (let one : 1 ≤ core.going = holds_place core gets out k n (stands (stage.Going allowance)) h in omega (arith, one, e.0))
@@ -119,7 +117,7 @@ module _ {V E C R S F A : Type 0} (may : May V E C R S F A) (runtime : Option Ru
       → Goal (stage.Creating begun until) core'
   cancels_creating begun until step.Done h e =
       let all = removes_counted (stage.Creating begun until) core.going (core.creations - 1) core.outside h (λ u. refl)
-        record { going = refl; creations = let some = e.0 in omega arith; outside = refl; room = omega arith } in
+      record { going = refl; creations = let some = e.0 in omega arith; outside = refl; room = omega arith } in
       rw e.1 (ap (λ (q : Pool V C R S F A). (reply.Cancelled, q)) all.0, all.1)
   cancels_creating begun until step.Unknown h e =
       absurd (let one : 1 ≤ core.creations = holds_creation core gets out k n (stands (stage.Creating begun until)) h in omega (arith, one, e.0))
@@ -130,7 +128,7 @@ module _ {V E C R S F A : Type 0} (may : May V E C R S F A) (runtime : Option Ru
       → goes (stands old) ≡ 0 → creates (stands old) ≡ 0 → prepares (stands old) ≡ 1 → Refuses core reply core' → GivesUp may slot.value reply → Goal old core'
   cancels_object old slot step.Done h none holds g c p e gives =
       let all = removes_counted old core.going core.creations (core.outside - 1) h none
-        record { going = omega (arith, g); creations = omega (arith, c); outside = let some = e.0 in omega (arith, p); room = omega arith } in
+      record { going = omega (arith, g); creations = omega (arith, c); outside = let some = e.0 in omega (arith, p); room = omega arith } in
       rw (e.1, holds) ((gives.0, (gives.1, ap (λ (q : Pool V C R S F A). (reply.Cancelled, q)) all.0)), all.1)
   cancels_object old slot step.Unknown h none holds g c p e gives =
       absurd (let one = holds_object core gets out k n (stands old) h in omega (arith, one, p, e.0))
@@ -167,8 +165,8 @@ module _ {V E C R S F A : Type 0} (may : May V E C R S F A) (runtime : Option Ru
   pub cancels : (g : Getting V C R S) (made : Made V) → IsCounted core gets out → IsLawful (image runtime hooks timeouts first most core gets out)
       → slice_get gets n ≡ Some (Some g) → Makes core_desk core made core' → CancelsFrom may g.stage made
       → Gives may (moved (move.Cancel n) (image runtime hooks timeouts first most core gets out))
-          (reply.Cancelled, image runtime hooks timeouts first most core' (slice_set gets n None) out)
-        × IsCounted core' (slice_set gets n None) out
+      (reply.Cancelled, image runtime hooks timeouts first most core' (slice_set gets n None) out)
+      × IsCounted core' (slice_set gets n None) out
   cancels g made k lawful h e a =
       let pool : Pool V C R S F A = image runtime hooks timeouts first most core gets out in
       let here : slice_get pool.parties n ≡ Some (party_of (Some g)) = slice_get-map party_of gets n ∙ ap (option_map party_of) h in

@@ -68,9 +68,9 @@ module _ {V C R S F A : Type 0} (runtime : Option Runtime) (hooks : HookLists F 
     pub ends_empty : NoTicket old → NoTicket new → IsCounted core (set gets n new) out → settle (put_off n (party_of new) pool) ≡ after core
     ends_empty none no_new k' =
         let same : pool_places (after core) ≡ pool_places pool =
-          places-image runtime hooks timeouts first most core (set gets n new) out k' ∙ sym (places-image runtime hooks timeouts first most core gets out k) in
+        places-image runtime hooks timeouts first most core (set gets n new) out k' ∙ sym (places-image runtime hooks timeouts first most core gets out k) in
         ends_quietly core (put_off-image runtime hooks timeouts first most core gets out k.tickets n old new h none no_new)
-          (λ is_open free. owners-set core gets k.tickets n old new h core.waiting none no_new ∙ nobody is_open (subst (λ m. m < core.limit) same free))
+        (λ is_open free. owners-set core gets k.tickets n old new h core.waiting none no_new ∙ nobody is_open (subst (λ m. m < core.limit) same free))
 
     -- a get that waits leaves the queue: since it waited, no place was free
     pub nobody_waits-unqueued : (t : ℕ) → has_number t core.granted ≡ false → has_number t core.waiting ≡ true → IsCounted (unqueued t core) (set gets n new) out
@@ -79,8 +79,8 @@ module _ {V C R S F A : Type 0} (runtime : Option Runtime) (hooks : HookLists F 
         let granted : without_number t core.granted ≡ core.granted = without-absent t core.granted absent in
         let as_many : places (unqueued t core) ≡ places core = ap (λ ns. places (record core { granted = ns })) granted in
         let same : pool_places (after (unqueued t core)) ≡ pool_places pool =
-          places-image runtime hooks timeouts first most (unqueued t core) (set gets n new) out k' ∙ as_many
-          ∙ sym (places-image runtime hooks timeouts first most core gets out k) in
+        places-image runtime hooks timeouts first most (unqueued t core) (set gets n new) out k' ∙ as_many
+        ∙ sym (places-image runtime hooks timeouts first most core gets out k) in
         let none : map (owner gets) core.waiting ≡ [] = nobody is_open (subst (λ m. m < core.limit) same free) in
         absurd (waits_not core.waiting none waits)
       where

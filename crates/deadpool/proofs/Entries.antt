@@ -132,14 +132,14 @@ module _ {V E C R S F A : Type 0} (may : May V E C R S F A) (runtime : Option Ru
     entry_counted : Counted core stage.Finished
     entry_counted =
         IsCounted-set core core gets n (stands stage.Unpolled) (stands stage.Finished) out out h k
-          (IsOwned-set core gets k.tickets n (stands stage.Unpolled) (stands stage.Finished) h (λ u. refl) (λ u. refl))
-          record { going = refl; creations = refl; outside = refl; room = omega arith }
+        (IsOwned-set core gets k.tickets n (stands stage.Unpolled) (stands stage.Finished) h (λ u. refl) (λ u. refl))
+        record { going = refl; creations = refl; outside = refl; room = omega arith }
 
     -- an entry that is refused
     entry_refused : (cause : PoolError E) → ◌≡◌ {A = Reply V E × Pool V C R S F A} (fail n (party stage.Unpolled) cause pool) (reply.Failed cause, after core stage.Finished)
     entry_refused cause =
         ap (λ (q : Pool V C R S F A). (reply.Failed cause, q))
-          (ends_empty runtime hooks timeouts first most core gets out n (stands stage.Finished) k nobody (stands stage.Unpolled) h (λ u. refl) (λ u. refl) entry_counted)
+        (ends_empty runtime hooks timeouts first most core gets out n (stands stage.Finished) k nobody (stands stage.Unpolled) h (λ u. refl) (λ u. refl) entry_counted)
 
     -- a get that was not polled is in no count
     entry_left : HasLeft runtime hooks timeouts first most n core core gets out own stage.Unpolled unpolled (map (owner gets) core.granted) (map (owner gets) core.waiting) h k
@@ -148,7 +148,12 @@ module _ {V E C R S F A : Type 0} (may : May V E C R S F A) (runtime : Option Ru
           owned = λ s none. IsOwned-set core gets k.tickets n (stands stage.Unpolled) (stands s) h (λ u. refl) none;
           named = λ s none. put-image runtime hooks timeouts first most core gets out k.tickets n (stands stage.Unpolled) (stands s) h (λ u. refl) none;
           unqueued = unqueued-none runtime hooks timeouts first most core gets out k.tickets n (stands stage.Unpolled) None h (λ u. refl);
-          going = omega arith; creations = refl; outside = refl; creates_none = refl; prepares_none = refl; lasts_still = refl
+          going = omega arith;
+          creations = refl;
+          outside = refl;
+          creates_none = refl;
+          prepares_none = refl;
+          lasts_still = refl;
         }
 
     module _ (runs : (is_positive own.wait && is_none runtime) ≡ false) where
@@ -166,31 +171,34 @@ module _ {V E C R S F A : Type 0} (may : May V E C R S F A) (runtime : Option Ru
         entry_waits : (t : ℕ) → core.is_open ≡ true → core.limit ≤ places core → is_reached (deadline_after now own.wait) now ≡ false → is_listed t core ≡ false
             → Goal stage.Unpolled (queueing t core) (stage.Queued t (deadline_after now own.wait)) turn.Pending
         entry_waits t is_open full waits fresh =
-            let new : Stage V C R S = stage.Queued t (deadline_after now own.wait) in
-            (
-              Gives-same may _ _ _ (enter-waits n (party stage.Unpolled) now pool runs is_open (full_as full) waits)
-                (true, (memory true, ap (λ (q : Pool V C R S F A). (reply.Pending, q))
-                  (put-queueing runtime hooks timeouts first most core gets out k.tickets n (stands stage.Unpolled) (stands new) h t fresh (λ u. refl) (λ u. refl)))),
+            let new : Stage V C R S = stage.Queued t (deadline_after now own.wait) in (
+              Gives-same may _ _ _ (enter-waits n (party stage.Unpolled) now pool runs is_open (full_as full) waits) (
+                true,
+                (
+                  memory true,
+                  ap (λ (q : Pool V C R S F A). (reply.Pending, q))
+                      (put-queueing runtime hooks timeouts first most core gets out k.tickets n (stands stage.Unpolled) (stands new) h t fresh (λ u. refl) (λ u. refl)),
+                ),
+              ),
               IsCounted-set core (queueing t core) gets n (stands stage.Unpolled) (stands new) out out h k
-                (IsOwned-queueing core gets k.tickets n (stands stage.Unpolled) (stands new) h t fresh (λ u. refl) (λ u. refl))
-                record { going = refl; creations = refl; outside = refl; room = omega arith }
+                  (IsOwned-queueing core gets k.tickets n (stands stage.Unpolled) (stands new) h t fresh (λ u. refl) (λ u. refl))
+                  record { going = refl; creations = refl; outside = refl; room = omega arith },
             )
 
         -- an entry that finds no memory
         entry_finds_none : core.is_open ≡ true → core.limit ≤ places core → is_reached (deadline_after now own.wait) now ≡ false
             → Goal stage.Unpolled core stage.Finished (turn.Done (Err OutOfMemory))
-        entry_finds_none is_open full waits =
-            (
-              Gives-same may _ _ _ (enter-waits n (party stage.Unpolled) now pool runs is_open (full_as full) waits) (false, (memory false, entry_refused OutOfMemory)),
-              entry_counted
-            )
+        entry_finds_none is_open full waits = (
+          Gives-same may _ _ _ (enter-waits n (party stage.Unpolled) now pool runs is_open (full_as full) waits) (false, (memory false, entry_refused OutOfMemory)),
+          entry_counted,
+        )
 
         -- a first poll
         pub from_entered : (wait : Bool) (reply : EnterReply V) (s : Stage V C R S) (t : Turn V E) → wait ≡ not (is_reached (deadline_after now own.wait) now)
             → Enters core wait reply core' → AfterEntered (deadline_after now own.wait) reply s t → Goal stage.Unpolled core' s t
         from_entered wait (entered.Served served) s t w e a =
             let all = serves runtime hooks timeouts first most n core core gets out own stage.Unpolled unpolled (map (owner gets) core.granted) (map (owner gets) core.waiting) h k entry_left
-              core' None served s t e.2 a in
+            core' None served s t e.2 a in
             (Gives-same may _ _ _ (enter-served n (party stage.Unpolled) now pool runs e.0 (free_as e.1)) all.0, all.1)
         from_entered wait entered.Closed s t w e a =
             rw (a.0, a.1, e.1) (Gives-same may _ _ _ (enter-closed n (party stage.Unpolled) now pool runs e.0) (entry_refused Closed), entry_counted)
@@ -219,17 +227,22 @@ module _ {V E C R S F A : Type 0} (may : May V E C R S F A) (runtime : Option Ru
     going_left some =
         record {
           owned = λ s none.
-            IsOwned-like core (set gets n (stands s)) (IsOwned-set core gets k.tickets n (stands (stage.Going allowance)) (stands s) h (λ u. refl) none) without_place refl refl;
+              IsOwned-like core (set gets n (stands s)) (IsOwned-set core gets k.tickets n (stands (stage.Going allowance)) (stands s) h (λ u. refl) none) without_place refl refl;
           named = λ s none. put-image runtime hooks timeouts first most core gets out k.tickets n (stands (stage.Going allowance)) (stands s) h (λ u. refl) none;
           unqueued = unqueued-none runtime hooks timeouts first most core gets out k.tickets n (stands (stage.Going allowance)) None h (λ u. refl);
-          going = omega arith; creations = refl; outside = refl; creates_none = refl; prepares_none = refl; lasts_still = refl
+          going = omega arith;
+          creations = refl;
+          outside = refl;
+          creates_none = refl;
+          prepares_none = refl;
+          lasts_still = refl;
         }
 
     -- a get that holds a place and nothing else
     pub from_going : (reply : AgainReply V) (s : Stage V C R S) (t : Turn V E) → GoesOn core allowance reply core' → AfterGoingOn reply s t → Goal (stage.Going allowance) core' s t
     from_going (again.Served served) s t e a =
         serves runtime hooks timeouts first most n core without_place gets out own (stage.Going allowance) (going allowance) (map (owner gets) core.granted) (map (owner gets) core.waiting) h k
-          (going_left e.0) core' allowance served s t e.1 a
+        (going_left e.0) core' allowance served s t e.1 a
     from_going again.Unknown s t e a =
         absurd (let one : 1 ≤ core.going = holds_place core gets out k n (stands (stage.Going allowance)) h in omega (arith, one, e.0))
 
@@ -254,7 +267,7 @@ module _ {V E C R S F A : Type 0} (may : May V E C R S F A) (runtime : Option Ru
     tells_granted : has_number n (map (owner gets) core.granted) ≡ has_number ticket core.granted
     tells_granted =
         has_number-map (owner gets) n ticket core.granted
-          (tells core gets k.tickets n waiter None h ticket is_ours.1 one_ticket core.granted (λ u j. or_left (has_number u core.granted) (has_number u core.waiting) j))
+        (tells core gets k.tickets n waiter None h ticket is_ours.1 one_ticket core.granted (λ u j. or_left (has_number u core.granted) (has_number u core.waiting) j))
 
     -- the pool where it has left the queue
     left_named : (new : Option (Getting V C R S)) → NoTicket new
@@ -269,14 +282,14 @@ module _ {V E C R S F A : Type 0} (may : May V E C R S F A) (runtime : Option Ru
     left_counted : Counted without_ticket stage.Finished
     left_counted =
         IsCounted-set core without_ticket gets n waiter (stands stage.Finished) out out h k (left_owned (stands stage.Finished) (λ u. refl))
-          record { going = refl; creations = refl; outside = refl; room = omega arith }
+        record { going = refl; creations = refl; outside = refl; room = omega arith }
 
     -- it ends without a place
     left_refused : (cause : PoolError E) → NobodyWaits (after without_ticket stage.Finished)
         → ◌≡◌ {A = Reply V E × Pool V C R S F A} (fail n (party (stage.Queued ticket deadline)) cause pool) (reply.Failed cause, after without_ticket stage.Finished)
     left_refused cause quiet =
         ap (λ (q : Pool V C R S F A). (reply.Failed cause, q))
-          (ends_quietly runtime hooks timeouts first most core gets out n (stands stage.Finished) without_ticket (left_named (stands stage.Finished) (λ u. refl)) quiet)
+        (ends_quietly runtime hooks timeouts first most core gets out n (stands stage.Finished) without_ticket (left_named (stands stage.Finished) (λ u. refl)) quiet)
 
     -- a get that has left the queue is in no count
     queued_left : HasLeft runtime hooks timeouts first most n core without_ticket gets out own (stage.Queued ticket deadline) (queued deadline)
@@ -286,7 +299,12 @@ module _ {V E C R S F A : Type 0} (may : May V E C R S F A) (runtime : Option Ru
           owned = λ s none. left_owned (stands s) none;
           named = λ s none. left_named (stands s) none;
           unqueued = twice;
-          going = omega arith; creations = refl; outside = refl; creates_none = refl; prepares_none = refl; lasts_still = refl
+          going = omega arith;
+          creations = refl;
+          outside = refl;
+          creates_none = refl;
+          prepares_none = refl;
+          lasts_still = refl;
         }
       where
         -- it leaves the queue once
@@ -300,24 +318,27 @@ module _ {V E C R S F A : Type 0} (may : May V E C R S F A) (runtime : Option Ru
         → Asks core ticket expired reply core' → AfterAsked ticket deadline reply s t → Goal (stage.Queued ticket deadline) core' s t
     from_queued expired (asked.Served served) s t x e a =
         let all = serves runtime hooks timeouts first most n core without_ticket gets out own (stage.Queued ticket deadline) (queued deadline)
-          (pool_unqueued n pool).granted (pool_unqueued n pool).waiting h k queued_left core' None served s t e.2 a in
+        (pool_unqueued n pool).granted (pool_unqueued n pool).waiting h k queued_left core' None served s t e.2 a in
         (inquire-served n (party (stage.Queued ticket deadline)) now deadline pool e.0 (tells_granted ∙ e.1) ∙ all.0, all.1)
     from_queued expired asked.Closed s t x e a =
-        rw (a.0, a.1, e.2)
-        (inquire-closed n (party (stage.Queued ticket deadline)) now deadline pool e.0
-            ∙ left_refused Closed (nobody_waits-closed runtime hooks timeouts first most core gets out n (stands stage.Finished) without_ticket e.0),
-          left_counted)
+        rw (a.0, a.1, e.2) (
+          inquire-closed n (party (stage.Queued ticket deadline)) now deadline pool e.0
+              ∙ left_refused Closed (nobody_waits-closed runtime hooks timeouts first most core gets out n (stands stage.Finished) without_ticket e.0),
+          left_counted,
+        )
     from_queued expired asked.Expired s t x e a =
-        rw (a.0, a.1, e.4)
-        (inquire-expired n (party (stage.Queued ticket deadline)) now deadline pool e.0 (tells_granted ∙ e.1) (sym x ∙ e.3)
-            ∙ left_refused (Timeout phase.Wait)
+        rw (a.0, a.1, e.4) (
+          inquire-expired n (party (stage.Queued ticket deadline)) now deadline pool e.0 (tells_granted ∙ e.1) (sym x ∙ e.3)
+              ∙ left_refused (Timeout phase.Wait)
               (nobody_waits-unqueued runtime hooks timeouts first most core gets out n (stands stage.Finished) k nobody waiter h ticket e.1 e.2 left_counted),
-          left_counted)
+          left_counted,
+        )
     from_queued expired asked.Waiting s t x e a =
-        rw (a.0, a.1, e.4, set-same gets n waiter h)
-        (inquire-waits n (party (stage.Queued ticket deadline)) now deadline pool e.0 (tells_granted ∙ e.1) (sym x ∙ e.3)
-            ∙ ap (λ ps. (reply.Pending, record pool { parties = ps }))
+        rw (a.0, a.1, e.4, set-same gets n waiter h) (
+          inquire-waits n (party (stage.Queued ticket deadline)) now deadline pool e.0 (tells_granted ∙ e.1) (sym x ∙ e.3)
+              ∙ ap (λ ps. (reply.Pending, record pool { parties = ps }))
               (set-same (map party_of gets) n (party_of waiter) (slice_get-map party_of gets n ∙ ap (option_map party_of) h)),
-          k)
+          k,
+        )
     from_queued expired asked.Unknown s t x e a =
         absurd (let differ : true ≡ false = sym is_ours.0 ∙ e.0 in cc)

@@ -54,12 +54,12 @@ module _ {V C R S F A : Type 0} (E : Type 0) (n : ℕ) (party : Party V C R S) (
   serve_falls (Some slot) allowed p e h =
       let less = other_idle-shorter p.mode p.idle slot e in
       elim (cases_Bool (nat_lt 0 allowed)) [
-          inl some ↦ rw some (λ more. stands p.parties n party record { timeouts = party.timeouts; standing = recycling _ _ } (other_idle p.mode p.idle) _ h (omega (arith, less)))
+        | inl some ↦ rw some (λ more. stands p.parties n party record { timeouts = party.timeouts; standing = recycling _ _ } (other_idle p.mode p.idle) _ h (omega (arith, less)))
         | inr none ↦ rw none (λ clash. cc)
       ]
   serve_falls None allowed p e h =
       elim (cases_Bool (nat_lt (p.next + creating_count p) largest_usize)) [
-          inl few ↦ rw few (λ more. stands p.parties n party record { timeouts = party.timeouts; standing = creating None None } p.idle _ h (omega arith))
+        | inl few ↦ rw few (λ more. stands p.parties n party record { timeouts = party.timeouts; standing = creating None None } p.idle _ h (omega arith))
         | inr full ↦ rw full (λ clash. cc)
       ]
 
@@ -75,9 +75,9 @@ module _ {V C R S F A : Type 0} (E : Type 0) (n : ℕ) (party : Party V C R S) (
       let deadline = deadline_after now party.timeouts.wait in
       let P : Asking V E C R S F A (Reply V E × Pool V C R S F A) → Type 0 = Always (Falls n (3 + (length p.idle + length p.idle))) in
       cond_both (is_positive party.timeouts.wait && is_none p.runtime) _ _ P (λ lacks clash. cc) (λ serves.
-        cond_both (not p.is_open) _ _ P (λ closed clash. cc) (λ opens.
-          cond_both (nat_lt (places p) p.limit) _ _ P (λ few. serve_falls (next_idle p.mode p.idle) (length p.idle) p refl h) (λ full.
-            cond_both (is_reached deadline now) _ _ P (λ late clash. cc) (λ early found. joined_falls deadline p _ found))))
+      cond_both (not p.is_open) _ _ P (λ closed clash. cc) (λ opens.
+      cond_both (nat_lt (places p) p.limit) _ _ P (λ few. serve_falls (next_idle p.mode p.idle) (length p.idle) p refl h) (λ full.
+      cond_both (is_reached deadline now) _ _ P (λ late clash. cc) (λ early found. joined_falls deadline p _ found))))
 
   -- a later poll of one that is queued
   inquire_falls : (deadline : Option Moment) (p : Pool V C R S F A) → slice_get p.parties n ≡ Some (Some party)
@@ -85,8 +85,8 @@ module _ {V C R S F A : Type 0} (E : Type 0) (n : ℕ) (party : Party V C R S) (
   inquire_falls deadline p h =
       let P : Reply V E × Pool V C R S F A → Type 0 = Falls n (3 + (length p.idle + length p.idle)) in
       cond_both (not p.is_open) _ _ P (λ closed clash. cc) (λ opens.
-        cond_both (has_number n p.granted) _ _ P (λ granted. serve_falls (next_idle p.mode p.idle) (length p.idle) (unqueued n p) refl h) (λ waits.
-          cond_both (is_reached deadline now) _ _ P (λ late clash. cc) (λ early clash. cc)))
+      cond_both (has_number n p.granted) _ _ P (λ granted. serve_falls (next_idle p.mode p.idle) (length p.idle) (unqueued n p) refl h) (λ waits.
+      cond_both (is_reached deadline now) _ _ P (λ late clash. cc) (λ early clash. cc)))
 
   -- a party whose object is given up has only its place
   reviewed_falls : (allowance : Option ℕ) (p : Pool V C R S F A) (x : Prepared V R S) → slice_get p.parties n ≡ Some (Some party)
@@ -119,7 +119,7 @@ module _ {V C R S F A : Type 0} (E : Type 0) (n : ℕ) (party : Party V C R S) (
   creating_falls None deadline p h =
       let after = deadline_after now party.timeouts.create in
       elim (cases_Bool (lacks_runtime p.runtime party.timeouts.create)) [
-          inl lacks ↦ rw lacks (λ clash. cc)
+        | inl lacks ↦ rw lacks (λ clash. cc)
         | inr serves ↦ rw serves
             (Always-bind (Falls {E = E} n (2 + (length p.idle + length p.idle))) (create {R = R} {S = S} {F = F} {A = A} None) (λ x. Return (created n party now after p x)) (λ x. created_falls after p x h))
       ]

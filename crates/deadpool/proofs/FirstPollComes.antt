@@ -26,7 +26,7 @@ use Rattle.deadpool.specs.declared.managed.prepare.Prepared.TheVariants as prepa
 use Rattle.deadpool.specs.declared.managed.get.Stage.{Stage}
 use Rattle.deadpool.specs.declared.managed.get.Stage.TheVariants.{Unpolled, Going, Recycling, Creating, Checking, Finished}
 use Rattle.deadpool.specs.declared.managed.get.Turn.{Turn}
-use Rattle.deadpool.specs.declared.managed.get.Turn.TheVariants.{More, Done}
+use Rattle.deadpool.specs.declared.managed.get.Turn.TheVariants.{More}
 use Rattle.deadpool.specs.declared.managed.desk.Serving.{Serving}
 use Rattle.deadpool.specs.declared.managed.desk.Serving.TheVariants as serving
 use Rattle.deadpool.specs.declared.managed.desk.EnterReply.TheVariants as enter

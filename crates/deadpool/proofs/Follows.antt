@@ -36,7 +36,7 @@ module _ {V C R S F A : Type 0} where
   pub Follows-self : (p : Pool V C R S F A) → IsLawful p → Follows (reach p) p
   Follows-self p l = record {
     orderly = record { once = l.once; marks = l.marks; few_places = omega arith; few_objects = omega arith };
-    nobody_waits = l.nobody_waits
+    nobody_waits = l.nobody_waits;
   }
 
   -- what follows is lawful
@@ -68,9 +68,9 @@ module _ {V C R S F A : Type 0} where
           once = rw same k.once;
           marks = λ m h. k.marks m (rw same at h);
           few_places = omega (arith, few, longer, taken, places_few);
-          few_objects = k.few_objects
+          few_objects = k.few_objects;
         };
-        nobody_waits = λ opens free. let is = all opens in drop_all n p.waiting (omega (arith, is, free, longer, taken))
+        nobody_waits = λ opens free. let is = all opens in drop_all n p.waiting (omega (arith, is, free, longer, taken));
       }
 
   -- the free places are given to those that wait
@@ -94,7 +94,7 @@ module _ {V C R S F A : Type 0} where
         once = rw (← left) (IsOnce-without n (queue p) k.once);
         marks = λ m h. k.marks m (and_parts (has_number m (queue p)) (not (m == n)) (sym (has_number-without m n (queue p)) ∙ ap (has_number m) left ∙ h)).0;
         few_places = omega (arith, fewer, places_few);
-        few_objects = k.few_objects
+        few_objects = k.few_objects;
       }
 
   -- whoever does not stand as queued is not in the queue
@@ -102,7 +102,7 @@ module _ {V C R S F A : Type 0} where
       → has_number n (queue p) ≡ false
   not_queued n party p marks h other =
       elim (cases_Bool (has_number n (queue p))) [
-          inl there ↦ let is : waits_at party.standing ≡ true = ap is_queued (sym h) ∙ marks n there in cc
+        | inl there ↦ let is : waits_at party.standing ≡ true = ap is_queued (sym h) ∙ marks n there in cc
         | inr gone ↦ gone
       ]
 
@@ -110,7 +110,7 @@ module _ {V C R S F A : Type 0} where
   pub set_marks : (n : ℕ) (new : Option (Party V C R S)) (p : Pool V C R S F A) → AreMarked p p.parties → has_number n (queue p) ≡ false → AreMarked p (set p.parties n new)
   set_marks n new p marks gone m h =
       elim (eqb_tells m n) [
-          inl same ↦ let there : has_number n (queue p) ≡ true = subst (λ (k : ℕ). has_number k (queue p) ≡ true) same.1 h in cc
+        | inl same ↦ let there : has_number n (queue p) ≡ true = subst (λ (k : ℕ). has_number k (queue p) ≡ true) same.1 h in cc
         | inr other ↦ ap is_queued (get-set_other p.parties n m new other.1) ∙ marks m h
       ]
 
@@ -148,7 +148,7 @@ module _ {V C R S F A : Type 0} where
         once = u.once;
         marks = set_marks n new (unqueued n p) u.marks (unqueued_gone n p);
         few_places = omega (arith, c, places_few);
-        few_objects = omega (arith, c, objects_few)
+        few_objects = omega (arith, c, objects_few);
       }
 
   -- A party stands elsewhere with the same places and no more objects.
@@ -166,7 +166,7 @@ module _ {V C R S F A : Type 0} where
           once = k.once;
           marks = set_marks n (Some (standing_at timeouts new)) p k.marks (not_queued n (standing_at timeouts old) p k.marks h other);
           few_places = omega (arith, c, same, places_few);
-          few_objects = omega (arith, c, few, objects_few)
+          few_objects = omega (arith, c, few, objects_few);
         };
-        nobody_waits = λ opens free. f.nobody_waits opens (omega (arith, c, same, free))
+        nobody_waits = λ opens free. f.nobody_waits opens (omega (arith, c, same, free));
       }

@@ -70,9 +70,9 @@ module _ {V C R S F A : Type 0} (E : Type 0) (most n : ℕ) (timeouts : Timeouts
           once = k.once;
           marks = set_marks n (Some (standing_at timeouts new)) p k.marks gone;
           few_places = omega (arith, c, one, room);
-          few_objects = few
+          few_objects = few;
         };
-        nobody_waits = λ opens free. waits opens (omega (arith, c, one, free))
+        nobody_waits = λ opens free. waits opens (omega (arith, c, one, free));
       }
 
   -- by the object that is served, or none
@@ -82,19 +82,19 @@ module _ {V C R S F A : Type 0} (E : Type 0) (most n : ℕ) (timeouts : Timeouts
       let less = other_idle-shorter p.mode p.idle slot e in
       let few = k.few_objects in
       cond_both (nat_lt 0 allowed) _ _ (After most)
-        (λ some.
-          let new : Standing V C R S = recycling (PreRecycle slot start) (Some (allowed - 1)) in
-          let c = rw (f1, f2) at (counts p.parties n (Some (standing_at timeouts old)) (Some (standing_at timeouts new)) h) in
-          placed_follows new (other_idle p.mode p.idle) refl (omega (arith, c, less, few)))
-        (λ none.
-          let c = rw (f1, f2) at (counts p.parties n (Some (standing_at timeouts old)) (Some (standing_at timeouts (going None))) h) in
-          placed_follows (going None) p.idle refl (omega (arith, c, few)))
+      (λ some.
+      let new : Standing V C R S = recycling (PreRecycle slot start) (Some (allowed - 1)) in
+      let c = rw (f1, f2) at (counts p.parties n (Some (standing_at timeouts old)) (Some (standing_at timeouts new)) h) in
+      placed_follows new (other_idle p.mode p.idle) refl (omega (arith, c, less, few)))
+      (λ none.
+      let c = rw (f1, f2) at (counts p.parties n (Some (standing_at timeouts old)) (Some (standing_at timeouts (going None))) h) in
+      placed_follows (going None) p.idle refl (omega (arith, c, few)))
   serve_follows None allowed e =
       let empty = next_idle-none p.mode p.idle e in
       let c = rw (f1, f2) at (counts p.parties n (Some (standing_at timeouts old)) (Some (standing_at timeouts (creating None None))) h) in
       cond_both (nat_lt (p.next + creating_count p) largest_usize) _ _ (After most)
-        (λ few. placed_follows (creating None None) p.idle refl (omega (arith, c, room, empty)))
-        (λ full. ended_follows most n (standing_at timeouts old) p k h)
+      (λ few. placed_follows (creating None None) p.idle refl (omega (arith, c, room, empty)))
+      (λ full. ended_follows most n (standing_at timeouts old) p k h)
 
 module _ {V C R S : Type 0} where
   -- a party that is queued now is marked, and so are those that were
@@ -104,7 +104,7 @@ module _ {V C R S : Type 0} where
   queued_marked n m timeouts deadline old parties h others =
       let new : Option (Party V C R S) = Some (standing_at timeouts (queued deadline)) in
       elim (eqb_tells m n) [
-          inl same ↦ subst (λ (i : ℕ). is_queued (slice_get (set parties n new) i) ≡ true) (sym same.1) (ap is_queued (get-set_same parties n old new h))
+        | inl same ↦ subst (λ (i : ℕ). is_queued (slice_get (set parties n new) i) ≡ true) (sym same.1) (ap is_queued (get-set_same parties n old new h))
         | inr other ↦ ap is_queued (get-set_other parties n m new other.1) ∙ others other.1
       ]
 
@@ -122,15 +122,15 @@ module _ {V C R S F A : Type 0} (E : Type 0) (most n : ℕ) (timeouts : Timeouts
         orderly = record {
           once = rw (← append_assoc) (IsOnce-push (queue p) n k.once gone);
           marks = λ m listed. queued_marked n m timeouts deadline (Some (standing_at timeouts unpolled)) p.parties h (λ other.
-            let flat : has_number m (queue p ++ n ∷ []) ≡ true = rw append_assoc listed in
-            elim (or_cases (has_number m (queue p)) ((n == m) || false) (sym (has_number-append m (queue p) (n ∷ [])) ∙ flat)) [
-                inl there ↦ k.marks m there
-              | inr here ↦ let differs : (n == m) ≡ false = ne_eqb n m (λ e. other (sym e)) in let clash : ((n == m) || false) ≡ false = rw differs refl in cc
-            ]);
+              let flat : has_number m (queue p ++ n ∷ []) ≡ true = rw append_assoc listed in
+              elim (or_cases (has_number m (queue p)) ((n == m) || false) (sym (has_number-append m (queue p) (n ∷ [])) ∙ flat)) [
+                | inl there ↦ k.marks m there
+                | inr here ↦ let differs : (n == m) ≡ false = ne_eqb n m (λ e. other (sym e)) in let clash : ((n == m) || false) ≡ false = rw differs refl in cc
+              ]);
           few_places = omega (arith, c, places_few);
-          few_objects = omega (arith, c, objects_few)
+          few_objects = omega (arith, c, objects_few);
         };
-        nobody_waits = λ opens free. absurd (omega (arith, c, full, free))
+        nobody_waits = λ opens free. absurd (omega (arith, c, full, free));
       }
   joined_follows deadline p f h full false = ended_follows most n (standing_at timeouts unpolled) p f.orderly h
 
@@ -144,14 +144,14 @@ module _ {V C R S F A : Type 0} (E : Type 0) (most n : ℕ) (timeouts : Timeouts
       let deadline = deadline_after now timeouts.wait in
       let P : Asking V E C R S F A (Reply V E × Pool V C R S F A) → Type 0 = Always (After most) in
       cond_both (is_positive timeouts.wait && is_none p.runtime) _ _ P (λ lacks. ends) (λ serves.
-        cond_both (not p.is_open) _ _ P (λ closed. ends) (λ opens.
-          cond_both (nat_lt (places p) p.limit) _ _ P
-            (λ few.
-              let free = ltb-true (places p) p.limit few in
-              serve_follows E most n timeouts unpolled p k h gone refl refl (omega (arith, free)) (λ is_open more. f.nobody_waits is_open free)
-                (next_idle p.mode p.idle) (length p.idle) refl)
-            (λ full.
-              cond_both (is_reached deadline now) _ _ P (λ late. ends) (λ early found. joined_follows deadline p f h (ltb-false (places p) p.limit full) found))))
+      cond_both (not p.is_open) _ _ P (λ closed. ends) (λ opens.
+      cond_both (nat_lt (places p) p.limit) _ _ P
+      (λ few.
+      let free = ltb-true (places p) p.limit few in
+      serve_follows E most n timeouts unpolled p k h gone refl refl (omega (arith, free)) (λ is_open more. f.nobody_waits is_open free)
+      (next_idle p.mode p.idle) (length p.idle) refl)
+      (λ full.
+      cond_both (is_reached deadline now) _ _ P (λ late. ends) (λ early found. joined_follows deadline p f h (ltb-false (places p) p.limit full) found))))
 
   -- a later poll of one that is queued
   inquire_follows : (deadline : Option Moment) (p : Pool V C R S F A) → Follows most p → slice_get p.parties n ≡ Some (Some (standing_at timeouts (queued deadline)))
@@ -162,24 +162,24 @@ module _ {V C R S F A : Type 0} (E : Type 0) (most n : ℕ) (timeouts : Timeouts
       let places_few = k.few_places in
       let objects_few = k.few_objects in
       cond_both (not p.is_open) _ _ (After {E = E} most) (λ closed. ends) (λ opens.
-        cond_both (has_number n p.granted) _ _ (After {E = E} most)
-          (λ granted.
-            let fewer = without_number-once n p.granted (IsOnce-left p.granted p.waiting k.once) granted in
-            serve_follows E most n timeouts (queued deadline) (unqueued n p) (unqueued_orderly most n p k) h (unqueued_gone n p) refl refl
-              (omega (arith, fewer, places_few))
-              (λ is_open free. ap (without_number n) (f.nobody_waits is_open (omega (arith, fewer, free))))
-              (next_idle p.mode p.idle) (length p.idle) refl)
-          (λ waits.
-            let c = counts p.parties n (Some (standing_at timeouts (queued deadline))) (Some (standing_at timeouts (queued deadline))) h in
-            cond_both (is_reached deadline now) _ _ (After {E = E} most) (λ late. ends) (λ early. record {
-              orderly = record {
-                once = k.once;
-                marks = λ m listed. queued_marked n m timeouts deadline (Some (standing_at timeouts (queued deadline))) p.parties h (λ other. k.marks m listed);
-                few_places = omega (arith, c, places_few);
-                few_objects = omega (arith, c, objects_few)
-              };
-              nobody_waits = λ is_open free. f.nobody_waits is_open (omega (arith, c, free))
-            })))
+      cond_both (has_number n p.granted) _ _ (After {E = E} most)
+      (λ granted.
+      let fewer = without_number-once n p.granted (IsOnce-left p.granted p.waiting k.once) granted in
+      serve_follows E most n timeouts (queued deadline) (unqueued n p) (unqueued_orderly most n p k) h (unqueued_gone n p) refl refl
+      (omega (arith, fewer, places_few))
+      (λ is_open free. ap (without_number n) (f.nobody_waits is_open (omega (arith, fewer, free))))
+      (next_idle p.mode p.idle) (length p.idle) refl)
+      (λ waits.
+      let c = counts p.parties n (Some (standing_at timeouts (queued deadline))) (Some (standing_at timeouts (queued deadline))) h in
+      cond_both (is_reached deadline now) _ _ (After {E = E} most) (λ late. ends) (λ early. record {
+        orderly = record {
+          once = k.once;
+          marks = λ m listed. queued_marked n m timeouts deadline (Some (standing_at timeouts (queued deadline))) p.parties h (λ other. k.marks m listed);
+          few_places = omega (arith, c, places_few);
+          few_objects = omega (arith, c, objects_few);
+        };
+        nobody_waits = λ is_open free. f.nobody_waits is_open (omega (arith, c, free));
+      })))
 
   -- a party that holds a place and nothing else goes on
   going_follows : (allowance : Option ℕ) (p : Pool V C R S F A) → Follows most p → slice_get p.parties n ≡ Some (Some (standing_at timeouts (going allowance)))
@@ -188,8 +188,8 @@ module _ {V C R S F A : Type 0} (E : Type 0) (most n : ℕ) (timeouts : Timeouts
       let k = f.orderly in
       let places_few = k.few_places in
       serve_follows E most n timeouts (going allowance) p k h (not_queued n (standing_at timeouts (going allowance)) p k.marks h refl) refl refl
-        (omega (arith, places_few)) (λ is_open free. f.nobody_waits is_open (omega (arith, free)))
-        (next_idle p.mode p.idle) (unwrap_or allowance (length p.idle)) refl
+      (omega (arith, places_few)) (λ is_open free. f.nobody_waits is_open (omega (arith, free)))
+      (next_idle p.mode p.idle) (unwrap_or allowance (length p.idle)) refl
 
   -- an object that was under preparation is handed out
   handed_follows : (old : Standing V C R S) (slot : Slot V) (p : Pool V C R S F A) → Follows most p → slice_get p.parties n ≡ Some (Some (standing_at timeouts old))
@@ -224,22 +224,22 @@ module _ {V C R S F A : Type 0} (E : Type 0) (most n : ℕ) (timeouts : Timeouts
   created_follows begun before deadline p (poll.Ready (Err cause), c) f h = ended_follows most n (standing_at timeouts (creating begun before)) p f.orderly h
   created_follows begun before deadline p (poll.Pending, c) f h =
       cond_both (is_reached deadline now) _ _ (After {E = E} most)
-        (λ late. ended_follows most n (standing_at timeouts (creating begun before)) p f.orderly h)
-        (λ early. same_places_follow most n timeouts (creating begun before) (creating (Some c) deadline) p.next p.idle p.out p f h refl refl (omega arith))
+      (λ late. ended_follows most n (standing_at timeouts (creating begun before)) p f.orderly h)
+      (λ early. same_places_follow most n timeouts (creating begun before) (creating (Some c) deadline) p.next p.idle p.out p f h refl refl (omega arith))
 
   -- a creation, begun or not
   creating_follows : (begun : Option C) (deadline : Option Moment) (p : Pool V C R S F A) → Follows most p → slice_get p.parties n ≡ Some (Some (standing_at timeouts (creating begun deadline)))
       → Always (After {E = E} most) (go_on_creating n (standing_at timeouts (creating begun deadline)) now begun deadline p)
   creating_follows (Some c) deadline p f h =
       Always-bind (After {E = E} most) (create {R = R} {S = S} {F = F} {A = A} (Some c)) (λ x. Return (created n (standing_at timeouts (creating (Some c) deadline)) now deadline p x))
-        (λ x. created_follows (Some c) deadline deadline p x f h)
+      (λ x. created_follows (Some c) deadline deadline p x f h)
   creating_follows None deadline p f h =
       let after = deadline_after now timeouts.create in
       let P : Asking V E C R S F A (Reply V E × Pool V C R S F A) → Type 0 = Always (After most) in
       cond_both (lacks_runtime p.runtime timeouts.create) _ _ P
-        (λ lacks. ended_follows most n (standing_at timeouts (creating None deadline)) p f.orderly h)
-        (λ serves. Always-bind (After {E = E} most) (create {R = R} {S = S} {F = F} {A = A} None) (λ x. Return (created n (standing_at timeouts (creating None deadline)) now after p x))
-          (λ x. created_follows None deadline after p x f h))
+      (λ lacks. ended_follows most n (standing_at timeouts (creating None deadline)) p f.orderly h)
+      (λ serves. Always-bind (After {E = E} most) (create {R = R} {S = S} {F = F} {A = A} None) (λ x. Return (created n (standing_at timeouts (creating None deadline)) now after p x))
+      (λ x. created_follows None deadline after p x f h))
 
   -- an advance, by where the party stands
   advance_follows_at : (standing : Standing V C R S) (p : Pool V C R S F A) → Follows most p → slice_get p.parties n ≡ Some (Some (standing_at timeouts standing))
@@ -250,7 +250,7 @@ module _ {V C R S F A : Type 0} (E : Type 0) (most n : ℕ) (timeouts : Timeouts
   advance_follows_at (creating begun deadline) p f h = creating_follows begun deadline p f h
   advance_follows_at (recycling preparation allowance) p f h =
       Always-bind (After {E = E} most) (prepare now p.runtime timeouts.recycle p.hooks preparation) (λ x. reviewed n (standing_at timeouts (recycling preparation allowance)) allowance p x)
-        (λ x. reviewed_follows preparation allowance allowance p x f h)
+      (λ x. reviewed_follows preparation allowance allowance p x f h)
   advance_follows_at (checking slot at) p f h =
       Always-bind (After {E = E} most) (check p.hooks slot at) (λ x. checked n (standing_at timeouts (checking slot at)) slot p x) (λ x. checked_follows slot at p x f h)
   advance_follows_at finished p f h = f

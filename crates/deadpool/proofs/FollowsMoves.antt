@@ -42,9 +42,9 @@ module _ {V C R S F A : Type 0} (most : ℕ) where
           once = k.once;
           marks = k.marks;
           few_places = omega (arith, same, places_few);
-          few_objects = omega (arith, same, fewer, objects_few)
+          few_objects = omega (arith, same, fewer, objects_few);
         };
-        nobody_waits = λ opens free. f.nobody_waits opens (omega (arith, same, free))
+        nobody_waits = λ opens free. f.nobody_waits opens (omega (arith, same, free));
       }
 
   -- an object leaves those that are out, and the idle are so
@@ -64,7 +64,7 @@ module _ {V C R S F A : Type 0} where
       let idle = drop (min (length p.idle) (size p - n)) p.idle in
       let shorter = length-drop (min (length p.idle) (size p - n)) p.idle in
       settle_follows (reach p) (record p { limit = n; reserve = max p.reserve n; idle = idle })
-        record { once = l.once; marks = l.marks; few_places = omega arith; few_objects = omega (arith, shorter) }
+      record { once = l.once; marks = l.marks; few_places = omega arith; few_objects = omega (arith, shorter) }
 
   -- a pool closes
   pub closed_follows : (p : Pool V C R S F A) → IsLawful p → Follows (reach p) (closed p)
@@ -72,7 +72,7 @@ module _ {V C R S F A : Type 0} where
       let k = (resized_follows 0 p l).orderly in
       record {
         orderly = record { once = k.once; marks = k.marks; few_places = k.few_places; few_objects = k.few_objects };
-        nobody_waits = λ opens free. cc
+        nobody_waits = λ opens free. cc;
       }
 
   -- one more handle
@@ -84,7 +84,7 @@ module _ {V C R S F A : Type 0} where
   handle_dropped_follows p l =
       let left = if p.handles == most_handles then most_handles else p.handles - 1 in
       objects_follow (reach p) p left (if left == 0 then [] else p.idle) p.out (Follows-self p l)
-        (cond_both (left == 0) _ _ (λ idle. length idle ≤ length p.idle) (λ last. omega arith) (λ more. omega arith)) refl
+      (cond_both (left == 0) _ _ (λ idle. length idle ≤ length p.idle) (λ last. omega arith) (λ more. omega arith)) refl
 
 module _ {V C R S F A : Type 0} (E : Type 0) (p : Pool V C R S F A) (l : IsLawful p) where
   -- a step needs a handle
@@ -99,16 +99,16 @@ module _ {V C R S F A : Type 0} (E : Type 0) (p : Pool V C R S F A) (l : IsLawfu
       let c1 = count-push is_creating p.parties new in
       let c2 = held-push prepared_by p.parties new in
       cond_both (nat_lt (length p.parties) p.most_parties) _ _ (After {E = E} (reach p))
-        (λ few. record {
-          orderly = record {
-            once = l.once;
-            marks = λ n h. started_marked p.parties new n (slice_get p.parties n) refl (l.marks n h);
-            few_places = omega (arith, c0, c1, c2);
-            few_objects = omega (arith, c1, c2)
-          };
-          nobody_waits = λ opens free. l.nobody_waits opens (omega (arith, c0, c1, c2, free))
-        })
-        (λ full. Follows-self p l)
+      (λ few. record {
+        orderly = record {
+          once = l.once;
+          marks = λ n h. started_marked p.parties new n (slice_get p.parties n) refl (l.marks n h);
+          few_places = omega (arith, c0, c1, c2);
+          few_objects = omega (arith, c1, c2);
+        };
+        nobody_waits = λ opens free. l.nobody_waits opens (omega (arith, c0, c1, c2, free));
+      })
+      (λ full. Follows-self p l)
 
   -- the value of an object that is out is replaced
   put_follows : (found : Option (Slot V)) (n : ℕ) (v : V) → After {E = E} (reach p) (put_at found n v p)
@@ -124,9 +124,9 @@ module _ {V C R S F A : Type 0} (E : Type 0) (p : Pool V C R S F A) (l : IsLawfu
       let gone = settle_follows (reach p) _ (without_slot_orderly (reach p) n slot p p.idle f h (omega arith)) in
       let longer = length-append p.idle (slot ∷ []) in
       cond_both (p.handles == 0) _ _ P (λ none. gone) (λ some.
-        cond_both (nat_le (size p) p.limit) _ _ P
-          (λ fits. settle_follows (reach p) _ (without_slot_orderly (reach p) n slot p (p.idle ++ slot ∷ []) f h (omega (arith, longer))))
-          (λ above left. gone))
+      cond_both (nat_le (size p) p.limit) _ _ P
+      (λ fits. settle_follows (reach p) _ (without_slot_orderly (reach p) n slot p (p.idle ++ slot ∷ []) f h (omega (arith, longer))))
+      (λ above left. gone))
 
   -- an object leaves the pool for good
   pub take_follows : (n : ℕ) (found : Option (Slot V)) → find_slot n p.out ≡ found → Always (After {E = E} (reach p)) (take_at found n p)
@@ -142,10 +142,10 @@ module _ {V C R S F A : Type 0} (E : Type 0) (p : Pool V C R S F A) (l : IsLawfu
       let f = Follows-self p l in
       let P : Asking V E C R S F A (Reply V E × Pool V C R S F A) → Type 0 = Always (After (reach p)) in
       cond_both (p.handles == 0) _ _ P (λ none. f) (λ some.
-        cond_both (not p.is_open) _ _ P (λ closed. f) (λ opens.
-          cond_both (nat_lt p.reserve n) _ _ P
-            (λ grows found. cond_both found _ _ (After {E = E} (reach p)) (λ yes. resized_follows n p l) (λ no. f))
-            (λ fits. resized_follows n p l)))
+      cond_both (not p.is_open) _ _ P (λ closed. f) (λ opens.
+      cond_both (nat_lt p.reserve n) _ _ P
+      (λ grows found. cond_both found _ _ (After {E = E} (reach p)) (λ yes. resized_follows n p l) (λ no. f))
+      (λ fits. resized_follows n p l)))
 
   -- by whether memory was found
   retain_with_follows : (kept : List ℕ) (found : Bool) → Always (After {E = E} (reach p)) (retain_with kept p found)
@@ -161,7 +161,7 @@ module _ {V C R S F A : Type 0} (E : Type 0) (p : Pool V C R S F A) (l : IsLawfu
       let f = Follows-self p l in
       let P : Asking V E C R S F A (Reply V E × Pool V C R S F A) → Type 0 = Always (After (reach p)) in
       cond_both (p.handles == 0) _ _ P (λ none. f) (λ some.
-        cond_both (length p.idle == 0) _ _ P (λ empty. f) (λ idle found. retain_with_follows kept found))
+      cond_both (length p.idle == 0) _ _ P (λ empty. f) (λ idle found. retain_with_follows kept found))
 
   -- one more handle, while there is one
   pub upgrade_follows : After {E = E} (reach p) (upgrade p)

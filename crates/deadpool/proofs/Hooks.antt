@@ -1,7 +1,7 @@
 -- One hook of a list and those after it; and what hooks alone give, in a computation that asks the manager too.
-use Rattle.std.proofs.Common.{◌≡◌, ℕ, ◌+◌, ◌<◌, List, [], ◌∷◌, length, drop, get_or, Option, Some, None, Result, Ok, Err, refl, drop-cons, add-one}
+use Rattle.std.proofs.Common.{◌≡◌, ℕ, ◌+◌, ◌<◌, List, ◌∷◌, length, drop, get_or, Option, None, Result, drop-cons, add-one}
 use Rattle.futures.specs.declared.task.Poll.{Poll}
-use Rattle.deadpool_parts.specs.Program.{Program, Gives, ◌>>=◌}
+use Rattle.deadpool_parts.specs.Program.{Gives, ◌>>=◌}
 use Rattle.deadpool_parts.proofs.Programs.{Gives-bind, Gives-more}
 use Rattle.deadpool_parts.specs.declared.errors.HookError.{HookError}
 use Rattle.deadpool.specs.Outside.{Question, Answer, Asking, May, may, may_hook, BeginCreation, PollCreation, BeginRecycling, PollRecycling, CallHook, BeginHook, PollHook, Detach, Reserve}

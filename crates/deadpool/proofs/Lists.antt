@@ -119,7 +119,7 @@ without-absent t (x ∷ xs) h =
 pub without-twice : (t : ℕ) (xs : List ℕ) → without_number t (without_number t xs) ≡ without_number t xs
 without-twice t xs =
     without-absent t (without_number t xs)
-      (has_number-without t t xs ∙ ap (λ b. has_number t xs && not b) (eq-eqb t t refl) ∙ and_right (has_number t xs) false refl)
+    (has_number-without t t xs ∙ ap (λ b. has_number t xs && not b) (eq-eqb t t refl) ∙ and_right (has_number t xs) false refl)
 
 -- what waits and is granted a place is listed as before
 pub has_number-moved : (u k : ℕ) (granted waiting : List ℕ)
@@ -128,7 +128,7 @@ has_number-moved u k granted waiting =
     ap (λ b. b || has_number u (drop k waiting)) (list_any-append (λ v. eqb v u) granted (take k waiting))
     ∙ or_assoc (has_number u granted) (has_number u (take k waiting)) (has_number u (drop k waiting))
     ∙ ap (λ b. has_number u granted || b)
-      (sym (list_any-append (λ v. eqb v u) (take k waiting) (drop k waiting)) ∙ ap (has_number u) (take-append-drop k waiting))
+    (sym (list_any-append (λ v. eqb v u) (take k waiting) (drop k waiting)) ∙ ap (has_number u) (take-append-drop k waiting))
 
 -- two maps that agree on the list
 pub map_same : (f g : ℕ → ℕ) (xs : List ℕ) → ((u : ℕ) → has_number u xs ≡ true → f u ≡ g u) → map f xs ≡ map g xs

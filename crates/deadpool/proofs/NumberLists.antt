@@ -62,7 +62,7 @@ pub without_number-once : (n : ℕ) (xs : List ℕ) → IsOnce xs → has_number
 without_number-once n [] once h = cc
 without_number-once n (x ∷ xs) once h =
     elim (cases_Bool (x == n)) [
-        inl here ↦
+      | inl here ↦
           let gone : has_number n xs ≡ false = subst (λ (m : ℕ). has_number m xs ≡ false) (eqb-true x n here) once.0 in
           rw (here, without_number-same n xs gone) (omega arith)
       | inr other ↦
@@ -76,7 +76,7 @@ pub IsOnce-without : (n : ℕ) (xs : List ℕ) → IsOnce xs → IsOnce (without
 IsOnce-without n [] once = tt
 IsOnce-without n (x ∷ xs) once =
     elim (cases_Bool (x == n)) [
-        inl here ↦ rw here (IsOnce-without n xs once.1)
+      | inl here ↦ rw here (IsOnce-without n xs once.1)
       | inr other ↦ rw other (has_number-without x n xs ∙ (rw once.0 refl), IsOnce-without n xs once.1)
     ]
 

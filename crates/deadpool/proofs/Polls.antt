@@ -1,5 +1,5 @@
 -- Advances of a get, one after another.
-use Rattle.std.proofs.Common.{◌≡◌, ◌≢◌, ◌⊎◌, ℕ, ◌+◌, ◌<◌, List, [], ◌∷◌, Option, Some, None, Result, true, false, refl, sym, ◌∙◌, subst, inl, inr, arith}
+use Rattle.std.proofs.Common.{◌≡◌, ◌≢◌, ◌<◌, List, [], ◌∷◌, Option, Some, None, Result, true, false, refl, subst, inl, inr, arith}
 use Rattle.std.specs.declared.time.Duration.{Duration}
 use Rattle.futures.specs.declared.task.Poll.{Poll}
 use Rattle.deadpool_parts.specs.Moments.{deadline_after}
@@ -83,6 +83,7 @@ module _ {D V E C R S F A : Type 0} (d : DeskOf D V) (may : May V E C R S F A) (
   pub polls_once : (desk mid : D) (stage next : Stage V C R S) (turn : Turn V E) (made : Made V) (given : Timeouts)
       → given ≡ timeouts → Makes d desk made mid → AdvancesFrom may runtime hooks now given stage made next turn → turn ≢ More
       → PollsOver d may runtime hooks now timeouts desk stage mid next turn
-  polls_once desk mid stage next turn made given same makes advances last =
-      (record { made = made; desk = mid; stage = next } ∷ [],
-        (makes, subst (λ (ts : Timeouts). AdvancesFrom may runtime hooks now ts stage made next turn) same advances, last, refl, refl))
+  polls_once desk mid stage next turn made given same makes advances last = (
+    record { made = made; desk = mid; stage = next } ∷ [],
+    (makes, subst (λ (ts : Timeouts). AdvancesFrom may runtime hooks now ts stage made next turn) same advances, last, refl, refl),
+  )

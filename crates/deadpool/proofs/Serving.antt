@@ -107,86 +107,90 @@ module _ {V C R S F A : Type 0} (runtime : Option Runtime) (hooks : HookLists F 
     -- it has an idle object
     served_object : (allowance : Option ℕ) (slot : Slot V) (more : ℕ) → next_idle d.mode d.idle ≡ Some slot → more + 1 ≡ unwrap_or allowance (length d.idle)
         → (serve {E = E} n party allowance pool
-            ≡ (reply.More, after (record d { idle = other_idle d.mode d.idle; outside = d.outside + 1 }) (stage.Recycling (PreRecycle slot start) (Some more))))
-          × IsCounted (record d { idle = other_idle d.mode d.idle; outside = d.outside + 1 }) (set gets n (stands (stage.Recycling (PreRecycle slot start) (Some more)))) out
+        ≡ (reply.More, after (record d { idle = other_idle d.mode d.idle; outside = d.outside + 1 }) (stage.Recycling (PreRecycle slot start) (Some more))))
+        × IsCounted (record d { idle = other_idle d.mode d.idle; outside = d.outside + 1 }) (set gets n (stands (stage.Recycling (PreRecycle slot start) (Some more)))) out
     served_object allowance slot more e f =
         let new : Stage V C R S = stage.Recycling (PreRecycle slot start) (Some more) in
         let d' : DeskState V = record d { idle = other_idle d.mode d.idle; outside = d.outside + 1 } in
         let none : NoTicket (stands new) = λ u. refl in
-        let o = left.owned new none in
-        (
+        let o = left.owned new none in (
           ap (λ (i : Option (Slot V)). serve_from i (unwrap_or allowance (length d.idle)) n party pool) e
-          ∙ serve_from-object n party pool slot (unwrap_or allowance (length d.idle)) more f
-          ∙ ap (λ (q : Pool V C R S F A). (reply.More, record q { idle = other_idle d.mode d.idle })) (left.named new none),
+              ∙ serve_from-object n party pool slot (unwrap_or allowance (length d.idle)) more f
+              ∙ ap (λ (q : Pool V C R S F A). (reply.More, record q { idle = other_idle d.mode d.idle })) (left.named new none),
           IsCounted-set core d' gets n (stands old) (stands new) out out h k (IsOwned-like d (set gets n (stands new)) o d' refl refl) record {
-            going = omega (arith, left.going); creations = omega (arith, left.creations, left.creates_none);
-            outside = omega (arith, left.outside, left.prepares_none); room = omega (arith, left.lasts_still)
-          }
+            going = omega (arith, left.going);
+            creations = omega (arith, left.creations, left.creates_none);
+            outside = omega (arith, left.outside, left.prepares_none);
+            room = omega (arith, left.lasts_still);
+          },
         )
 
     -- it keeps the place, and may take no idle object more
     served_going : (allowance : Option ℕ) → d.idle ≢ [] → unwrap_or allowance (length d.idle) ≡ 0
         → (serve {E = E} n party allowance pool ≡ (reply.Pending, after (record d { going = d.going + 1 }) (stage.Going None)))
-          × IsCounted (record d { going = d.going + 1 }) (set gets n (stands (stage.Going None))) out
+        × IsCounted (record d { going = d.going + 1 }) (set gets n (stands (stage.Going None))) out
     served_going allowance some f =
         let new : Stage V C R S = stage.Going None in
         let d' : DeskState V = record d { going = d.going + 1 } in
         let none : NoTicket (stands new) = λ u. refl in
-        let i = next_idle-some d.mode d.idle some in
-        (
+        let i = next_idle-some d.mode d.idle some in (
           ap (λ (i : Option (Slot V)). serve_from i (unwrap_or allowance (length d.idle)) n party pool) i.1
-          ∙ serve_from-going n party pool i.0 (unwrap_or allowance (length d.idle)) f
-          ∙ ap (λ (q : Pool V C R S F A). (reply.Pending, q)) (left.named new none),
+              ∙ serve_from-going n party pool i.0 (unwrap_or allowance (length d.idle)) f
+              ∙ ap (λ (q : Pool V C R S F A). (reply.Pending, q)) (left.named new none),
           IsCounted-set core d' gets n (stands old) (stands new) out out h k (IsOwned-like d (set gets n (stands new)) (left.owned new none) d' refl refl) record {
-            going = omega (arith, left.going); creations = omega (arith, left.creations, left.creates_none);
-            outside = omega (arith, left.outside, left.prepares_none); room = omega (arith, left.lasts_still)
-          }
+            going = omega (arith, left.going);
+            creations = omega (arith, left.creations, left.creates_none);
+            outside = omega (arith, left.outside, left.prepares_none);
+            room = omega (arith, left.lasts_still);
+          },
         )
 
     -- it begins a creation
     served_create : (allowance : Option ℕ) → d.idle ≡ [] → d.next + d.creations < largest_usize
         → (serve {E = E} n party allowance pool ≡ (reply.More, after (record d { creations = d.creations + 1 }) (stage.Creating None None)))
-          × IsCounted (record d { creations = d.creations + 1 }) (set gets n (stands (stage.Creating None None))) out
+        × IsCounted (record d { creations = d.creations + 1 }) (set gets n (stands (stage.Creating None None))) out
     served_create allowance empty less =
         let new : Stage V C R S = stage.Creating None None in
         let d' : DeskState V = record d { creations = d.creations + 1 } in
-        let none : NoTicket (stands new) = λ u. refl in
-        (
+        let none : NoTicket (stands new) = λ u. refl in (
           ap (λ (i : Option (Slot V)). serve_from i (unwrap_or allowance (length d.idle)) n party pool) (next_idle-none d.mode d.idle empty)
-          ∙ serve_from-create n party pool (unwrap_or allowance (length d.idle)) (subst (λ m. m < largest_usize) (sym (creating_same left)) less)
-          ∙ ap (λ (q : Pool V C R S F A). (reply.More, q)) (left.named new none),
+              ∙ serve_from-create n party pool (unwrap_or allowance (length d.idle)) (subst (λ m. m < largest_usize) (sym (creating_same left)) less)
+              ∙ ap (λ (q : Pool V C R S F A). (reply.More, q)) (left.named new none),
           IsCounted-set core d' gets n (stands old) (stands new) out out h k (IsOwned-like d (set gets n (stands new)) (left.owned new none) d' refl refl) record {
-            going = omega (arith, left.going); creations = omega (arith, left.creations, left.creates_none);
-            outside = omega (arith, left.outside, left.prepares_none); room = omega (arith, left.lasts_still)
-          }
+            going = omega (arith, left.going);
+            creations = omega (arith, left.creations, left.creates_none);
+            outside = omega (arith, left.outside, left.prepares_none);
+            room = omega (arith, left.lasts_still);
+          },
         )
 
     -- no number is left for an object, and its place is free
     served_exhausted : (allowance : Option ℕ) → d.idle ≡ [] → largest_usize ≤ d.next + d.creations
         → (serve {E = E} n party allowance pool ≡ (reply.Failed NumbersExhausted, after (settled d) stage.Finished))
-          × IsCounted (settled d) (set gets n (stands stage.Finished)) out
+        × IsCounted (settled d) (set gets n (stands stage.Finished)) out
     served_exhausted allowance empty more =
         let new : Stage V C R S = stage.Finished in
         let none : NoTicket (stands new) = λ u. refl in
         let counted : IsCounted d (set gets n (stands new)) out =
-          IsCounted-set core d gets n (stands old) (stands new) out out h k (left.owned new none) record {
-            going = omega (arith, left.going); creations = omega (arith, left.creations, left.creates_none);
-            outside = omega (arith, left.outside, left.prepares_none); room = omega (arith, left.lasts_still)
-          } in
-        (
+        IsCounted-set core d gets n (stands old) (stands new) out out h k (left.owned new none) record {
+          going = omega (arith, left.going);
+          creations = omega (arith, left.creations, left.creates_none);
+          outside = omega (arith, left.outside, left.prepares_none);
+          room = omega (arith, left.lasts_still);
+        } in (
           ap (λ (i : Option (Slot V)). serve_from i (unwrap_or allowance (length d.idle)) n party pool) (next_idle-none d.mode d.idle empty)
-          ∙ serve_from-exhausted n party pool (unwrap_or allowance (length d.idle)) (subst (λ m. largest_usize ≤ m) (sym (creating_same left)) more)
-          ∙ ap (λ (q : Pool V C R S F A). (reply.Failed NumbersExhausted, settle q))
-            (ap (put n (party_of (stands new))) left.unqueued ∙ left.named new none)
-          ∙ ap (λ (q : Pool V C R S F A). (reply.Failed NumbersExhausted, q)) (sym (settles runtime hooks timeouts first most d (set gets n (stands new)) out counted)),
-          IsCounted-settled d (set gets n (stands new)) out counted
+              ∙ serve_from-exhausted n party pool (unwrap_or allowance (length d.idle)) (subst (λ m. largest_usize ≤ m) (sym (creating_same left)) more)
+              ∙ ap (λ (q : Pool V C R S F A). (reply.Failed NumbersExhausted, settle q))
+              (ap (put n (party_of (stands new))) left.unqueued ∙ left.named new none)
+              ∙ ap (λ (q : Pool V C R S F A). (reply.Failed NumbersExhausted, q)) (sym (settles runtime hooks timeouts first most d (set gets n (stands new)) out counted)),
+          IsCounted-settled d (set gets n (stands new)) out counted,
         )
 
     -- what serving does at the desk, it does in the pool
     pub serves : (d' : DeskState V) (allowance : Option ℕ) (served : Serving V) (s : Stage V C R S) (t : Turn V E)
         → Serves d allowance served d' → AfterServing served s t
         → (serve {E = E} n party allowance pool ≡ (reply_to t, image runtime hooks timeouts first most d' (set gets n (stands s)) (given t out)))
-          × IsCounted d' (set gets n (stands s)) (given t out)
+        × IsCounted d' (set gets n (stands s)) (given t out)
     serves d' allowance (serving.Object slot more) s t e a = rw (a.0, a.1, e.2) (served_object allowance slot more e.0 e.1)
     serves d' allowance serving.Going s t e a = rw (a.0, a.1, e.2) (served_going allowance e.0 e.1)
     serves d' allowance serving.Create s t e a = rw (a.0, a.1, e.2) (served_create allowance e.0 e.1)

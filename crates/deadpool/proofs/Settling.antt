@@ -27,10 +27,10 @@ module _ {V C R S F A : Type 0} where
         | inr shut ↦ ap (λ b. if b then min (length p.waiting) (p.limit - pool_places p) else 0) shut
         | inl is_open ↦
             let all : min (length p.waiting) (p.limit - pool_places p) ≡ 0 =
-              elim (cases_lt (pool_places p) p.limit) [
-                | inl free ↦ let none : length p.waiting ≡ 0 = ap length (nobody is_open free) in omega arith
-                | inr full ↦ omega arith
-              ] in
+            elim (cases_lt (pool_places p) p.limit) [
+              | inl free ↦ let none : length p.waiting ≡ 0 = ap length (nobody is_open free) in omega arith
+              | inr full ↦ omega arith
+            ] in
             ap (λ b. if b then min (length p.waiting) (p.limit - pool_places p) else 0) is_open ∙ all
       ]
 
@@ -79,7 +79,7 @@ module _ {V C R S : Type 0} where
         going = rw e (omega (arith, c0, k.going, s.going));
         creations = rw e (omega (arith, c1, k.creations, s.creations));
         outside = rw e (omega (arith, c2, k.outside, s.outside));
-        room = rw (length-set gets n new) (omega (arith, c3, k.room, s.room))
+        room = rw (length-set gets n new) (omega (arith, c3, k.room, s.room));
       }
 
   -- settling changes no count
@@ -104,10 +104,10 @@ module _ {V C R S F A : Type 0} (runtime : Option Runtime) (hooks : HookLists F 
       let l : length (map (owner gets) d.waiting) ≡ length d.waiting = length-map d.waiting (owner gets) in
       let by : ℕ → ℕ → ℕ = λ waiting held. if d.is_open then min waiting (d.limit - held) else 0 in
       let same : grants d ≡ pool_grants (img d gets out) =
-        ap (λ m. by m (places d)) (sym l) ∙ ap (by (length (map (owner gets) d.waiting))) (sym (places-image d gets out k)) in
+      ap (λ m. by m (places d)) (sym l) ∙ ap (by (length (map (owner gets) d.waiting))) (sym (places-image d gets out k)) in
       let with : List ℕ → List ℕ → Pool V C R S F A = λ granted waiting. record (img d gets out) { granted = granted; waiting = waiting } in
       ap (λ ns. with ns (map (owner gets) (drop (grants d) d.waiting)))
-        (map-append (owner gets) d.granted (take (grants d) d.waiting) ∙ ap (λ ns. map (owner gets) d.granted ++ ns) (sym (take-map (owner gets) (grants d) d.waiting)))
+      (map-append (owner gets) d.granted (take (grants d) d.waiting) ∙ ap (λ ns. map (owner gets) d.granted ++ ns) (sym (take-map (owner gets) (grants d) d.waiting)))
       ∙ ap (with (map (owner gets) d.granted ++ take (grants d) (map (owner gets) d.waiting))) (sym (drop-map (owner gets) (grants d) d.waiting))
       ∙ ap (λ m. with (map (owner gets) d.granted ++ take m (map (owner gets) d.waiting)) (drop m (map (owner gets) d.waiting))) same
 
@@ -150,7 +150,7 @@ module _ {V C R S F A : Type 0} (runtime : Option Runtime) (hooks : HookLists F 
   pub put-image : NoTicket old → NoTicket new → put n (party_of new) (in_pool d gets) ≡ in_pool d (set gets n new)
   put-image none no_new =
       with_same _ _ _ _ _ _ (sym (owners-set d gets o n old new h d.granted none no_new)) (sym (owners-set d gets o n old new h d.waiting none no_new))
-        (sym (map-set party_of gets n new))
+      (sym (map-set party_of gets n new))
 
   -- and it is in no queue
   pub put_off-image : NoTicket old → NoTicket new → put_off n (party_of new) (in_pool d gets) ≡ in_pool d (set gets n new)
@@ -160,9 +160,9 @@ module _ {V C R S F A : Type 0} (runtime : Option Runtime) (hooks : HookLists F 
   pub put_off-unqueued : (t : ℕ) → owner gets t ≡ n → OneTicket t old → NoTicket new → put_off n (party_of new) (in_pool d gets) ≡ in_pool (unqueued t d) (set gets n new)
   put_off-unqueued t mine one no_new =
       with_same _ _ _ _ _ _
-        (sym (owners-unqueued d gets o n old new h t mine one no_new d.granted in_granted))
-        (sym (owners-unqueued d gets o n old new h t mine one no_new d.waiting in_waiting))
-        (sym (map-set party_of gets n new))
+      (sym (owners-unqueued d gets o n old new h t mine one no_new d.granted in_granted))
+      (sym (owners-unqueued d gets o n old new h t mine one no_new d.waiting in_waiting))
+      (sym (map-set party_of gets n new))
 
   -- a get joins the queue
   pub put-queueing : (t : ℕ) → is_listed t d ≡ false → NoTicket old → OneTicket t new
@@ -170,8 +170,8 @@ module _ {V C R S F A : Type 0} (runtime : Option Runtime) (hooks : HookLists F 
   put-queueing t fresh none one =
       let at : ℕ → List ℕ = λ m. m ∷ [] in
       with_same _ _ _ _ _ _
-        (sym (owners-queueing d gets o n old new h t fresh none one d.granted in_granted))
-        (sym (map-append (owner (set gets n new)) d.waiting (t ∷ [])
-          ∙ ap (λ ns. ns ++ owner (set gets n new) t ∷ []) (owners-queueing d gets o n old new h t fresh none one d.waiting in_waiting)
-          ∙ ap (λ m. map (owner gets) d.waiting ++ at m) (owner-queueing d gets o n old new h t fresh one)))
-        (sym (map-set party_of gets n new))
+      (sym (owners-queueing d gets o n old new h t fresh none one d.granted in_granted))
+      (sym (map-append (owner (set gets n new)) d.waiting (t ∷ [])
+      ∙ ap (λ ns. ns ++ owner (set gets n new) t ∷ []) (owners-queueing d gets o n old new h t fresh none one d.waiting in_waiting)
+      ∙ ap (λ m. map (owner gets) d.waiting ++ at m) (owner-queueing d gets o n old new h t fresh one)))
+      (sym (map-set party_of gets n new))

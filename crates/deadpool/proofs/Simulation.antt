@@ -44,18 +44,18 @@ module _ {V E C R S F A : Type 0} (may : May V E C R S F A) (memory : (found : B
   advanced : (own : Timeouts) (old s : Stage V C R S) (t : Turn V E) (made : Made V) → IsCounted core gets out → NobodyWaits pool
       → slice_get gets n ≡ Some (stands own old) → Makes core_desk core made core' → AdvancesFrom may runtime hooks now own old made s t
       → Gives may (advance_at (standing_of old) n record { timeouts = own; standing = standing_of old } now pool)
-          (reply_to t, image runtime hooks timeouts first most core' (set gets n (stands own s)) (given t out))
-        × IsCounted core' (set gets n (stands own s)) (given t out)
+      (reply_to t, image runtime hooks timeouts first most core' (set gets n (stands own s)) (given t out))
+      × IsCounted core' (set gets n (stands own s)) (given t out)
   advanced own stage.Unpolled s t no_step k nobody h e a =
       from_unrun may runtime hooks timeouts first most n now core core' gets out own k nobody h s t e a.0 a.1 a.2
   advanced own stage.Unpolled s t (entering wait reply) k nobody h e a =
       from_entered may runtime hooks timeouts first most n now core core' gets out own k nobody h a.0 memory wait reply s t a.1 e a.2
   advanced own (stage.Queued ticket deadline) s t (asking named expired reply) k nobody h e a =
       from_queued may runtime hooks timeouts first most n now core core' gets out own k nobody ticket deadline h expired reply s t a.1
-        (subst (λ u. Asks core u expired reply core') a.0 e) a.2
+      (subst (λ u. Asks core u expired reply core') a.0 e) a.2
   advanced own (stage.Going allowance) s t (going_on asked reply) k nobody h e a =
       from_going may runtime hooks timeouts first most n now core core' gets out own k nobody allowance h reply s t
-        (subst (λ o. GoesOn core o reply core') a.0 e) a.1
+      (subst (λ o. GoesOn core o reply core') a.0 e) a.1
   advanced own (stage.Creating begun until) s t made k nobody h e a =
       from_creating may runtime hooks timeouts first most n now core core' gets out own k begun until made s t h e a
   advanced own (stage.Recycling preparation allowance) s t made k nobody h e a =
@@ -70,8 +70,8 @@ module _ {V E C R S F A : Type 0} (may : May V E C R S F A) (memory : (found : B
   pub simulates : (g : Getting V C R S) (after : Stage V C R S) (turn : Turn V E) (made : Made V) → IsCounted core gets out → IsLawful (image runtime hooks timeouts first most core gets out)
       → slice_get gets n ≡ Some (Some g) → Makes core_desk core made core' → AdvancesFrom may runtime hooks now g.timeouts g.stage made after turn
       → Gives may (moved (move.Advance n now) (image runtime hooks timeouts first most core gets out))
-          (reply_to turn, image runtime hooks timeouts first most core' (slice_set gets n (Some (record g { stage = after }))) (given turn out))
-        × IsCounted core' (slice_set gets n (Some (record g { stage = after }))) (given turn out)
+      (reply_to turn, image runtime hooks timeouts first most core' (slice_set gets n (Some (record g { stage = after }))) (given turn out))
+      × IsCounted core' (slice_set gets n (Some (record g { stage = after }))) (given turn out)
   simulates g after turn made k lawful h e a =
       let here : slice_get pool.parties n ≡ Some (party_of (Some g)) = slice_get-map party_of gets n ∙ ap (option_map party_of) h in
       let all = advanced g.timeouts g.stage after turn made k lawful.nobody_waits h e a in

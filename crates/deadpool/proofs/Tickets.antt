@@ -86,7 +86,7 @@ module _ {V C R S : Type 0} (d : DeskState V) (gets : List (Option (Getting V C 
       let same : (u : ℕ) → is_listed u d' ≡ is_listed u d = λ u. ap (λ ns. has_number u ns || has_number u d'.waiting) e ∙ ap (λ ns. has_number u d.granted || has_number u ns) f in
       record {
         owned = λ u k. o.owned u (sym (same u) ∙ k);
-        listed = λ n u g there holds. let l = o.listed n u g there holds in (same u ∙ l.0, l.1)
+        listed = λ n u g there holds. let l = o.listed n u g there holds in (same u ∙ l.0, l.1);
       }
 
   -- the desk settles
@@ -95,7 +95,7 @@ module _ {V C R S : Type 0} (d : DeskState V) (gets : List (Option (Getting V C 
       let same : (u : ℕ) → is_listed u (settled d) ≡ is_listed u d = λ u. has_number-moved u (grants d) d.granted d.waiting in
       record {
         owned = λ u k. o.owned u (sym (same u) ∙ k);
-        listed = λ n u g there holds. let l = o.listed n u g there holds in (same u ∙ l.0, l.1)
+        listed = λ n u g there holds. let l = o.listed n u g there holds in (same u ∙ l.0, l.1);
       }
 
   -- a get without a ticket owns none
@@ -138,10 +138,10 @@ module _ {V C R S : Type 0} (d : DeskState V) (gets : List (Option (Getting V C 
         record {
           owned = λ u k. let w = o.owned u k in (w.0, rw (same u, get-set_other gets n (owner gets u) new (not_owner n old u h (none u) k)) w.1, w.2);
           listed = λ m u g there holds.
-            elim (eqb_tells m n) [
-              | inl y ↦ absurd (here_none g m u y.1 there holds (no_new u))
-              | inr other ↦ let l = o.listed m u g (sym (get-set_other gets n m new other.1) ∙ there) holds in (l.0, same u ∙ l.1)
-            ]
+              elim (eqb_tells m n) [
+                | inl y ↦ absurd (here_none g m u y.1 there holds (no_new u))
+                | inr other ↦ let l = o.listed m u g (sym (get-set_other gets n m new other.1) ∙ there) holds in (l.0, same u ∙ l.1)
+              ];
         }
 
     -- a queued get leaves the queue
@@ -150,20 +150,20 @@ module _ {V C R S : Type 0} (d : DeskState V) (gets : List (Option (Getting V C 
         let same : (u : ℕ) → eqb t u ≡ false → owner (set gets n new) u ≡ owner gets u = λ u differs. owner-set gets n old new u h (one u ∙ differs ∙ sym (no_new u)) in
         record {
           owned = λ u k.
-            let both : (is_listed u d && not (eqb u t)) ≡ true = sym (is_listed-unqueued u t d) ∙ k in
-            let was : is_listed u d ≡ true = (and_parts (is_listed u d) (not (eqb u t)) both).0 in
-            let other : eqb t u ≡ false = eqb_sym u t (not-true (eqb u t) (and_parts (is_listed u d) (not (eqb u t)) both).1) in
-            let w = o.owned u was in
-            (w.0, rw (same u other, get-set_other gets n (owner gets u) new (not_owner n old u h (one u ∙ other) was)) w.1, w.2);
+              let both : (is_listed u d && not (eqb u t)) ≡ true = sym (is_listed-unqueued u t d) ∙ k in
+              let was : is_listed u d ≡ true = (and_parts (is_listed u d) (not (eqb u t)) both).0 in
+              let other : eqb t u ≡ false = eqb_sym u t (not-true (eqb u t) (and_parts (is_listed u d) (not (eqb u t)) both).1) in
+              let w = o.owned u was in
+              (w.0, rw (same u other, get-set_other gets n (owner gets u) new (not_owner n old u h (one u ∙ other) was)) w.1, w.2);
           listed = λ m u g there holds.
-            elim (eqb_tells m n) [
-              | inl y ↦ absurd (here_none g m u y.1 there holds (no_new u))
-              | inr away ↦
-                  let l = o.listed m u g (sym (get-set_other gets n m new away.1) ∙ there) holds in
-                  let other : eqb u t ≡ false =
+              elim (eqb_tells m n) [
+                | inl y ↦ absurd (here_none g m u y.1 there holds (no_new u))
+                | inr away ↦
+                    let l = o.listed m u g (sym (get-set_other gets n m new away.1) ∙ there) holds in
+                    let other : eqb u t ≡ false =
                     elim (eqb_tells u t) [ inl y ↦ absurd (away.1 (sym l.1 ∙ ap (owner gets) y.1 ∙ mine)) | inr r ↦ r.0 ] in
-                  (is_listed-unqueued u t d ∙ (rw (l.0, other) refl), same u (eqb_sym u t other) ∙ l.1)
-            ]
+                    (is_listed-unqueued u t d ∙ (rw (l.0, other) refl), same u (eqb_sym u t other) ∙ l.1)
+              ];
         }
 
     -- a get joins the queue with a ticket that nobody has
@@ -185,26 +185,26 @@ module _ {V C R S : Type 0} (d : DeskState V) (gets : List (Option (Getting V C 
         let same : (u : ℕ) → eqb t u ≡ false → owner (set gets n new) u ≡ owner gets u = λ u differs. owner-set gets n old new u h (none u ∙ sym (one u ∙ differs)) in
         record {
           owned = λ u k.
-            elim (eqb_tells t u) [
-              | inl y ↦
-                  let w = holder u new (one u ∙ y.0) in
-                  (w.0, ap (slice_get (set gets n new)) (ap (owner (set gets n new)) (sym y.1) ∙ mine) ∙ get-set_same gets n old new h ∙ ap Some w.1, w.2)
-              | inr differs ↦
-                  let was : is_listed u d ≡ true =
+              elim (eqb_tells t u) [
+                | inl y ↦
+                    let w = holder u new (one u ∙ y.0) in
+                    (w.0, ap (slice_get (set gets n new)) (ap (owner (set gets n new)) (sym y.1) ∙ mine) ∙ get-set_same gets n old new h ∙ ap Some w.1, w.2)
+                | inr differs ↦
+                    let was : is_listed u d ≡ true =
                     elim (or_cases (is_listed u d) (eqb t u) (sym (is_listed-queueing u t d) ∙ k)) [ inl y ↦ y | inr y ↦ let differ : true ≡ false = sym y ∙ differs.0 in cc ] in
-                  let w = o.owned u was in
-                  (w.0, rw (same u differs.0, get-set_other gets n (owner gets u) new (not_owner n old u h (none u) was)) w.1, w.2)
-            ];
+                    let w = o.owned u was in
+                    (w.0, rw (same u differs.0, get-set_other gets n (owner gets u) new (not_owner n old u h (none u) was)) w.1, w.2)
+              ];
           listed = λ m u g there holds.
-            elim (eqb_tells m n) [
-              | inl y ↦
-                  let has : has_ticket u new ≡ true = ap (has_ticket u) (here_new g m y.1 there) ∙ holds in
-                  let is : eqb t u ≡ true = sym (one u) ∙ has in
-                  (is_listed-queueing u t d ∙ or_right (is_listed u d) (eqb t u) is, ap (owner (set gets n new)) (sym (eqb-true t u is)) ∙ mine ∙ sym y.1)
-              | inr away ↦
-                  let l = o.listed m u g (sym (get-set_other gets n m new away.1) ∙ there) holds in
-                  (is_listed-queueing u t d ∙ or_left (is_listed u d) (eqb t u) l.0, same u (listed_differs t u fresh l.0) ∙ l.1)
-            ]
+              elim (eqb_tells m n) [
+                | inl y ↦
+                    let has : has_ticket u new ≡ true = ap (has_ticket u) (here_new g m y.1 there) ∙ holds in
+                    let is : eqb t u ≡ true = sym (one u) ∙ has in
+                    (is_listed-queueing u t d ∙ or_right (is_listed u d) (eqb t u) is, ap (owner (set gets n new)) (sym (eqb-true t u is)) ∙ mine ∙ sym y.1)
+                | inr away ↦
+                    let l = o.listed m u g (sym (get-set_other gets n m new away.1) ∙ there) holds in
+                    (is_listed-queueing u t d ∙ or_left (is_listed u d) (eqb t u) l.0, same u (listed_differs t u fresh l.0) ∙ l.1)
+              ];
         }
 
     -- the owners of tickets in the queue, after each of these
@@ -233,8 +233,8 @@ module _ {V C R S : Type 0} (d : DeskState V) (gets : List (Option (Getting V C 
         → map (owner (set gets n new)) (without_number t xs) ≡ without_number n (map (owner gets) xs)
     owners-unqueued t mine one no_new xs listed =
         map_same (owner (set gets n new)) (owner gets) (without_number t xs)
-          (λ u k. owner-set gets n old new u h
-            (one u ∙ eqb_sym u t (not-true (eqb u t) (and_parts (has_number u xs) (not (eqb u t)) (sym (has_number-without u t xs) ∙ k)).1) ∙ sym (no_new u)))
+        (λ u k. owner-set gets n old new u h
+        (one u ∙ eqb_sym u t (not-true (eqb u t) (and_parts (has_number u xs) (not (eqb u t)) (sym (has_number-without u t xs) ∙ k)).1) ∙ sym (no_new u)))
         ∙ sym (without-map (owner gets) n t xs (tells t mine one xs listed))
 
     -- the owners of the others where a get joins

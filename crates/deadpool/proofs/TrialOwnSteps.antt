@@ -1,17 +1,14 @@
 -- The owner's steps of a trial: what they make in the pool, by what they did at the desk.
-use Rattle.std.proofs.Common.{◌≡◌, ◌≢◌, ℕ, ◌+◌, ◌-◌, ◌<◌, List, [], ◌∷◌, Bool, true, false, cond, not, nat_lt, ◌==◌, length, Option, Some, None, Result, Ok, Err, refl, sym, ap, ◌∙◌, subst, arith, inl, inr}
-use Rattle.std.specs.List.{filter}
+use Rattle.std.proofs.Common.{◌≡◌, ◌≢◌, ℕ, ◌-◌, ◌<◌, List, Bool, true, false, cond, not, nat_lt, ◌==◌, Option, Some, Ok, Err, refl, sym, ap, ◌∙◌, subst, arith, inl, inr}
 use Rattle.std.proofs.lemmas.Bool.Decides.{nat_tests}
 use Rattle.std.proofs.lemmas.Bool.{cases_Bool}
-use Rattle.deadpool_parts.specs.Numbers.{has_number}
 use Rattle.deadpool_parts.specs.Program.{Gives, Return, ask, ◌>>=◌}
-use Rattle.deadpool_parts.proofs.Programs.{Gives-bind}
 use Rattle.deadpool_parts.specs.declared.moment.Runtime.{Runtime}
 use Rattle.deadpool_parts.specs.declared.config.Timeouts.{Timeouts}
 use Rattle.deadpool.specs.HookLists.{HookLists}
-use Rattle.deadpool.specs.Outside.{Asking, May, Detach, Reserve}
+use Rattle.deadpool.specs.Outside.{Asking, May, Reserve}
 use Rattle.deadpool.specs.DeskState.{DeskState}
-use Rattle.deadpool.specs.DeskSteps.{Takes, Resizes, Closes, Clones, DropsHandle, Upgrades, resized as resized_core, one_handle_less}
+use Rattle.deadpool.specs.DeskSteps.{Takes, Resizes, Closes, Clones, DropsHandle, Upgrades, resized as resized_core}
 use Rattle.deadpool.specs.Stages.{Getting}
 use Rattle.deadpool.specs.Pool.{Pool}
 use Rattle.deadpool.specs.Steps.{find_slot, without_slot, resized, closed, cloned, handle_dropped, most_handles}
@@ -72,7 +69,7 @@ module _ {V E C R S F A : Type 0} (may : May V E C R S F A) (memory : (found : B
   abbrev resizing : ℕ → Bool → Bool → Asking V E C R S F A (Reply V E × Pool V C R S F A)
   resizing n none open_ =
       cond none (Return (reply.NoHandle, before)) (cond (not open_) (Return (reply.Done, before))
-        (cond (nat_lt before.reserve n) (ask Reserve >>= λ found. Return (cond found (reply.Done, resized n before) (reply.OutOfMemory, before))) (Return (reply.Done, resized n before))))
+      (cond (nat_lt before.reserve n) (ask Reserve >>= λ found. Return (cond found (reply.Done, resized n before) (reply.OutOfMemory, before))) (Return (reply.Done, resized n before))))
 
   grows : (n : ℕ) (b : Bool) → after ≡ resized n before
       → Gives {A = Reply V E × Pool V C R S F A} may (cond b (ask Reserve >>= λ found. Return (cond found (reply.Done, resized n before) (reply.OutOfMemory, before))) (Return (reply.Done, resized n before))) (reply.Done, after)
@@ -83,25 +80,27 @@ module _ {V E C R S F A : Type 0} (may : May V E C R S F A) (memory : (found : B
   pub resized_ok : (n : ℕ) → (core.handles == 0) ≡ false → Resizes core n (Ok tt) core' → Gives may (moved (move.Resize n) before) (reply.Done, after) × IsCounted core' gets out
   resized_ok n some r =
       elim (cases_Bool core.is_open) [
-          inl open_ ↦
+        | inl open_ ↦
             let is = r ∙ ap (λ b. cond b (resized_core n core) core) open_ in
             let all = resizes runtime hooks timeouts first most core core' gets out counted n is in
             (Gives-same may _ (resizing n false true) _ (ap (λ b. resizing n b core.is_open) some ∙ ap (resizing n false) open_) (grows n (nat_lt before.reserve n) all.0), all.1)
         | inr closed_ ↦
             let is : core' ≡ core = r ∙ ap (λ b. cond b (resized_core n core) core) closed_ in
-            let same : before ≡ after = ap (λ (d : DeskState V). image runtime hooks timeouts first most d gets out) (sym is) in
-            (Gives-same may _ (resizing n false false) _ (ap (λ b. resizing n b core.is_open) some ∙ ap (resizing n false) closed_) (ap (λ (q : Pool V C R S F A). (reply.Done, q)) same),
-              subst (λ (d : DeskState V). IsCounted d gets out) (sym is) counted)
+            let same : before ≡ after = ap (λ (d : DeskState V). image runtime hooks timeouts first most d gets out) (sym is) in (
+              Gives-same may _ (resizing n false false) _ (ap (λ b. resizing n b core.is_open) some ∙ ap (resizing n false) closed_) (ap (λ (q : Pool V C R S F A). (reply.Done, q)) same),
+              subst (λ (d : DeskState V). IsCounted d gets out) (sym is) counted,
+            )
       ]
 
   -- and nothing changed where memory was refused
   pub resized_err : (n : ℕ) (e : _) → (core.handles == 0) ≡ false → Resizes core n (Err e) core' → Gives may (moved (move.Resize n) before) (reply.OutOfMemory, after) × IsCounted core' gets out
   resized_err n e some r =
       let more : nat_lt before.reserve n ≡ true = grind (arith, nat_tests, r.1) in
-      let same : before ≡ after = ap (λ (d : DeskState V). image runtime hooks timeouts first most d gets out) (sym r.2) in
-      (Gives-same may _ (resizing n false true) _ (ap (λ b. resizing n b core.is_open) some ∙ ap (resizing n false) r.0)
-          (rw more (false, (memory false, ap (λ (q : Pool V C R S F A). (reply.OutOfMemory, q)) same))),
-        subst (λ (d : DeskState V). IsCounted d gets out) (sym r.2) counted)
+      let same : before ≡ after = ap (λ (d : DeskState V). image runtime hooks timeouts first most d gets out) (sym r.2) in (
+        Gives-same may _ (resizing n false true) _ (ap (λ b. resizing n b core.is_open) some ∙ ap (resizing n false) r.0)
+            (rw more (false, (memory false, ap (λ (q : Pool V C R S F A). (reply.OutOfMemory, q)) same))),
+        subst (λ (d : DeskState V). IsCounted d gets out) (sym r.2) counted,
+      )
 
   -- a step of the owner, who has a handle or not
   owned : (step : Pool V C R S F A → Reply V E × Pool V C R S F A) (b : Bool) (x : Reply V E × Pool V C R S F A) → (core.handles == 0) ≡ b → cond b (reply.NoHandle, before) (step before) ≡ x
@@ -115,9 +114,10 @@ module _ {V E C R S F A : Type 0} (may : May V E C R S F A) (memory : (found : B
 
   -- nothing has changed for one who has no handle
   unchanged : (step : Pool V C R S F A → Reply V E × Pool V C R S F A) → core.handles ≡ 0 → core' ≡ core → Gives may (Return (by_handle step before)) (reply.NoHandle, after) × IsCounted core' gets out
-  unchanged step none same =
-      (owned step true (reply.NoHandle, after) (zero_is core.handles none) (ap (λ (d : DeskState V). (reply.NoHandle, image runtime hooks timeouts first most d gets out)) (sym same)),
-        subst (λ (d : DeskState V). IsCounted d gets out) (sym same) counted)
+  unchanged step none same = (
+    owned step true (reply.NoHandle, after) (zero_is core.handles none) (ap (λ (d : DeskState V). (reply.NoHandle, image runtime hooks timeouts first most d gets out)) (sym same)),
+    subst (λ (d : DeskState V). IsCounted d gets out) (sym same) counted,
+  )
 
   cloned_ok : Clones core handle.Done core' → Gives may (moved move.Clone before) (reply.Done, after) × IsCounted core' gets out
   cloned_ok c =
@@ -148,6 +148,7 @@ module _ {V E C R S F A : Type 0} (may : May V E C R S F A) (memory : (found : B
   upgraded true u =
       let all = clones runtime hooks timeouts first most core core' gets out counted u.1 in
       (ap (λ c. cond c (reply.Upgraded false, before) (reply.Upgraded true, cloned before)) (above_zero core.handles u.0) ∙ ap (λ (q : Pool V C R S F A). (reply.Upgraded true, q)) (sym all.0), all.1)
-  upgraded false u =
-      (ap (λ c. cond c (reply.Upgraded false, before) (reply.Upgraded true, cloned before)) (zero_is core.handles u.0) ∙ ap (λ (d : DeskState V). (reply.Upgraded false, image runtime hooks timeouts first most d gets out)) (sym u.1),
-        subst (λ (d : DeskState V). IsCounted d gets out) (sym u.1) counted)
+  upgraded false u = (
+    ap (λ c. cond c (reply.Upgraded false, before) (reply.Upgraded true, cloned before)) (zero_is core.handles u.0) ∙ ap (λ (d : DeskState V). (reply.Upgraded false, image runtime hooks timeouts first most d gets out)) (sym u.1),
+    subst (λ (d : DeskState V). IsCounted d gets out) (sym u.1) counted,
+  )

@@ -1,5 +1,5 @@
 -- A retain of a trial: the objects with some numbers are kept, and the manager is told of the others.
-use Rattle.std.proofs.Common.{◌≡◌, ◌≢◌, ℕ, List, [], ◌∷◌, Bool, true, false, cond, length, ◌==◌, arith, Option, Some, None, Result, Ok, Err, refl, sym, ap, ◌∙◌, subst, inl, inr}
+use Rattle.std.proofs.Common.{◌≡◌, ◌≢◌, ℕ, List, [], ◌∷◌, Bool, true, false, cond, length, ◌==◌, arith, Option, Ok, Err, refl, sym, ap, ◌∙◌, subst, inl, inr}
 use Rattle.std.specs.List.{filter}
 use Rattle.std.specs.declared.alloc.AllocError.{AllocError}
 use Rattle.std.proofs.lemmas.Bool.Decides.{nat_tests}
@@ -12,7 +12,7 @@ use Rattle.deadpool.specs.HookLists.{HookLists}
 use Rattle.deadpool.specs.Outside.{May, Asking, Detach, Reserve}
 use Rattle.deadpool.specs.DeskState.{DeskState}
 use Rattle.deadpool.specs.Retained.{Retained}
-use Rattle.deadpool.specs.Retains.{KeepsSlot, GivesUpSlot, Reviews, Retains}
+use Rattle.deadpool.specs.Retains.{Reviews, Retains}
 use Rattle.deadpool.specs.Stages.{Getting}
 use Rattle.deadpool.specs.Pool.{Pool}
 use Rattle.deadpool.specs.Moves.{give_up, retain, retain_with}
@@ -45,9 +45,16 @@ module _ {V E C R S F A K : Type 0} (may : May V E C R S F A) (memory : (found :
       let told = tells given.0 s.value left next answered.1 given.2 in
       let later = reviewed ss next stay others r' told.1 rest in
       let no : has_number s.number kept ≡ false = sym answered.0 in
-      rw no (later.0,
-        (left, (told.0,
-          Gives-bind may (give_up kept ss) (λ vs. Return (left ∷ vs)) others removed later.1 (sym is))))
+      rw no (
+        later.0,
+        (
+          left,
+          (
+            told.0,
+            Gives-bind may (give_up kept ss) (λ vs. Return (left ∷ vs)) others removed later.1 (sym is),
+          ),
+        ),
+      )
 
   module _ (runtime : Option Runtime) (hooks : HookLists F A) (timeouts : Timeouts) (first most : ℕ)
       (core core' : DeskState V) (gets : List (Option (Getting V C R S))) (out : List (Slot V)) (counted : IsCounted core gets out) (some : (core.handles == 0) ≡ false) (r r' : K) (same : stays r) where
@@ -71,30 +78,37 @@ module _ {V E C R S F A K : Type 0} (may : May V E C R S F A) (memory : (found :
         let nothing : stay ≡ [] = ran.0 in
         let unchanged : core' ≡ core = is ∙ ap (λ (xs : List (Slot V)). let d : DeskState V = record core { idle = xs } in d) (nothing ∙ sym e) in
         let as_given : record { retained = 0; removed = [] } ≡ given =
-          ap (λ n. let x : Retained V = record { retained = n; removed = [] } in x) (sym (count ∙ ap length nothing)) ∙ ap (λ (vs : List V). let x : Retained V = record { retained = given.retained; removed = vs } in x) (sym ran.1) in
+        ap (λ n. let x : Retained V = record { retained = n; removed = [] } in x) (sym (count ∙ ap length nothing)) ∙ ap (λ (vs : List V). let x : Retained V = record { retained = given.retained; removed = vs } in x) (sym ran.1) in
         ap (λ (x : Retained V). (reply.Retained x, before)) as_given ∙ ap (λ (d : DeskState V). (reply.Retained given, image runtime hooks timeouts first most d gets out)) (sym unchanged)
     kept_some (s ∷ ss) e given stay ran count is =
         let all = reviewed (s ∷ ss) r stay given.removed r' same ran in
         let stays : filter (λ t. has_number t.number kept) core.idle ≡ stay = ap (filter (λ (t : Slot V). has_number t.number kept)) e ∙ sym all.0 in
         let gone : Gives may (give_up {E = E} {C = C} {R = R} {S = S} {F = F} {A = A} kept core.idle) given.removed = rw e all.1 in
         let as_given : record { retained = length (filter (λ t. has_number t.number kept) core.idle); removed = given.removed } ≡ given =
-          ap (λ n. let x : Retained V = record { retained = n; removed = given.removed } in x) (ap length stays ∙ sym count) in
+        ap (λ n. let x : Retained V = record { retained = n; removed = given.removed } in x) (ap length stays ∙ sym count) in
         let as_after : record before { idle = filter (λ t. has_number t.number kept) core.idle } ≡ after =
-          ap (λ (xs : List (Slot V)). let p : Pool V C R S F A = record before { idle = xs } in p) stays ∙ ap (λ (d : DeskState V). image runtime hooks timeouts first most d gets out) (sym is) in
-        rw (busy s ss) (true, (memory true,
-          Gives-bind may (give_up kept core.idle) (λ vs. Return (reply.Retained record { retained = length (filter (λ t. has_number t.number kept) core.idle); removed = vs }, record before { idle = filter (λ t. has_number t.number kept) core.idle })) given.removed (reply.Retained given, after)
-            gone (ap (λ (x : Retained V). (reply.Retained x, record before { idle = filter (λ t. has_number t.number kept) core.idle })) as_given ∙ ap (λ (p : Pool V C R S F A). (reply.Retained given, p)) as_after)))
+        ap (λ (xs : List (Slot V)). let p : Pool V C R S F A = record before { idle = xs } in p) stays ∙ ap (λ (d : DeskState V). image runtime hooks timeouts first most d gets out) (sym is) in
+        rw (busy s ss) (
+          true,
+          (
+            memory true,
+            Gives-bind may (give_up kept core.idle) (λ vs. Return (reply.Retained record { retained = length (filter (λ t. has_number t.number kept) core.idle); removed = vs }, record before { idle = filter (λ t. has_number t.number kept) core.idle })) given.removed (reply.Retained given, after)
+                gone (ap (λ (x : Retained V). (reply.Retained x, record before { idle = filter (λ t. has_number t.number kept) core.idle })) as_given ∙ ap (λ (p : Pool V C R S F A). (reply.Retained given, p)) as_after),
+          ),
+        )
 
     pub retained_ok : (given : Retained V) → Retains asks core r (Ok given) core' r' → Gives may (retain kept before) (reply.Retained given, after) × IsCounted core' gets out
-    retained_ok given ran =
-        (Gives-same may _ (retaining false (length core.idle == 0)) _ (ap (λ b. retaining b (length core.idle == 0)) some) (kept_some core.idle refl given ran.0 ran.1 ran.2 ran.3),
-          still_counted ran.0 ran.3)
+    retained_ok given ran = (
+      Gives-same may _ (retaining false (length core.idle == 0)) _ (ap (λ b. retaining b (length core.idle == 0)) some) (kept_some core.idle refl given ran.0 ran.1 ran.2 ran.3),
+      still_counted ran.0 ran.3,
+    )
 
     refused_some : (idle : List (Slot V)) → idle ≢ [] → core' ≡ core → Gives may (retaining false (length idle == 0)) (reply.OutOfMemory, after)
     refused_some [] nonempty unchanged = absurd (nonempty refl)
     refused_some (s ∷ ss) nonempty unchanged = rw (busy s ss) (false, (memory false, ap (λ (d : DeskState V). (reply.OutOfMemory, image runtime hooks timeouts first most d gets out)) (sym unchanged)))
 
     pub retained_err : (e : AllocError) → Retains asks core r (Err e) core' r' → Gives may (retain kept before) (reply.OutOfMemory, after) × IsCounted core' gets out
-    retained_err e ran =
-        (Gives-same may _ (retaining false (length core.idle == 0)) _ (ap (λ b. retaining b (length core.idle == 0)) some) (refused_some core.idle ran.0 ran.1),
-          subst (λ (d : DeskState V). IsCounted d gets out) (sym ran.1) counted)
+    retained_err e ran = (
+      Gives-same may _ (retaining false (length core.idle == 0)) _ (ap (λ b. retaining b (length core.idle == 0)) some) (refused_some core.idle ran.0 ran.1),
+      subst (λ (d : DeskState V). IsCounted d gets out) (sym ran.1) counted,
+    )

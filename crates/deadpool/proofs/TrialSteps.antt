@@ -1,5 +1,5 @@
 -- What a step of a trial keeps: the counts, and the laws that each move keeps.
-use Rattle.std.proofs.Common.{◌≡◌, ℕ, zero, suc, ◌+◌, ◌≤◌, List, [], ◌∷◌, Bool, true, false, nat_lt, ◌==◌, length, set, Option, Some, None, refl, sym, ap, ◌∙◌, subst, arith}
+use Rattle.std.proofs.Common.{◌≡◌, ℕ, ◌≤◌, List, Bool, true, false, nat_lt, ◌==◌, length, set, Option, Some, None, refl, sym, ap, ◌∙◌, arith}
 use Rattle.std.specs.List.{slice_get}
 use Rattle.std.proofs.lemmas.Bool.Decides.{nat_tests}
 use Rattle.std.proofs.Math.ListN.{length-set}
@@ -35,7 +35,7 @@ use Rattle.deadpool.proofs.Lists.{set-same}
 use Rattle.deadpool.proofs.CoreDesk.{core_desk}
 use Rattle.deadpool.proofs.Simulation.{simulates}
 use Rattle.deadpool.proofs.Cancels.{cancels}
-use Rattle.deadpool.proofs.Backs.{back_counted, backs}
+use Rattle.deadpool.proofs.Backs.{backs}
 use Rattle.deadpool.proofs.Lawful.{moved_lawful}
 
 -- whether a pool has a handle
@@ -65,7 +65,7 @@ module _ {M V E C R S F A : Type 0} (m : ManagerOf M V E C R) (f : SyncHookOf F 
     pub advances : (now : Moment) (g g' : Getting V C R S) (turn : Turn V E) (made : Made V) → slice_get gets n ≡ Some (Some g) → Makes core_desk core made core'
         → AdvancesFrom (may m f a manager) runtime hooks now g.timeouts g.stage made g'.stage turn → g'.timeouts ≡ g.timeouts
         → Gives (may m f a manager) (moved (move.Advance n now) (image runtime hooks timeouts first most core gets out)) (reply_to turn, image runtime hooks timeouts first most core' (set gets n (Some g')) (given turn out))
-          × IsCounted core' (set gets n (Some g')) (given turn out) × IsLawful (image runtime hooks timeouts first most core' (set gets n (Some g')) (given turn out))
+        × IsCounted core' (set gets n (Some g')) (given turn out) × IsLawful (image runtime hooks timeouts first most core' (set gets n (Some g')) (given turn out))
     advances now g g' turn made here makes advanced same =
         let is : record g { stage = g'.stage } ≡ g' = ap (λ (ts : Timeouts). let h : Getting V C R S = record { timeouts = ts; stage = g'.stage } in h) (sym same) in
         let all = rw is at (simulates (may m f a manager) (λ found. tt) runtime hooks timeouts first most n now core core' gets out g g'.stage turn made counted lawful here makes advanced) in
@@ -74,7 +74,7 @@ module _ {M V E C R S F A : Type 0} (m : ManagerOf M V E C R) (f : SyncHookOf F 
     -- the party n is cancelled
     pub cancelled : (g : Getting V C R S) (made : Made V) → slice_get gets n ≡ Some (Some g) → Makes core_desk core made core' → CancelsFrom (may m f a manager) g.stage made
         → Gives (may m f a manager) (moved (move.Cancel n) (image runtime hooks timeouts first most core gets out)) (reply.Cancelled, image runtime hooks timeouts first most core' (set gets n None) out)
-          × IsCounted core' (set gets n None) out × IsLawful (image runtime hooks timeouts first most core' (set gets n None) out)
+        × IsCounted core' (set gets n None) out × IsLawful (image runtime hooks timeouts first most core' (set gets n None) out)
     cancelled g made here makes gives_back =
         let all = cancels (may m f a manager) runtime hooks timeouts first most n core core' gets out g made counted lawful here makes gives_back in
         (all.0, all.1, leads_to_lawful (move.Cancel n) _ _ _ lawful all.0)
@@ -82,7 +82,7 @@ module _ {M V E C R S F A : Type 0} (m : ManagerOf M V E C R) (f : SyncHookOf F 
     -- the object with the number n has come back
     pub came_back : (slot : Slot V) (r : BackReply V) (answer : Reply V E) → find_slot n out ≡ Some slot → TakesBack core slot r core' → Gives (may m f a manager) (reply_to_back r) answer
         → Gives (may m f a manager) (moved (move.Back n) (image runtime hooks timeouts first most core gets out)) (answer, image runtime hooks timeouts first most core' gets (without_slot n out))
-          × IsLawful (image runtime hooks timeouts first most core' gets (without_slot n out))
+        × IsLawful (image runtime hooks timeouts first most core' gets (without_slot n out))
     came_back slot r answer here back given =
         let all = backs (may m f a manager) runtime hooks timeouts first most core core' gets out n slot counted here r answer back given in
         (all, leads_to_lawful (move.Back n) _ _ _ lawful all)
@@ -107,7 +107,7 @@ module _ {M V E C R S F A : Type 0} (m : ManagerOf M V E C R) (f : SyncHookOf F 
   -- a turn of the get that the party n has
   pub turned : (t : Turn V E) → turn ≡ Some t
       → Gives (may m f a manager) (moved (move.Advance n now) (image runtime hooks timeouts first most core gets out)) (reply_to t, image runtime hooks timeouts first most core' (set gets n get') (given t out))
-        × IsCounted core' (set gets n get') (given t out) × IsLawful (image runtime hooks timeouts first most core' (set gets n get') (given t out))
+      × IsCounted core' (set gets n get') (given t out) × IsLawful (image runtime hooks timeouts first most core' (set gets n get') (given t out))
   turned t is =
       let all = a_turn core_desk (may m f a manager) runtime hooks now core core' get get' turn t is advanced in
       let x = all.1.1 in

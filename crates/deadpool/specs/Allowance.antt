@@ -1,5 +1,5 @@
 -- How many idle objects one poll may still take.
-use Rattle.std.specs.Prelude.{◌≡◌, ℕ, ◌+◌, ⊤, Option, Some, None}
+use Rattle.std.specs.Prelude.{◌≡◌, ℕ, ◌+◌, ⊤, Option, Some}
 use Rattle.deadpool.specs.declared.managed.desk.Serving.TheVariants.{Object}
 use Rattle.deadpool.specs.declared.managed.desk.AgainReply.{AgainReply}
 use Rattle.deadpool.specs.declared.managed.desk.AgainReply.TheVariants.{Served}

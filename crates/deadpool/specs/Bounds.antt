@@ -1,8 +1,8 @@
 -- Why a poll over any desk ends. A get comes to an allowance after two advances at most; from there on each advance with more
 -- to do uses the allowance up, or comes nearer to the end.
-use Rattle.std.specs.Prelude.{◌≡◌, ◌⊎◌, ℕ, ◌+◌, ◌*◌, ◌<◌, ⊤, Bool, true, false, Option, Some, None}
+use Rattle.std.specs.Prelude.{◌≡◌, ◌⊎◌, ℕ, ◌+◌, ◌*◌, ◌<◌, ⊤, Bool, true, false, Some, None}
 use Rattle.deadpool.specs.declared.managed.get.Stage.{Stage}
-use Rattle.deadpool.specs.declared.managed.get.Stage.TheVariants.{Unpolled, Queued, Going, Creating, Recycling, Checking, Finished}
+use Rattle.deadpool.specs.declared.managed.get.Stage.TheVariants.{Unpolled, Queued, Going, Creating, Recycling, Checking}
 
 module _ {V C R S : Type 0} where
   -- how many advances a get is from its allowance

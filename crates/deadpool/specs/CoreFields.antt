@@ -1,5 +1,5 @@
 -- The state that the fields of a `Core` are, and what they keep.
-use Rattle.std.specs.Prelude.{ℕ, ◌+◌, ◌<◌, ◌≤◌, ◌^◌, not}
+use Rattle.std.specs.Prelude.{◌+◌, ◌<◌, ◌≤◌, ◌^◌, not}
 use Rattle.deadpool_parts.specs.Gate.{granted_tickets, waiting_tickets}
 use Rattle.deadpool.specs.DeskState.{DeskState, places}
 use Rattle.deadpool.specs.declared.managed.state.Core.TheInside.{Inside}
@@ -7,9 +7,18 @@ use Rattle.deadpool.specs.declared.managed.state.Core.TheInside.{Inside}
 module _ {T : Type 0} where
   abbrev pub state_of : Inside T → DeskState T
   state_of c = record {
-    limit = c.limit; is_open = not c.gate.is_closed; mode = c.mode; next = c.next; handles = c.handles; reserve = c.ring.capacity;
-    idle = c.ring.items; granted = granted_tickets c.gate.waiters; waiting = waiting_tickets c.gate.waiters;
-    going = c.going; creations = c.creations; outside = c.outside
+    limit = c.limit;
+    is_open = not c.gate.is_closed;
+    mode = c.mode;
+    next = c.next;
+    handles = c.handles;
+    reserve = c.ring.capacity;
+    idle = c.ring.items;
+    granted = granted_tickets c.gate.waiters;
+    waiting = waiting_tickets c.gate.waiters;
+    going = c.going;
+    creations = c.creations;
+    outside = c.outside;
   }
 
   -- no count can wrap: each place that is held has room in the ring, and each creation under way has a number

@@ -52,6 +52,8 @@ module _ {T : Type 0} where
 
   abbrev pub status_of : DeskState T → Status
   status_of d = record {
-    max_size = d.limit; size = size d;
-    available = length d.idle - pending d; waiting = min (pending d - length d.idle) largest_usize
+    max_size = d.limit;
+    size = size d;
+    available = length d.idle - pending d;
+    waiting = min (pending d - length d.idle) largest_usize;
   }

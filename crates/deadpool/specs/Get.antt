@@ -1,11 +1,11 @@
 -- One advance of a get over any desk: the step that it makes there, and what it comes to by the reply and by the answers of
 -- its manager and hooks.
-use Rattle.std.specs.Prelude.{◌≡◌, ◌≢◌, ⊤, ◌⊎◌, ℕ, Bool, true, false, not, List, [], ◌∷◌, Option, Some, None, Result, Ok, Err, if◌then◌else◌}
+use Rattle.std.specs.Prelude.{◌≡◌, ◌≢◌, ⊤, ◌⊎◌, ℕ, Bool, true, false, not, List, [], ◌∷◌, Option, Some, None, Result, Ok, Err}
 use Rattle.std.specs.declared.time.Duration.{Duration}
 use Rattle.futures.specs.declared.task.Poll.{Poll}
 use Rattle.futures.specs.declared.task.Poll.TheVariants as poll
 use Rattle.deadpool_parts.specs.Moments.{deadline_after, is_reached}
-use Rattle.deadpool_parts.specs.Program.{Gives, ask}
+use Rattle.deadpool_parts.specs.Program.{Gives}
 use Rattle.deadpool_parts.specs.declared.moment.Moment.{Moment}
 use Rattle.deadpool_parts.specs.declared.moment.Runtime.{Runtime}
 use Rattle.deadpool_parts.specs.declared.config.Timeouts.{Timeouts}
@@ -18,7 +18,6 @@ use Rattle.deadpool.specs.Outside.{May, Detach}
 use Rattle.deadpool.specs.Calls.{start}
 use Rattle.deadpool.specs.Prepare.{create, prepare, check, cannot_wait, lacks_runtime, with_value, object_of}
 use Rattle.deadpool.specs.declared.managed.slot.Slot.{Slot}
-use Rattle.deadpool.specs.declared.managed.prepare.Position.{Position}
 use Rattle.deadpool.specs.declared.managed.prepare.Verdict.{Verdict}
 use Rattle.deadpool.specs.declared.managed.prepare.Verdict.TheVariants as verdict
 use Rattle.deadpool.specs.declared.managed.prepare.Preparation.TheVariants.{PreRecycle, Recycle}
@@ -159,7 +158,7 @@ module _ {V E C R S F A : Type 0} (may : May V E C R S F A) where
   AdvancesCreation runtime now timeout None deadline (failing reply) after turn =
       ((lacks_runtime runtime timeout ≡ true) × (after ≡ Finished) × (turn ≡ ended_by NoRuntimeSpecified reply))
       ⊎ ((lacks_runtime runtime timeout ≡ false)
-          × ((x : Poll (Result V E) × C) × (Gives may (create None) x × AfterCreation now (deadline_after now timeout) x (failing reply) after turn)))
+      × ((x : Poll (Result V E) × C) × (Gives may (create None) x × AfterCreation now (deadline_after now timeout) x (failing reply) after turn)))
   AdvancesCreation runtime now timeout None deadline made after turn =
       (lacks_runtime runtime timeout ≡ false)
       × ((x : Poll (Result V E) × C) × (Gives may (create None) x × AfterCreation now (deadline_after now timeout) x made after turn))

@@ -1,8 +1,6 @@
 -- The pool in lists that a core, its gets and the objects out stand for.
-use Rattle.std.specs.Prelude.{ℕ, ◌+◌, ◌≤◌, ◌≡◌, List, [], ◌∷◌, length, map, slice_get, Option, Some, None, Bool, true, false, if◌then◌else◌, ◌==◌, ◌||◌}
+use Rattle.std.specs.Prelude.{ℕ, ◌+◌, ◌≤◌, ◌≡◌, List, [], ◌∷◌, length, map, slice_get, Option, Some, None, Bool, true, false, if◌then◌else◌, ◌==◌}
 use Rattle.std.specs.List.{filter, filter_map}
-use Rattle.deadpool_parts.specs.Numbers.{has_number}
-use Rattle.deadpool_parts.specs.declared.moment.Moment.{Moment}
 use Rattle.deadpool_parts.specs.declared.moment.Runtime.{Runtime}
 use Rattle.deadpool_parts.specs.declared.config.Timeouts.{Timeouts}
 use Rattle.deadpool.specs.HookLists.{HookLists}
@@ -67,7 +65,20 @@ module _ {V C R S : Type 0} where
 module _ {V C R S F A : Type 0} (runtime : Option Runtime) (hooks : HookLists F A) (timeouts : Timeouts) (first most : ℕ) where
   abbrev pub image : DeskState V → List (Option (Getting V C R S)) → List (Slot V) → Pool V C R S F A
   image d gets out = record {
-    limit = d.limit; is_open = d.is_open; mode = d.mode; runtime = runtime; hooks = hooks; handles = d.handles; first = first; next = d.next;
-    reserve = d.reserve; timeouts = timeouts; most_parties = most; parties = map party_of gets;
-    idle = d.idle; waiting = map (owner gets) d.waiting; granted = map (owner gets) d.granted; out = out
+    limit = d.limit;
+    is_open = d.is_open;
+    mode = d.mode;
+    runtime = runtime;
+    hooks = hooks;
+    handles = d.handles;
+    first = first;
+    next = d.next;
+    reserve = d.reserve;
+    timeouts = timeouts;
+    most_parties = most;
+    parties = map party_of gets;
+    idle = d.idle;
+    waiting = map (owner gets) d.waiting;
+    granted = map (owner gets) d.granted;
+    out = out;
   }

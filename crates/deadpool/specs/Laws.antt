@@ -1,5 +1,5 @@
 -- What is true of every state of every run.
-use Rattle.std.specs.Prelude.{ℕ, ◌≡◌, ◌++◌, ◌∷◌, [], List, ⊤, Bool, true, false, Option, Some, None, slice_get}
+use Rattle.std.specs.Prelude.{ℕ, ◌≡◌, ◌++◌, ◌∷◌, [], List, ⊤, Bool, true, false, Option, Some, slice_get}
 use Rattle.deadpool_parts.specs.Numbers.{has_number}
 use Rattle.deadpool.specs.Pool.{Pool, Party, Standing, queued}
 use Rattle.deadpool.specs.Moves.{NobodyWaits}

@@ -1,5 +1,5 @@
 -- Moves, and the runs of a managed pool.
-use Rattle.std.specs.Prelude.{◌≡◌, ℕ, zero, suc, ◌+◌, ◌<◌, ◌≤◌, Bool, true, false, List, [], ◌∷◌, ◌++◌, length, Option, Some, None, if◌then◌else◌, nat_lt, nat_le, not, ◌==◌, slice_get, unwrap_or, max}
+use Rattle.std.specs.Prelude.{◌≡◌, ℕ, ◌<◌, ◌≤◌, Bool, true, false, List, [], ◌∷◌, ◌++◌, length, Option, Some, None, if◌then◌else◌, nat_lt, nat_le, not, ◌==◌, slice_get, unwrap_or, max}
 use Rattle.std.specs.List.{filter}
 use Rattle.deadpool_parts.specs.Numbers.{has_number}
 use Rattle.deadpool_parts.specs.Program.{Return, ask, ◌>>=◌, Gives}
@@ -32,7 +32,8 @@ module _ {V E C R S F A : Type 0} where
       if nat_lt (length p.parties) p.most_parties
       then (
         reply.Started (length p.parties),
-        record p { parties = p.parties ++ Some (record { timeouts = unwrap_or timeouts p.timeouts; standing = unpolled }) ∷ [] })
+        record p { parties = p.parties ++ Some (record { timeouts = unwrap_or timeouts p.timeouts; standing = unpolled }) ∷ [] },
+      )
       else (reply.NoRoom, p)
 
   abbrev pub put_at : Option (Slot V) → ℕ → V → Pool V C R S F A → Reply V E × Pool V C R S F A

@@ -1,6 +1,5 @@
 -- What one advance of a party does, by where it stands, and what its cancelling does.
-use Rattle.std.specs.Prelude.{ℕ, ◌+◌, Bool, true, false, List, [], ◌∷◌, ◌++◌, Option, Some, None, Result, Ok, Err, if◌then◌else◌, nat_lt, not}
-use Rattle.std.specs.declared.time.Duration.{Duration}
+use Rattle.std.specs.Prelude.{ℕ, ◌+◌, Bool, true, false, [], ◌∷◌, ◌++◌, Option, Some, None, Result, Ok, Err, if◌then◌else◌, nat_lt, not}
 use Rattle.futures.specs.declared.task.Poll.{Poll}
 use Rattle.futures.specs.declared.task.Poll.TheVariants as poll
 use Rattle.deadpool_parts.specs.Moments.{deadline_after, is_reached}
@@ -16,13 +15,12 @@ use Rattle.deadpool.specs.Prepare.{create, prepare, check, cannot_wait, lacks_ru
 use Rattle.deadpool.specs.Pool.{Pool, Party, Standing, unpolled, queued, going, creating, recycling, checking, finished, prepared_at, places}
 use Rattle.deadpool.specs.Steps.{to, unqueued, removed, fail, rest, go_on, serve, with_slot}
 use Rattle.deadpool.specs.declared.managed.slot.Slot.{Slot}
-use Rattle.deadpool.specs.declared.managed.prepare.Position.{Position}
 use Rattle.deadpool.specs.declared.managed.prepare.Verdict.{Verdict}
 use Rattle.deadpool.specs.declared.managed.prepare.Verdict.TheVariants as verdict
 use Rattle.deadpool.specs.declared.managed.prepare.Prepared.{Prepared}
 use Rattle.deadpool.specs.declared.managed.prepare.Prepared.TheVariants as prepared
 use Rattle.deadpool.specs.declared.replay.moves.Reply.{Reply}
-use Rattle.deadpool.specs.declared.replay.moves.Reply.TheVariants.{NoSuch, Pending, Object, Cancelled}
+use Rattle.deadpool.specs.declared.replay.moves.Reply.TheVariants.{Pending, Object, Cancelled}
 
 module _ {V E C R S F A : Type 0} where
   -- the entry into the queue, if memory was found for it

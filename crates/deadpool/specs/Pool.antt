@@ -92,9 +92,22 @@ module _ {V C R S F A : Type 0} where
   abbrev pub opened : ℕ → QueueMode → Option Runtime → HookLists F A → Timeouts → ℕ → ℕ → Pool V C R S F A
   opened limit mode runtime hooks timeouts first most_parties =
       record {
-        limit = limit; is_open = true; mode = mode; runtime = runtime; hooks = hooks; handles = 1; first = first; next = first;
-        reserve = max 1 limit; timeouts = timeouts; most_parties = most_parties; parties = [];
-        idle = []; waiting = []; granted = []; out = []
+        limit = limit;
+        is_open = true;
+        mode = mode;
+        runtime = runtime;
+        hooks = hooks;
+        handles = 1;
+        first = first;
+        next = first;
+        reserve = max 1 limit;
+        timeouts = timeouts;
+        most_parties = most_parties;
+        parties = [];
+        idle = [];
+        waiting = [];
+        granted = [];
+        out = [];
       }
 
   abbrev pub going_count : Pool V C R S F A → ℕ
@@ -133,6 +146,8 @@ module _ {V C R S F A : Type 0} where
 
   abbrev pub status_of : Pool V C R S F A → Status
   status_of p = record {
-    max_size = p.limit; size = size p;
-    available = length p.idle - pending p; waiting = min (pending p - length p.idle) largest_usize
+    max_size = p.limit;
+    size = size p;
+    available = length p.idle - pending p;
+    waiting = min (pending p - length p.idle) largest_usize;
   }

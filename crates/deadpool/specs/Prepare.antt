@@ -1,5 +1,5 @@
 -- What an idle object passes before it is handed out, and what a creation asks.
-use Rattle.std.specs.Prelude.{ℕ, Bool, true, false, ⊤, List, drop, Option, Some, None, Result, Ok, Err, if◌then◌else◌, is_some, is_none, not, ◌&&◌}
+use Rattle.std.specs.Prelude.{Bool, ⊤, drop, Option, Some, None, Result, Ok, Err, if◌then◌else◌, is_some, is_none, not, ◌&&◌}
 use Rattle.std.specs.declared.time.Duration.{Duration}
 use Rattle.futures.specs.declared.task.Poll.{Poll}
 use Rattle.futures.specs.declared.task.Poll.TheVariants as poll

@@ -1,5 +1,5 @@
 -- How far a party is from the end of its poll.
-use Rattle.std.specs.Prelude.{ℕ, ◌+◌, length, slice_get, Option, Some, None}
+use Rattle.std.specs.Prelude.{ℕ, ◌+◌, length, slice_get, Option, Some}
 use Rattle.deadpool.specs.Pool.{Pool, Party, Standing, unpolled, queued, going, creating, recycling, checking, finished}
 
 module _ {V C R S : Type 0} where

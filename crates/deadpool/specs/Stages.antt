@@ -2,7 +2,6 @@
 use Rattle.std.specs.Prelude.{⊤}
 use Rattle.deadpool_parts.specs.declared.config.Timeouts.{Timeouts}
 use Rattle.deadpool.specs.Prepare.{IsReadyPreparation}
-use Rattle.deadpool.specs.declared.managed.slot.Slot.{Slot}
 use Rattle.deadpool.specs.declared.managed.get.Stage.{Stage}
 use Rattle.deadpool.specs.declared.managed.get.Stage.TheVariants.{Recycling, Checking}
 

@@ -1,5 +1,5 @@
 -- The steps of a managed pool that ask nobody.
-use Rattle.std.specs.Prelude.{ℕ, ◌+◌, ◌-◌, min, max, Bool, true, false, List, [], ◌∷◌, ◌++◌, length, take, drop, Option, Some, None, Result, Ok, Err, if◌then◌else◌, nat_lt, ◌==◌, slice_get, slice_set, unwrap_or}
+use Rattle.std.specs.Prelude.{ℕ, ◌+◌, ◌-◌, min, max, false, List, [], ◌∷◌, length, drop, Option, Some, None, if◌then◌else◌, nat_lt, ◌==◌, slice_set, unwrap_or}
 use Rattle.std.specs.List.{find}
 use Rattle.deadpool_parts.specs.Numbers.{without_number, largest_usize}
 use Rattle.deadpool_parts.specs.declared.errors.PoolError.{PoolError}

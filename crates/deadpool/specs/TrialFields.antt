@@ -1,5 +1,5 @@
 -- What a trial makes of a turn, and of an object that comes back.
-use Rattle.std.specs.Prelude.{◌≡◌, Bool, true, false, List, Option, Some, None, Ok, Err, ⊤}
+use Rattle.std.specs.Prelude.{◌≡◌, true, false, List, Option, Some, None, Ok, Err, ⊤}
 use Rattle.deadpool_parts.specs.declared.moment.Moment.{Moment}
 use Rattle.deadpool_parts.specs.declared.moment.Runtime.{Runtime}
 use Rattle.deadpool.specs.HookLists.{HookLists}

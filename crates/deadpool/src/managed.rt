@@ -21,7 +21,8 @@ pub use builder::PoolBuilder;
 pub use deadpool_parts::Status;
 pub use deadpool_parts::config::{PoolConfig, QueueMode, Timeouts};
 pub use deadpool_parts::errors::{
-    BuildError, ConfigError, CreatePoolError, HookError, HookResult, PoolError, RecycleError, RecycleResult, TimeoutType,
+    BuildError, ConfigError, CreatePoolError, HookError, HookResult, PoolError, RecycleError,
+    RecycleResult, TimeoutType,
 };
 pub use desk::{
     AgainReply, AskReply, BackReply, CreatedReply, Desk, EnterReply, HandleReply, Held, Serving,

@@ -13,7 +13,6 @@ module _ {Q : Type 0} {Answer : Q → Type 0} where
   ask q = Ask q (λ a. Return a)
 
   infixl 10 ◌>>=◌
-
   -- one computation after another
   abbrev pub ◌>>=◌ : {A B : Type 0} → Program Q Answer A → (A → Program Q Answer B) → Program Q Answer B
   (Return a) >>= f = f a

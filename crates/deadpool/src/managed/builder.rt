@@ -7,9 +7,7 @@ ghost use Rattle.deadpool.specs.Building.{Building, lacks_any_runtime, no_hooks}
 ghost use Rattle.deadpool_parts.specs.Timeouts.{no_timeouts};
 
 use crate::Runtime;
-use crate::managed::{
-    AsyncHook, Hook, Hooks, Manager, PoolConfig, QueueMode, SyncHook, Timeouts,
-};
+use crate::managed::{AsyncHook, Hook, Hooks, Manager, PoolConfig, QueueMode, SyncHook, Timeouts};
 use std::alloc::Global;
 use std::marker::Model;
 use std::time::Duration;
@@ -27,12 +25,8 @@ pub struct PoolBuilder<M: Manager + Drop, F: SyncHook<M> + Drop, A: AsyncHook<M>
     pub(crate) runtime: Option<Runtime>,
 }
 
-impl<M: Manager + Drop, F: SyncHook<M> + Drop, A: AsyncHook<M> + Drop, C: Drop> Model for PoolBuilder<
-    M,
-    F,
-    A,
-    C,
-> {
+impl<M: Manager + Drop, F: SyncHook<M> + Drop, A: AsyncHook<M> + Drop, C: Drop> Model
+    for PoolBuilder<M, F, A, C> {
     ghost use Rattle.deadpool.specs.Building.{Building};
 
     ghost Value = { Building M F A C };

@@ -75,8 +75,7 @@ impl<M: Manager> AsyncHook<M> for NoHook {
 
     ghost may_poll = { λ _ _ value _ answer _ left. (answer ≡ Ready (Ok tt)) × (left ≡ value) };
 
-    fn begin(&self, _value: &mut M::Type, _metrics: &Metrics) -> () {
-    }
+    fn begin(&self, _value: &mut M::Type, _metrics: &Metrics) -> () {}
 
     fn poll(
         &self,
@@ -126,11 +125,8 @@ impl<M: Manager, R: HookAnswer<M::Error>, G: Fn(&mut M::Type, &Metrics) -> R> Fn
     }
 }
 
-impl<M: Manager, R: HookAnswer<M::Error>, G: Fn(&mut M::Type, &Metrics) -> R> SyncHook<M> for FnHook<
-    M,
-    G,
-    R,
-> {
+impl<M: Manager, R: HookAnswer<M::Error>, G: Fn(&mut M::Type, &Metrics) -> R> SyncHook<M>
+    for FnHook<M, G, R> {
     ghost can_call = { λ hook. (G.IsAlwaysCallable hook.closure) × ((value : M.Type) (metrics : Metrics) (given : R) (left : M.Type) → MayLeave G.Fn hook.closure value metrics given left → M.is_ready value → M.is_ready left) };
 
     ghost may_call = { λ hook value metrics answer left. (given : R) × (MayLeave G.Fn hook.closure value metrics given left × (answer ≡ R.answer given)) };

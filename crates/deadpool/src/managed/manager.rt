@@ -16,8 +16,11 @@ use futures::task::{Context, Poll};
 /// A creation and a recycling are states that are polled; one that is dropped is given up.
 pub trait Manager {
     type Type: Drop;
+
     type Error: Drop;
+
     type Creating: Drop;
+
     type Recycling: Drop;
 
     // Holds of the values that may be handed out.
@@ -71,8 +74,7 @@ pub trait Manager {
     /// Is told of each object that its pool gives up. By default nothing is done.
     fn detach(&self, _value: &mut Self::Type)
         ensures { LeavesOrKeeps (may_detach self.now) _value.old _value.new }
-    {
-    }
+    {}
 }
 
 /// What a pool lends to its gets: its manager, its hooks, and what may serve their timeouts.

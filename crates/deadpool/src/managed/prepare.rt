@@ -231,9 +231,7 @@ fn begin_recycling<M: Manager + Drop, F: SyncHook<M> + Drop, A: AsyncHook<M> + D
     if lacks_runtime(environment.runtime, timeout) {
         return Prepared::GivenUp(slot);
     }
-    let recycling = environment
-        .manager
-        .recycle(&mut slot.value, &slot.metrics);
+    let recycling = environment.manager.recycle(&mut slot.value, &slot.metrics);
     let deadline = deadline_after(now, timeout);
     poll_recycling(slot, recycling, deadline, environment, now, cx)
 }

@@ -17,13 +17,13 @@ ghost use Rattle.deadpool_parts.specs.Numbers.{has_number};
 ghost use Rattle.deadpool.specs.Answers.{LeavesOrKeeps};
 ghost use Rattle.deadpool.specs.declared.replay.moves.Move.TheVariants as move;
 
+use crate::Moment;
 use crate::managed::desk::{BackReply, HandleReply, TakeReply};
 use crate::managed::{
     AsyncHook, BuildError, Core, Desk, Environment, GetState, Manager, Metrics, PoolBuilder,
     Retainer, Slot, SyncHook, Timeouts, Turn,
 };
 use crate::replay::{Move, Reply};
-use crate::Moment;
 use futures::task::Context;
 use std::alloc::{AllocError, Global};
 use std::marker::Model;
@@ -45,12 +45,8 @@ pub struct Trial<M: Manager + Drop, F: SyncHook<M> + Drop, A: AsyncHook<M> + Dro
     alloc: Global,
 }
 
-impl<M: Manager + Drop, F: SyncHook<M> + Drop, A: AsyncHook<M> + Drop, C: Drop> Model for Trial<
-    M,
-    F,
-    A,
-    C,
-> {
+impl<M: Manager + Drop, F: SyncHook<M> + Drop, A: AsyncHook<M> + Drop, C: Drop> Model
+    for Trial<M, F, A, C> {
     ghost use Rattle.deadpool.specs.Replay.{Replay};
 
     ghost Value = { Replay M M.Type M.Creating M.Recycling A.State F A };
@@ -62,11 +58,11 @@ impl<M: Manager + Drop, F: SyncHook<M> + Drop, A: AsyncHook<M> + Drop, C: Drop> 
     ghost view = { λ t. record { pool = image t.environment.runtime t.environment.hooks t.timeouts t.first t.most_parties t.core t.parties.items t.out.items; manager = t.environment.manager } };
 
     ghost invariant = { λ t. record {
-        counted : IsCounted t.core t.parties.items t.out.items;
-        lawful : IsLawful (image t.environment.runtime t.environment.hooks t.timeouts t.first t.most_parties t.core t.parties.items t.out.items);
-        parties : vec_len t.parties ≤ t.most_parties;
-        seats : t.most_parties ≤ vec_capacity t.parties;
-        hands : t.most_parties ≤ vec_capacity t.out
+      counted : IsCounted t.core t.parties.items t.out.items;
+      lawful : IsLawful (image t.environment.runtime t.environment.hooks t.timeouts t.first t.most_parties t.core t.parties.items t.out.items);
+      parties : vec_len t.parties ≤ t.most_parties;
+      seats : t.most_parties ≤ vec_capacity t.parties;
+      hands : t.most_parties ≤ vec_capacity t.out;
     } };
 }
 
@@ -146,8 +142,8 @@ impl<M: Manager + Drop, F: SyncHook<M> + Drop, A: AsyncHook<M> + Drop, C: Drop> 
     ) -> Result<Vec<Reply<M::Type, M::Error>>, Vec<Move<M::Type>>>
         ensures run { MatchResult result
             (λ replies. (passed : List (List (Pool M.Type M.Creating M.Recycling A.State F A)))
-                × PoolRuns (may M.Manager F.SyncHook A.AsyncHook self.old.manager) self.old.pool moves.items passed replies.items self.new.pool
-                × Each NobodyWaits (all_states self.old.pool passed) × Neighbours WithinReach (all_states self.old.pool passed))
+            × PoolRuns (may M.Manager F.SyncHook A.AsyncHook self.old.manager) self.old.pool moves.items passed replies.items self.new.pool
+            × Each NobodyWaits (all_states self.old.pool passed) × Neighbours WithinReach (all_states self.old.pool passed))
             (λ refused. (refused ≡ moves) × (self.new ≡ self.old)) }
         ensures manager { self.new.manager ≡ self.old.manager }
         ensures kept { Keeps cx.old cx.new }
@@ -202,7 +198,12 @@ impl<M: Manager + Drop, F: SyncHook<M> + Drop, A: AsyncHook<M> + Drop, C: Drop> 
         Reply::Started(party)
     }
 
-    fn advance(&mut self, party: usize, now: Moment, cx: &mut Context<'_>) -> Reply<M::Type, M::Error>
+    fn advance(
+        &mut self,
+        party: usize,
+        now: Moment,
+        cx: &mut Context<'_>,
+    ) -> Reply<M::Type, M::Error>
         ensures made { Gives (may M.Manager F.SyncHook A.AsyncHook self.old.manager) (moved (move.Advance party now) self.old.pool) (result, self.new.pool) }
         ensures falls { result ≡ Reply.More → rank_at party self.new.pool < rank_at party self.old.pool }
         ensures manager { self.new.manager ≡ self.old.manager }

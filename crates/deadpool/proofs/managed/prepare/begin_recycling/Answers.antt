@@ -11,5 +11,5 @@ returns-clause-gives g c =
     let begun = c.recycle-recycling in
     let served : lacks_runtime env.runtime c.args.timeout ≡ false = cc in
     let until : Option Moment → Type 0 = λ deadline. Gives (may g.M.Manager g.F.SyncHook g.A.AsyncHook env.manager)
-      (poll_recycling c.args.now env.hooks deadline begun.result (with_value begun.new.value c.args.slot)) c.poll_recycling.result in
+    (poll_recycling c.args.now env.hooks deadline begun.result (with_value begun.new.value c.args.slot)) c.poll_recycling.result in
     rw served ((begun.result, begun.new.value), (begun.ensures, subst until c.deadline_after-deadline.ensures c.poll_recycling.ensures.gives))

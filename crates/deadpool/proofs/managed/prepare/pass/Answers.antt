@@ -13,7 +13,7 @@ returns-in-Ready-Err-clause-gives g c =
     let given = rw c.take-started.ensures.value at a.ensures.gives in
     l.invariant.goes _
     (turn (may_hook g.F.SyncHook g.A.AsyncHook) c.args.metrics.now c.args.hooks.now l.accepted c.index-hooks-accepted.result l.begun l.value _ _
-      c.loop-accepted-test.true c.index-hooks-accepted.is given (rw is refl))
+    c.loop-accepted-test.true c.index-hooks-accepted.is given (rw is refl))
 
 pub returns-in-Pending-clause-gives : goal.returns-in-Pending-clause-gives
 returns-in-Pending-clause-gives g c =
@@ -23,7 +23,7 @@ returns-in-Pending-clause-gives g c =
     let given = rw c.take-started.ensures.value at a.ensures.gives in
     l.invariant.goes _
     (turn (may_hook g.F.SyncHook g.A.AsyncHook) c.args.metrics.now c.args.hooks.now l.accepted c.index-hooks-accepted.result l.begun l.value _ _
-      c.loop-accepted-test.true c.index-hooks-accepted.is given (rw is refl))
+    c.loop-accepted-test.true c.index-hooks-accepted.is given (rw is refl))
 
 pub loop-accepted-preserved-in-Ready-Ok : goal.loop-accepted-preserved-in-Ready-Ok
 loop-accepted-preserved-in-Ready-Ok g c =
@@ -35,8 +35,8 @@ loop-accepted-preserved-in-Ready-Ok g c =
       ready = λ before. a.ensures.ready (l.invariant.ready before);
       kept = λ fact h. a.ensures.kept fact (l.invariant.kept fact h);
       goes = λ outcome rest. l.invariant.goes outcome
-        (turn (may_hook g.F.SyncHook g.A.AsyncHook) c.args.metrics.now c.args.hooks.now l.accepted c.index-hooks-accepted.result l.begun l.value _ outcome
-          c.loop-accepted-test.true c.index-hooks-accepted.is given (rw is (rw c.take-started.ensures.after at rest)))
+          (turn (may_hook g.F.SyncHook g.A.AsyncHook) c.args.metrics.now c.args.hooks.now l.accepted c.index-hooks-accepted.result l.begun l.value _ outcome
+          c.loop-accepted-test.true c.index-hooks-accepted.is given (rw is (rw c.take-started.ensures.after at rest)));
     }
 
 pub loop-accepted-preserved : goal.loop-accepted-preserved
@@ -49,8 +49,8 @@ loop-accepted-preserved g c =
       ready = λ before. a.ensures.ready (l.invariant.ready before);
       kept = λ fact h. a.ensures.kept fact (l.invariant.kept fact h);
       goes = λ outcome rest. l.invariant.goes outcome
-        (turn (may_hook g.F.SyncHook g.A.AsyncHook) c.args.metrics.now c.args.hooks.now l.accepted c.index-hooks-accepted.result l.begun l.value _ outcome
-          c.loop-accepted-test.true c.index-hooks-accepted.is given (rw is (rw c.take-started.ensures.after at rest)))
+          (turn (may_hook g.F.SyncHook g.A.AsyncHook) c.args.metrics.now c.args.hooks.now l.accepted c.index-hooks-accepted.result l.begun l.value _ outcome
+          c.loop-accepted-test.true c.index-hooks-accepted.is given (rw is (rw c.take-started.ensures.after at rest)));
     }
 
 pub returns-clause-gives : goal.returns-clause-gives

@@ -1,4 +1,4 @@
-use Rattle.std.proofs.Common.{◌≡◌, ◌∙◌, ap, sym, Ok, Err, true, false, refl}
+use Rattle.std.proofs.Common.{◌≡◌, ◌∙◌, ap, Ok, Err, true, false, refl}
 use Rattle.futures.specs.declared.task.Poll.TheVariants.{Ready, Pending}
 use Rattle.deadpool_parts.specs.Moments.{is_reached}
 use Rattle.deadpool.proofs.managed.prepare.poll_recycling.Goals as goal

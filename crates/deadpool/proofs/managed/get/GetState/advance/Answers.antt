@@ -1,6 +1,6 @@
 use Rattle.std.proofs.Common.{◌≡◌, rules, refl, Some, None}
 use Rattle.deadpool.specs.Get.{no_step, asking, going_on}
-use Rattle.deadpool.specs.declared.managed.get.Stage.TheVariants.{Unpolled, Queued, Going, Creating, Recycling, Checking, Finished}
+use Rattle.deadpool.specs.declared.managed.get.Stage.TheVariants.{Queued, Going, Creating, Recycling, Finished}
 use Rattle.deadpool.proofs.Polls.{new_object_falls}
 use Rattle.deadpool.proofs.managed.get.GetState.advance.Goals as goal
 

@@ -13,12 +13,20 @@ returns-in-Pending-clause-advanced g c =
 
 pub returns-in-Done-clause-advanced : goal.returns-in-Done-clause-advanced
 returns-in-Done-clause-advanced g c =
-    let done : c.refused.result ≡ Done = cc in
-    (refusing c.refused.result, (c.refused.ensures,
-      ((c.check.result, c.check.new.slot.value), (c.check.ensures.gives, rw (c.in-Refused.is, done) ((c.detach.new._value, c.detach.ensures), c.requires.finished, refl)))))
+    let done : c.refused.result ≡ Done = cc in (
+      refusing c.refused.result,
+      (
+        c.refused.ensures,
+        ((c.check.result, c.check.new.slot.value), (c.check.ensures.gives, rw (c.in-Refused.is, done) ((c.detach.new._value, c.detach.ensures), c.requires.finished, refl))),
+      ),
+    )
 
 pub returns-clause-advanced : goal.returns-clause-advanced
 returns-clause-advanced g c =
-    let unknown : c.refused.result ≡ Unknown = cc in
-    (refusing c.refused.result, (c.refused.ensures,
-      ((c.check.result, c.check.new.slot.value), (c.check.ensures.gives, rw (c.in-Refused.is, unknown) (tt, c.requires.finished, refl)))))
+    let unknown : c.refused.result ≡ Unknown = cc in (
+      refusing c.refused.result,
+      (
+        c.refused.ensures,
+        ((c.check.result, c.check.new.slot.value), (c.check.ensures.gives, rw (c.in-Refused.is, unknown) (tt, c.requires.finished, refl))),
+      ),
+    )

@@ -1,4 +1,4 @@
-use Rattle.std.proofs.Common.{◌≡◌, ◌∙◌, sym, subst, inl, Option, None, refl}
+use Rattle.std.proofs.Common.{◌∙◌, sym, subst, inl, Option, None, refl}
 use Rattle.deadpool.specs.Get.{failing, AfterCreation}
 use Rattle.deadpool_parts.specs.declared.moment.Moment.{Moment}
 use Rattle.deadpool.proofs.Polls.{begins}
@@ -17,8 +17,12 @@ returns-clause-advanced g c =
     let p = c.poll_create-answer in
     let follows : Option Moment → Type 0 = λ deadline. AfterCreation c.args.now deadline (p.result, p.new.creating) after.0 c.after_creation.new.self.stage c.after_creation.result in
     let served = sym c.lacks_runtime.ensures ∙ c.if-lacks_runtime.false in
-    rw (← c.self.view_is)
-    (after.0, (after.1.0,
-      begins (may g.M.Manager g.F.SyncHook g.A.AsyncHook c.args.environment.now.manager) c.args.environment.now.runtime c.args.now c.self.inside.timeouts.create None (p.result, p.new.creating) after.0 _ _ served
-        (c.create-state.result, (c.create-state.ensures, ((p.result, p.new.creating), (p.ensures.answer, refl))))
-        (subst follows c.deadline_after-deadline.ensures after.1.1)))
+    rw (← c.self.view_is) (
+      after.0,
+      (
+        after.1.0,
+        begins (may g.M.Manager g.F.SyncHook g.A.AsyncHook c.args.environment.now.manager) c.args.environment.now.runtime c.args.now c.self.inside.timeouts.create None (p.result, p.new.creating) after.0 _ _ served
+            (c.create-state.result, (c.create-state.ensures, ((p.result, p.new.creating), (p.ensures.answer, refl))))
+            (subst follows c.deadline_after-deadline.ensures after.1.1),
+      ),
+    )

@@ -1,7 +1,6 @@
-use Rattle.std.proofs.Common.{◌≡◌, refl}
+use Rattle.std.proofs.Common.{refl}
 use Rattle.deadpool.specs.Get.{no_step, cancelling}
 use Rattle.deadpool.specs.declared.managed.desk.Held.TheVariants as held
-use Rattle.deadpool.specs.declared.managed.get.Stage.TheVariants.{Unpolled, Queued, Going, Creating, Recycling, Checking, Finished}
 use Rattle.deadpool.proofs.managed.get.GetState.cancel.Goals as goal
 
 pub returns-in-Unpolled : goal.returns-in-Unpolled

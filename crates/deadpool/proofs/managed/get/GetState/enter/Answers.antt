@@ -1,4 +1,4 @@
-use Rattle.std.proofs.Common.{◌≡◌, ◌∙◌, ap, sym, not, refl}
+use Rattle.std.proofs.Common.{◌∙◌, ap, sym, not, refl}
 use Rattle.deadpool.specs.Get.{no_step, entering}
 use Rattle.deadpool.proofs.managed.get.GetState.enter.Goals as goal
 
@@ -10,7 +10,10 @@ returns-then-cannot_wait-clause-advanced g c =
 pub returns-clause-advanced : goal.returns-clause-advanced
 returns-clause-advanced g c =
     let deadline = c.deadline_after-deadline.ensures in
-    rw (← c.self.view_is)
-    (entering (not c.is_reached.result) c.enter-reply.result,
-      (c.enter-reply.ensures,
-        (sym c.cannot_wait.ensures ∙ c.if-cannot_wait.false, ap not (rw deadline at c.is_reached.ensures), rw deadline at c.after_entered.ensures.after)))
+    rw (← c.self.view_is) (
+      entering (not c.is_reached.result) c.enter-reply.result,
+      (
+        c.enter-reply.ensures,
+        (sym c.cannot_wait.ensures ∙ c.if-cannot_wait.false, ap not (rw deadline at c.is_reached.ensures), rw deadline at c.after_entered.ensures.after),
+      ),
+    )

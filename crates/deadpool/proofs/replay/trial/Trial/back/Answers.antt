@@ -32,7 +32,7 @@ invariant_of-self-in-Some g c =
     let here : find_slot c.args.number f.out.items ≡ Some c.in-Some.slot = sym c.take_out.ensures.slot ∙ c.in-Some.is in
     let counts = back_counted f.core c.back-reply.new.self f.parties.items f.out.items c.args.number c.in-Some.slot c.self.invariant.counted here c.back-reply.result c.back-reply.ensures in
     let all = came_back g.M.Manager g.F.SyncHook g.A.AsyncHook e.manager e.runtime e.hooks f.timeouts f.first f.most_parties f.core c.back-reply.new.self f.parties.items f.out.items
-      c.self.invariant.counted c.self.invariant.lawful c.args.number c.in-Some.slot c.back-reply.result c.after_back.result here c.back-reply.ensures c.after_back.ensures in
+    c.self.invariant.counted c.self.invariant.lawful c.args.number c.in-Some.slot c.back-reply.result c.after_back.result here c.back-reply.ensures c.after_back.ensures in
     rw c.take_out.ensures.out record { counted = counts.0; lawful = all.1; parties = c.self.invariant.parties; seats = c.self.invariant.seats; hands = rw c.take_out.ensures.capacity c.self.invariant.hands }
 
 pub returns-in-Some-clause-made : goal.returns-in-Some-clause-made
@@ -41,5 +41,5 @@ returns-in-Some-clause-made g c =
     let e = f.environment in
     let here : find_slot c.args.number f.out.items ≡ Some c.in-Some.slot = sym c.take_out.ensures.slot ∙ c.in-Some.is in
     let all = came_back g.M.Manager g.F.SyncHook g.A.AsyncHook e.manager e.runtime e.hooks f.timeouts f.first f.most_parties f.core c.back-reply.new.self f.parties.items f.out.items
-      c.self.invariant.counted c.self.invariant.lawful c.args.number c.in-Some.slot c.back-reply.result c.after_back.result here c.back-reply.ensures c.after_back.ensures in
+    c.self.invariant.counted c.self.invariant.lawful c.args.number c.in-Some.slot c.back-reply.result c.after_back.result here c.back-reply.ensures c.after_back.ensures in
     rw (← c.self.view_is, c.take_out.ensures.out) all.0

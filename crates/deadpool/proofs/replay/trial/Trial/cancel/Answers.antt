@@ -1,4 +1,4 @@
-use Rattle.std.proofs.Common.{◌≡◌, ◌∙◌, ◌<◌, ◌≤◌, Some, None, length, vec_len, vec_capacity, arith, rules, map, set, refl, ap, sym}
+use Rattle.std.proofs.Common.{◌≡◌, ◌∙◌, Some, None, length, vec_len, arith, rules, map, refl, ap, sym}
 use Rattle.std.specs.List.{slice_get}
 use Rattle.std.proofs.lemmas.List.{length-map}
 use Rattle.std.proofs.lemmas.Option.{slice_get_read, slice_get_past, slice_get-map}
@@ -14,7 +14,7 @@ returns-then-party-len-clause-made g c =
     let len : vec_len f.parties ≡ length f.parties.items = search rules in
     let same = length-map f.parties.items party_of in
     let past : slice_get (map party_of f.parties.items) c.args.party ≡ None =
-      slice_get_past (map party_of f.parties.items) c.args.party (omega (arith, len, same, c.len.ensures, c.if-party-len.true)) in
+    slice_get_past (map party_of f.parties.items) c.args.party (omega (arith, len, same, c.len.ensures, c.if-party-len.true)) in
     rw (← c.self.view_is) (rw past refl)
 
 pub invariant_of-self : goal.invariant_of-self
@@ -22,7 +22,7 @@ invariant_of-self g c =
     let f = c.self.inside in
     let len : vec_len f.parties ≡ length f.parties.items = search rules in
     let here : slice_get f.parties.items c.args.party ≡ Some c.index_mut.result.now =
-      slice_get_read f.parties.items (length f.parties.items) c.args.party c.index_mut.result.now refl (omega (arith, len, c.len.ensures, c.if-party-len.false)) c.index_mut.ensures.value in
+    slice_get_read f.parties.items (length f.parties.items) c.args.party c.index_mut.result.now refl (omega (arith, len, c.len.ensures, c.if-party-len.false)) c.index_mut.ensures.value in
     let none : slice_get f.parties.items c.args.party ≡ Some None = here ∙ ap Some (sym c.take.ensures.value ∙ c.in-None.is) in
     let same = set-same f.parties.items c.args.party None none in
     rw (c.take.ensures.after, same) record { counted = c.self.invariant.counted; lawful = c.self.invariant.lawful; parties = c.self.invariant.parties; seats = c.self.invariant.seats; hands = c.self.invariant.hands }
@@ -32,7 +32,7 @@ returns-in-None-clause-made g c =
     let f = c.self.inside in
     let len : vec_len f.parties ≡ length f.parties.items = search rules in
     let here : slice_get f.parties.items c.args.party ≡ Some c.index_mut.result.now =
-      slice_get_read f.parties.items (length f.parties.items) c.args.party c.index_mut.result.now refl (omega (arith, len, c.len.ensures, c.if-party-len.false)) c.index_mut.ensures.value in
+    slice_get_read f.parties.items (length f.parties.items) c.args.party c.index_mut.result.now refl (omega (arith, len, c.len.ensures, c.if-party-len.false)) c.index_mut.ensures.value in
     let gone : slice_get f.parties.items c.args.party ≡ Some None = here ∙ ap Some (sym c.take.ensures.value ∙ c.in-None.is) in
     let same = set-same f.parties.items c.args.party None gone in
     let none : slice_get (map party_of f.parties.items) c.args.party ≡ Some None = slice_get-map party_of f.parties.items c.args.party ∙ ap (option_map party_of) gone in
@@ -44,10 +44,10 @@ invariant_of-self-in-Some g c =
     let e = f.environment in
     let len : vec_len f.parties ≡ length f.parties.items = search rules in
     let here : slice_get f.parties.items c.args.party ≡ Some c.index_mut.result.now =
-      slice_get_read f.parties.items (length f.parties.items) c.args.party c.index_mut.result.now refl (omega (arith, len, c.len.ensures, c.if-party-len.false)) c.index_mut.ensures.value in
+    slice_get_read f.parties.items (length f.parties.items) c.args.party c.index_mut.result.now refl (omega (arith, len, c.len.ensures, c.if-party-len.false)) c.index_mut.ensures.value in
     let made = c.cancel.ensures in
     let all = cancelled g.M.Manager g.F.SyncHook g.A.AsyncHook e.manager e.runtime e.hooks f.timeouts f.first f.most_parties f.core c.cancel.new.desk f.parties.items f.out.items
-      c.self.invariant.counted c.self.invariant.lawful c.args.party c.in-Some.state made.0 (here ∙ ap Some (sym c.take.ensures.value ∙ c.in-Some.is)) made.1.0 made.1.1 in
+    c.self.invariant.counted c.self.invariant.lawful c.args.party c.in-Some.state made.0 (here ∙ ap Some (sym c.take.ensures.value ∙ c.in-Some.is)) made.1.0 made.1.1 in
     rw c.take.ensures.after record { counted = all.1; lawful = all.2; parties = c.self.invariant.parties; seats = c.self.invariant.seats; hands = c.self.invariant.hands }
 
 pub returns-in-Some-clause-made : goal.returns-in-Some-clause-made
@@ -56,8 +56,8 @@ returns-in-Some-clause-made g c =
     let e = f.environment in
     let len : vec_len f.parties ≡ length f.parties.items = search rules in
     let here : slice_get f.parties.items c.args.party ≡ Some c.index_mut.result.now =
-      slice_get_read f.parties.items (length f.parties.items) c.args.party c.index_mut.result.now refl (omega (arith, len, c.len.ensures, c.if-party-len.false)) c.index_mut.ensures.value in
+    slice_get_read f.parties.items (length f.parties.items) c.args.party c.index_mut.result.now refl (omega (arith, len, c.len.ensures, c.if-party-len.false)) c.index_mut.ensures.value in
     let made = c.cancel.ensures in
     let all = cancelled g.M.Manager g.F.SyncHook g.A.AsyncHook e.manager e.runtime e.hooks f.timeouts f.first f.most_parties f.core c.cancel.new.desk f.parties.items f.out.items
-      c.self.invariant.counted c.self.invariant.lawful c.args.party c.in-Some.state made.0 (here ∙ ap Some (sym c.take.ensures.value ∙ c.in-Some.is)) made.1.0 made.1.1 in
+    c.self.invariant.counted c.self.invariant.lawful c.args.party c.in-Some.state made.0 (here ∙ ap Some (sym c.take.ensures.value ∙ c.in-Some.is)) made.1.0 made.1.1 in
     rw (← c.self.view_is, c.take.ensures.after) all.0

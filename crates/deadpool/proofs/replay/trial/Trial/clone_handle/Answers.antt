@@ -1,7 +1,6 @@
-use Rattle.std.proofs.Common.{◌≡◌, refl}
 use Rattle.deadpool.specs.Outside.{may}
 use Rattle.deadpool.specs.declared.replay.moves.Move.TheVariants as move
-use Rattle.deadpool.proofs.TrialSteps.{leads_to_lawful, some_handle, no_handle}
+use Rattle.deadpool.proofs.TrialSteps.{leads_to_lawful}
 use Rattle.deadpool.proofs.TrialOwnSteps.{cloned_handle}
 use Rattle.deadpool.proofs.replay.trial.Trial.clone_handle.Goals as goal
 

@@ -1,4 +1,4 @@
-use Rattle.std.proofs.Common.{◌≡◌, refl}
+use Rattle.std.proofs.Common.{refl}
 use Rattle.deadpool.specs.Outside.{may}
 use Rattle.deadpool.specs.declared.replay.moves.Move.TheVariants as move
 use Rattle.deadpool.proofs.TrialSteps.{leads_to_lawful, some_handle, no_handle}
@@ -17,7 +17,7 @@ invariant_of-self g c =
     let e = f.environment in
     let some = some_handle c.has_handle.result f.core.handles c.has_handle.ensures c.if-not-has_handle.false in
     elim c.match-resize.branch [
-        in-Ok w ↦
+      | in-Ok w ↦
           let all = resized_ok (may g.M.Manager g.F.SyncHook g.A.AsyncHook e.manager) (λ found. tt) e.runtime e.hooks f.timeouts f.first f.most_parties f.core c.resize.new.self f.parties.items f.out.items c.self.invariant.counted c.args.limit some (rw w.in-Ok.is at c.resize.ensures) in
           record { counted = all.1; lawful = leads_to_lawful g.M.Manager g.F.SyncHook g.A.AsyncHook e.manager e.runtime e.hooks f.timeouts f.first f.most_parties (move.Resize c.args.limit) _ _ _ c.self.invariant.lawful all.0; parties = c.self.invariant.parties; seats = c.self.invariant.seats; hands = c.self.invariant.hands }
       | in-Err w ↦
@@ -31,6 +31,6 @@ returns-clause-made g c =
     let e = f.environment in
     let some = some_handle c.has_handle.result f.core.handles c.has_handle.ensures c.if-not-has_handle.false in
     elim c.match-resize.branch [
-        in-Ok w ↦ rw (← c.self.view_is, w.result-is) (resized_ok (may g.M.Manager g.F.SyncHook g.A.AsyncHook e.manager) (λ found. tt) e.runtime e.hooks f.timeouts f.first f.most_parties f.core c.resize.new.self f.parties.items f.out.items c.self.invariant.counted c.args.limit some (rw w.in-Ok.is at c.resize.ensures)).0
+      | in-Ok w ↦ rw (← c.self.view_is, w.result-is) (resized_ok (may g.M.Manager g.F.SyncHook g.A.AsyncHook e.manager) (λ found. tt) e.runtime e.hooks f.timeouts f.first f.most_parties f.core c.resize.new.self f.parties.items f.out.items c.self.invariant.counted c.args.limit some (rw w.in-Ok.is at c.resize.ensures)).0
       | in-Err w ↦ rw (← c.self.view_is, w.result-is) (resized_err (may g.M.Manager g.F.SyncHook g.A.AsyncHook e.manager) (λ found. tt) e.runtime e.hooks f.timeouts f.first f.most_parties f.core c.resize.new.self f.parties.items f.out.items c.self.invariant.counted c.args.limit w.in-Err.field-0 some (rw w.in-Err.is at c.resize.ensures)).0
     ]

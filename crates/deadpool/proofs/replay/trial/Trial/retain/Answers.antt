@@ -16,13 +16,13 @@ invariant_of-self g c =
     let f = c.self.inside in
     let e = f.environment in
     let asks : RetainerOf (Keeping g.row.M.Denot) g.row.M-Type.Denot = record {
-        can_call = λ q. ⊤;
-        may_keep = λ q number value metrics answer left. (answer ≡ has_number number q.kept.now) × (left ≡ q);
-        may_detach = λ q value left after. LeavesOrKeeps (g.M.Manager.may_detach q.manager.now) value left × (after ≡ q)
-      } in
+      can_call = λ q. ⊤;
+      may_keep = λ q number value metrics answer left. (answer ≡ has_number number q.kept.now) × (left ≡ q);
+      may_detach = λ q value left after. LeavesOrKeeps (g.M.Manager.may_detach q.manager.now) value left × (after ≡ q);
+    } in
     let some = some_handle c.has_handle.result f.core.handles c.has_handle.ensures c.if-not-has_handle.false in
     elim c.match-retain.branch [
-        in-Ok w ↦
+      | in-Ok w ↦
           let all = retained_ok (may g.M.Manager g.F.SyncHook g.A.AsyncHook e.manager) (λ found. tt) asks c.args.kept.now.items (λ q. q ≡ _) (λ q slot answer left is a. (rw (is, c.as_slice.ensures.value) at a.0, a.1 ∙ is)) (λ q value left after is a. (rw is at a.0, a.1 ∙ is)) e.runtime e.hooks f.timeouts f.first f.most_parties f.core c.retain.new.self f.parties.items f.out.items c.self.invariant.counted some _ c.retain.new.retainer refl w.in-Ok.retained (rw w.in-Ok.is at c.retain.ensures.retained) in
           record { counted = all.1; lawful = leads_to_lawful g.M.Manager g.F.SyncHook g.A.AsyncHook e.manager e.runtime e.hooks f.timeouts f.first f.most_parties (move.Retain c.args.kept.now) _ _ _ c.self.invariant.lawful all.0; parties = c.self.invariant.parties; seats = c.self.invariant.seats; hands = c.self.invariant.hands }
       | in-Err w ↦
@@ -35,13 +35,13 @@ returns-clause-made g c =
     let f = c.self.inside in
     let e = f.environment in
     let asks : RetainerOf (Keeping g.row.M.Denot) g.row.M-Type.Denot = record {
-        can_call = λ q. ⊤;
-        may_keep = λ q number value metrics answer left. (answer ≡ has_number number q.kept.now) × (left ≡ q);
-        may_detach = λ q value left after. LeavesOrKeeps (g.M.Manager.may_detach q.manager.now) value left × (after ≡ q)
-      } in
+      can_call = λ q. ⊤;
+      may_keep = λ q number value metrics answer left. (answer ≡ has_number number q.kept.now) × (left ≡ q);
+      may_detach = λ q value left after. LeavesOrKeeps (g.M.Manager.may_detach q.manager.now) value left × (after ≡ q);
+    } in
     let some = some_handle c.has_handle.result f.core.handles c.has_handle.ensures c.if-not-has_handle.false in
     elim c.match-retain.branch [
-        in-Ok w ↦
+      | in-Ok w ↦
           let all = retained_ok (may g.M.Manager g.F.SyncHook g.A.AsyncHook e.manager) (λ found. tt) asks c.args.kept.now.items (λ q. q ≡ _) (λ q slot answer left is a. (rw (is, c.as_slice.ensures.value) at a.0, a.1 ∙ is)) (λ q value left after is a. (rw is at a.0, a.1 ∙ is)) e.runtime e.hooks f.timeouts f.first f.most_parties f.core c.retain.new.self f.parties.items f.out.items c.self.invariant.counted some _ c.retain.new.retainer refl w.in-Ok.retained (rw w.in-Ok.is at c.retain.ensures.retained) in
           rw (← c.self.view_is, w.result-is) all.0
       | in-Err w ↦

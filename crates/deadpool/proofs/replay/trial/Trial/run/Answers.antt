@@ -1,4 +1,4 @@
-use Rattle.std.proofs.Common.{rules, ◌≡◌, ◌≤◌, List, [], ◌∷◌, ◌++◌, length, vec_len, vec_capacity, arith, refl, sym, subst, ◌∙◌, append_assoc, append-nil, ◌+◌, ap}
+use Rattle.std.proofs.Common.{rules, ◌≡◌, List, [], ◌∷◌, length, vec_len, arith, refl, subst, ◌∙◌, append_assoc, append-nil, ◌+◌, ap}
 use Rattle.std.specs.Vec.Iter.{into_iter_items, into_iter_len}
 use Rattle.deadpool.specs.Laws.{IsLawful}
 use Rattle.deadpool.specs.Outside.{may}
@@ -23,7 +23,7 @@ loop-first-init g c =
       kept = λ fact h. h;
       left = rw (gives.0, gives.1) len;
       room = omega (arith, gives.1, c.in-Ok.ensures.len, c.in-Ok.ensures.capacity, c.len.ensures);
-      goes = λ passed answers after rest. rw (c.in-Ok.ensures.items) (passed, rw gives.0 at rest)
+      goes = λ passed answers after rest. rw (c.in-Ok.ensures.items) (passed, rw gives.0 at rest);
     }
 
 pub append-requires : goal.append-requires
@@ -41,10 +41,10 @@ loop-first-preserved g c =
       left = one_less (into_iter_items l.first-iterator) (into_iter_items c.next.new.self) c.in-Some.first _ _ l.invariant.left steps.0 steps.1;
       room = omega (arith, l.invariant.room, steps.1, c.append.ensures.len, c.append.ensures.capacity);
       goes = λ passed answers after rest.
-        rw (c.append.ensures.items, append_assoc)
-        (l.invariant.goes (made.0 ∷ passed) (c.make-reply.result ∷ answers) after
+          rw (c.append.ensures.items, append_assoc)
+          (l.invariant.goes (made.0 ∷ passed) (c.make-reply.result ∷ answers) after
           (runs_more (may g.M.Manager g.F.SyncHook g.A.AsyncHook c.args.self.now.manager) l.self.pool c.make-reply.new.self.pool after c.in-Some.first (into_iter_items c.next.new.self) (into_iter_items l.first-iterator)
-            c.make-reply.result answers made.0 passed steps.0 (subst by l.invariant.manager made.1) made.2 rest))
+          c.make-reply.result answers made.0 passed steps.0 (subst by l.invariant.manager made.1) made.2 rest));
     }
 
 pub returns-clause-run : goal.returns-clause-run

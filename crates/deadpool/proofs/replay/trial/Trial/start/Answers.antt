@@ -1,4 +1,4 @@
-use Rattle.std.proofs.Common.{◌≡◌, ◌∙◌, ◌==◌, nat_lt, true, false, rules, ◌<◌, ◌≤◌, ◌∷◌, [], ◌++◌, Some, length, vec_len, vec_capacity, arith, refl, sym, ap, map}
+use Rattle.std.proofs.Common.{◌≡◌, nat_lt, true, false, rules, ◌∷◌, [], ◌++◌, Some, length, vec_len, arith, refl, map}
 use Rattle.std.proofs.lemmas.Bool.{lt-ltb, le-ltb}
 use Rattle.std.proofs.lemmas.List.{length-map}
 use Rattle.std.specs.Option.{unwrap_or}
@@ -51,11 +51,11 @@ invariant_of-self g c =
     let pool = image e.runtime e.hooks f.timeouts f.first f.most_parties f.core f.parties.items f.out.items in
     let begun = record pool { parties = pool.parties ++ Some (record { timeouts = unwrap_or c.args.timeouts f.timeouts; standing = unpolled }) ∷ [] } in
     let led = leads_to_lawful g.M.Manager g.F.SyncHook g.A.AsyncHook e.manager e.runtime e.hooks f.timeouts f.first f.most_parties (move.Start c.args.timeouts) pool begun
-      (reply.Started (length (map party_of f.parties.items))) c.self.invariant.lawful (rw (some, few) refl) in
+    (reply.Started (length (map party_of f.parties.items))) c.self.invariant.lawful (rw (some, few) refl) in
     record {
       counted = rw items all.1;
       lawful = rw (items, all.0, c.unwrap_or-timeouts.ensures) led;
       parties = omega (arith, c.append.ensures.len, c.if-party-self.false, c.len-party.ensures);
       seats = omega (arith, c.self.invariant.seats, c.append.ensures.capacity);
-      hands = c.self.invariant.hands
+      hands = c.self.invariant.hands;
     }
