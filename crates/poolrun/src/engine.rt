@@ -1,21 +1,15 @@
 //! Runs a script from any reader to any writer.
 use crate::fault::Fault;
-use crate::manager::{Answers, Kind, ScriptHook, ScriptManager};
+use crate::manager::Answers;
+use crate::opening::{Refusal, ScriptTrial, open_trial};
 use crate::script;
 use crate::script::{Line, LineError, PoolLine};
 use crate::texts::{end_line, write_reply};
-use deadpool::managed::{BuildError, Hook, NoHook, PoolBuilder};
-use deadpool::replay::{Move, Trial};
+use deadpool::replay::Move;
 use futures::task::{Context, Doorbell, Solo};
 use std::alloc::Global;
 use std::io::{BufRead, Write};
 use std::random::RandomSource;
-
-/// A script's pool.
-pub type ScriptTrial<'a> = Trial<ScriptManager<'a>, NoHook, ScriptHook<'a>, ()>;
-
-/// How many gets a script may start.
-const PARTIES: usize = 1024;
 
 /// Does what the arguments say, which are those after the program's name.
 pub fn run<R, B: BufRead, W: Write>(
@@ -134,11 +128,12 @@ impl<'a> Engine<'a> {
         if self.trial.is_some() {
             return Err(LineError::NotAMove);
         }
-        match new_trial(self.alloc, self.answers, pool) {
+        match open_trial(self.alloc, self.answers, pool) {
             Ok(trial) => {
                 self.trial = Some(trial);
                 self.reply.push_str("ok")?;
             }
+            Err(Refusal::OutOfMemory) => return Err(LineError::OutOfMemory),
             Err(cause) => write!(self.reply, "error {cause}")?,
         }
         end_line(&mut self.reply)?;
@@ -159,30 +154,4 @@ impl<'a> Engine<'a> {
         }
         Ok(())
     }
-}
-
-// A pool with one hook in each of its lists.
-fn new_trial(
-    alloc: Global,
-    answers: &Answers,
-    pool: PoolLine,
-) -> Result<ScriptTrial<'_>, BuildError> {
-    let mut builder = PoolBuilder::new(alloc, ScriptManager::new(answers), ())
-        .max_size(pool.max_size)
-        .queue_mode(pool.queue_mode);
-    if let Some(runtime) = pool.runtime {
-        builder = builder.runtime(runtime);
-    }
-    let builder = builder
-        .pre_recycle(hook(answers, Kind::PreRecycle))
-        .map_err(|_| BuildError::OutOfMemory)?
-        .post_recycle(hook(answers, Kind::PostRecycle))
-        .map_err(|_| BuildError::OutOfMemory)?
-        .post_create(hook(answers, Kind::PostCreate))
-        .map_err(|_| BuildError::OutOfMemory)?;
-    Trial::new(builder, PARTIES, pool.first_number)
-}
-
-fn hook(answers: &Answers, kind: Kind) -> Hook<NoHook, ScriptHook<'_>> {
-    Hook::async_fn(ScriptHook::new(answers, kind))
 }

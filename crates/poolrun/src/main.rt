@@ -5,6 +5,7 @@
 mod engine;
 mod fault;
 mod manager;
+mod opening;
 mod script;
 #[cfg(test)]
 mod tests;

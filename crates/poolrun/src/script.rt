@@ -1,6 +1,6 @@
 //! The lines of a script.
 use crate::manager::{Answer, Kind};
-use deadpool::managed::{QueueMode, Timeouts};
+use deadpool::managed::{PoolConfig, QueueMode, Timeouts};
 use deadpool::replay::Move;
 use deadpool::{Moment, Runtime};
 use std::alloc::{AllocError, AllocFailed, Global};
@@ -22,12 +22,20 @@ pub enum Line {
 }
 
 /// What a pool is to be.
-#[derive(Clone, Copy, Debug, PartialEq, Eq)]
+#[derive(Drop)]
 pub struct PoolLine {
-    pub max_size: usize,
-    pub queue_mode: QueueMode,
+    pub settings: Settings,
     pub runtime: Option<Runtime>,
     pub first_number: usize,
+}
+
+/// A pool's configuration.
+#[derive(Drop)]
+pub enum Settings {
+    /// It is known.
+    Known(PoolConfig),
+    /// It is still to be read from this text, which may be none.
+    Written(Vec<u8>),
 }
 
 /// Why a line was not done.
@@ -59,14 +67,42 @@ pub fn parse(alloc: Global, line: &[u8]) -> Result<Line, LineError> {
     if line.is_empty() || line[0] == b'#' {
         return Ok(Line::Skipped);
     }
-    let Ok(text) = str::from_utf8(line) else {
-        return Err(LineError::NotAMove);
-    };
-    let mut words = text.split(' ');
+    if line.starts_with(CONFIG) {
+        return Ok(Line::Pool(parse_config(alloc, &line[CONFIG.len()..])?));
+    }
+    let mut words = text_of(line)?.split(' ');
     let said = parse_words(alloc, &mut words)?;
     match words.next() {
         None => Ok(said),
         Some(_) => Err(LineError::NotAMove),
+    }
+}
+
+fn text_of(bytes: &[u8]) -> Result<&str, LineError> {
+    str::from_utf8(bytes).map_err(|_| LineError::NotAMove)
+}
+
+const CONFIG: &[u8] = b"config ";
+
+// Two words, and the rest of the line as it is: it may be no text.
+fn parse_config(alloc: Global, rest: &[u8]) -> Result<PoolLine, LineError> {
+    let (runtime, rest) = first_word(rest)?;
+    let (first_number, json) = first_word(rest)?;
+    if json.is_empty() {
+        return Err(LineError::NotAMove);
+    }
+    Ok(PoolLine {
+        settings: Settings::Written(json.to_vec(alloc)?),
+        runtime: parse_runtime(runtime)?,
+        first_number: parse_number(first_number)?,
+    })
+}
+
+// What stands before the first space, and what stands after it.
+fn first_word(bytes: &[u8]) -> Result<(&str, &[u8]), LineError> {
+    match bytes.iter().position(|byte| *byte == b' ') {
+        None => Err(LineError::NotAMove),
+        Some(end) => Ok((text_of(&bytes[..end])?, &bytes[end + 1..])),
     }
 }
 
@@ -83,26 +119,38 @@ fn parse_words(alloc: Global, words: &mut Words<'_>) -> Result<Line, LineError> 
         "cancel" => Line::Move(Move::Cancel(next_number(words)?)),
         "put" => Line::Move(Move::Put(next_number(words)?, next_number(words)?)),
         "back" => Line::Move(Move::Back(next_number(words)?)),
+        "take" => Line::Move(Move::Take(next_number(words)?)),
+        "resize" => Line::Move(Move::Resize(next_number(words)?)),
+        "retain" => Line::Move(Move::Retain(parse_numbers(alloc, words)?)),
+        "close" => Line::Move(Move::Close),
         "status" => Line::Move(Move::Status),
+        "clone" => Line::Move(Move::Clone),
+        "drop" => Line::Move(Move::DropHandle),
+        "upgrade" => Line::Move(Move::Upgrade),
         _ => return Err(LineError::NotAMove),
     })
 }
 
 fn parse_pool(words: &mut Words<'_>) -> Result<PoolLine, LineError> {
+    let mut config = PoolConfig::new(next_number(words)?);
+    config.queue_mode = match next_word(words)? {
+        "fifo" => QueueMode::Fifo,
+        "lifo" => QueueMode::Lifo,
+        _ => return Err(LineError::NotAMove),
+    };
     Ok(PoolLine {
-        max_size: next_number(words)?,
-        queue_mode: match next_word(words)? {
-            "fifo" => QueueMode::Fifo,
-            "lifo" => QueueMode::Lifo,
-            _ => return Err(LineError::NotAMove),
-        },
-        runtime: match next_word(words)? {
-            "none" => None,
-            "clock" => Some(Runtime::Clock),
-            _ => return Err(LineError::NotAMove),
-        },
+        settings: Settings::Known(config),
+        runtime: parse_runtime(next_word(words)?)?,
         first_number: next_number(words)?,
     })
+}
+
+fn parse_runtime(word: &str) -> Result<Option<Runtime>, LineError> {
+    match word {
+        "none" => Ok(None),
+        "clock" => Ok(Some(Runtime::Clock)),
+        _ => Err(LineError::NotAMove),
+    }
 }
 
 fn parse_kind(word: &str) -> Result<Kind, LineError> {
@@ -138,6 +186,15 @@ fn parse_answer(kind: Kind, word: &str) -> Result<Answer, LineError> {
         "add" if kind != Kind::Create => Ok(Answer::Add),
         _ => Err(LineError::NotAMove),
     }
+}
+
+// The numbers to the end of the line, of which there may be none.
+fn parse_numbers(alloc: Global, words: &mut Words<'_>) -> Result<Vec<usize>, LineError> {
+    let mut numbers = Vec::new(alloc);
+    for word in words {
+        numbers.push(parse_number(word)?)?;
+    }
+    Ok(numbers)
 }
 
 // Three timeouts, or no word: then they are those that the pool is configured with.

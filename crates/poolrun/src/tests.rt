@@ -1,6 +1,8 @@
 mod cancelled;
+mod configuration;
 mod first_path;
 mod limits;
+mod own_steps;
 mod preparation;
 mod refused;
 mod streams;
@@ -67,5 +69,7 @@ fn scripts_have_their_replies(rt: HostRuntime) -> Result<(), Fail> {
     replies_as_written(&rt, &preparation::SCRIPTS)?;
     replies_as_written(&rt, &timeouts::SCRIPTS)?;
     replies_as_written(&rt, &cancelled::SCRIPTS)?;
-    replies_as_written(&rt, &limits::SCRIPTS)
+    replies_as_written(&rt, &limits::SCRIPTS)?;
+    replies_as_written(&rt, &own_steps::SCRIPTS)?;
+    replies_as_written(&rt, &configuration::SCRIPTS)
 }

@@ -1,6 +1,6 @@
 //! The replies to the lines of a script.
-use crate::engine::ScriptTrial;
 use crate::manager::Refused;
+use crate::opening::ScriptTrial;
 use deadpool::Status;
 use deadpool::managed::RetainResult;
 use deadpool::replay::Reply;

@@ -5,7 +5,7 @@ use crate::fault::Fault;
 use std::test::Fail;
 
 // Each as the second line, after a pool.
-const BAD_LINES: [&[u8]; 43] = [
+const BAD_LINES: [&[u8]; 57] = [
     b"poll 0",
     b"poll 0 -1",
     b"poll 0 +1",
@@ -47,12 +47,26 @@ const BAD_LINES: [&[u8]; 43] = [
     b"answer create ok add",
     b"answer detach ok",
     b"answer pre OK",
+    b"take",
+    b"take 0 0",
+    b"resize",
+    b"resize -1",
+    b"resize 18446744073709551616",
+    b"retain ",
+    b"retain 0  1",
+    b"retain 0 x",
+    b"close 0",
+    b"clone 1",
+    b"drop 0",
+    b"upgrade ",
     b"pool 1 fifo none 0",
+    b"config none 0 {\"max_size\":1}",
+    b"config",
     b"\xff",
 ];
 
 // Each as the first line.
-const BAD_FIRST_LINES: [&[u8]; 17] = [
+const BAD_FIRST_LINES: [&[u8]; 24] = [
     b"start",
     b"advance 0 0",
     b"poll 0 0",
@@ -69,6 +83,13 @@ const BAD_FIRST_LINES: [&[u8]; 17] = [
     b"pool -1 fifo none 0",
     b"pool 18446744073709551616 fifo none 0",
     b"pool 1 fifo none 18446744073709551616",
+    b"config none 0",
+    b"config none 0 ",
+    b"config none",
+    b"config timer 0 []",
+    b"config none -1 []",
+    b"config none  0 []",
+    b"config \xff 0 []",
     b"get",
 ];
 
@@ -161,6 +182,22 @@ fn faults_have_their_texts(rt: HostRuntime) -> Result<(), Fail> {
         let shown = fault.to_string(rt.alloc())?;
         assert_eq!(rt; shown.as_str(), text);
         assert_eq!(rt; fault.status(), status);
+    }
+    Ok(())
+}
+
+// A pool whose configuration is no JSON is refused, and the script goes on without one.
+#[test]
+fn a_text_that_is_no_json_gives_no_pool(rt: HostRuntime) -> Result<(), Fail> {
+    for text in [b"\xff".as_slice(), b"{\"max_size\":1", b" ", &[b'['; 200]] {
+        let script = [b"config none 0 ", text, b"\npool 1 fifo none 0\n"].concat(rt.alloc())?;
+        let (written, ending) = play(&rt, &script)?;
+        assert_eq!(rt;
+            written.as_str(),
+            "error Configuration is not JSON\nok\n",
+            "at {text:?}"
+        );
+        assert_eq!(rt; ending, Ok(()));
     }
     Ok(())
 }
