@@ -446,7 +446,7 @@ pub return-after-a-shrink-leaves-no-place-over : Plays (new_pool 2 Fifo None 0) 
 return-after-a-shrink-leaves-no-place-over = refl
 
 -- The shrink drops the idle object, and its place is gone with it.
-pub shrink-below-the-idle-leaves-no-place-over : Plays (new_pool 1 Fifo None 0) (
+pub shrink-below-the-idle-leaves-no-place-over : Plays (new_pool 2 Fifo None 0) (
     start ⇒ party 0 ∷
     poll 0 0 ⇒ object 0 0 ∷
     back 0 ⇒ kept ∷

@@ -1,0 +1,115 @@
+//! Managed pools on one thread, by the moves of a trial.
+mod gets;
+mod hooks;
+mod managers;
+mod metrics;
+mod timeouts;
+
+use deadpool::managed::{AsyncHook, Manager, PoolBuilder, PoolError, SyncHook};
+use deadpool::replay::{Move, Reply, Trial};
+use deadpool::{Moment, Status};
+use futures::test::MockTask;
+use std::alloc::Global;
+use std::random::RandomSource;
+use std::test::Fail;
+
+/// A trial, and the task that its moves are made in.
+#[derive(Drop)]
+pub struct Bench<M: Manager + Drop, F: SyncHook<M> + Drop, A: AsyncHook<M> + Drop> {
+    alloc: Global,
+    task: MockTask,
+    trial: Trial<M, F, A, ()>,
+}
+
+impl<M: Manager + Drop, F: SyncHook<M> + Drop, A: AsyncHook<M> + Drop> Bench<M, F, A> {
+    /// A pool whose first object gets the number 0.
+    pub fn new<R: RandomSource + AllocGlobal>(
+        rt: &R,
+        builder: PoolBuilder<M, F, A, ()>,
+    ) -> Result<Self, Fail> {
+        Ok(Bench {
+            alloc: rt.alloc(),
+            task: MockTask::new(rt)?,
+            trial: Trial::new(builder, 16, 0)?,
+        })
+    }
+
+    /// Makes one move.
+    pub fn make(&mut self, next: Move<M::Type>) -> Result<Reply<M::Type, M::Error>, Fail> {
+        let Bench { alloc, task, trial } = self;
+        let mut moves = Vec::new(*alloc);
+        if moves.push(next).is_err() {
+            return Err(Fail::new("no memory for a move"));
+        }
+        let Ok(mut replies) = task.enter(|cx| trial.run(moves, cx)) else {
+            return Err(Fail::new("no memory for the replies"));
+        };
+        replies.pop().ok_or_else(|| Fail::new("no reply"))
+    }
+
+    /// Starts a get with the configured timeouts, and gives its number.
+    pub fn start(&mut self) -> Result<usize, Fail> {
+        match self.make(Move::Start(None))? {
+            Reply::Started(party) => Ok(party),
+            _ => Err(Fail::new("no get was started")),
+        }
+    }
+
+    /// Polls a get at a moment. None where it is pending.
+    pub fn poll(
+        &mut self,
+        party: usize,
+        now: u128,
+    ) -> Result<Option<Result<usize, PoolError<M::Error>>>, Fail> {
+        match self.make(Move::Poll(party, Moment(now)))? {
+            Reply::Pending => Ok(None),
+            Reply::Object(number) => Ok(Some(Ok(number))),
+            Reply::Failed(cause) => Ok(Some(Err(cause))),
+            _ => Err(Fail::new("not the reply to a poll")),
+        }
+    }
+
+    /// Starts a get and polls it once, which is to end it.
+    pub fn get(&mut self) -> Result<Result<usize, PoolError<M::Error>>, Fail> {
+        let party = self.start()?;
+        self.poll(party, 0)?.ok_or_else(|| Fail::new("pending"))
+    }
+
+    /// The number of the object that a get gives at once.
+    pub fn object(&mut self) -> Result<usize, Fail> {
+        match self.get()? {
+            Ok(number) => Ok(number),
+            Err(_) => Err(Fail::new("no object")),
+        }
+    }
+
+    /// An object comes back, and is kept.
+    pub fn keep(&mut self, number: usize) -> Result<(), Fail> {
+        match self.make(Move::Back(number))? {
+            Reply::Kept => Ok(()),
+            _ => Err(Fail::new("not kept")),
+        }
+    }
+
+    pub fn status(&mut self) -> Result<Status, Fail> {
+        match self.make(Move::Status)? {
+            Reply::Stands(status) => Ok(status),
+            _ => Err(Fail::new("no status")),
+        }
+    }
+
+    /// The value of an object that is out.
+    pub fn value(&self, number: usize) -> Result<&M::Type, Fail> {
+        self.trial.value(number).ok_or_else(|| Fail::new("not out"))
+    }
+}
+
+/// How a pool is to stand.
+pub fn stands(max_size: usize, size: usize, available: usize, waiting: usize) -> Status {
+    Status {
+        max_size,
+        size,
+        available,
+        waiting,
+    }
+}

@@ -1,0 +1,173 @@
+//! Small managers.
+use deadpool::managed::{Manager, Metrics, RecycleError, RecycleResult};
+use futures::task::{Context, Poll};
+use std::cell::Cell;
+
+/// What they say where they refuse.
+#[derive(Clone, Copy, Debug, PartialEq, Eq)]
+pub struct Refused;
+
+/// Creates the whole numbers from 0 on.
+#[derive(Drop)]
+pub struct Counter {
+    next: Cell<u64>,
+}
+
+impl Counter {
+    pub fn new() -> Self {
+        Counter { next: Cell::new(0) }
+    }
+}
+
+impl Manager for Counter {
+    type Type = u64;
+
+    type Error = Refused;
+
+    type Creating = ();
+
+    type Recycling = ();
+
+    fn create(&self) -> () {}
+
+    fn poll_create(&self, _creating: &mut (), _cx: &mut Context<'_>) -> Poll<Result<u64, Refused>> {
+        let value = self.next.get();
+        self.next.set(value.saturating_add(1));
+        Poll::Ready(Ok(value))
+    }
+
+    fn recycle(&self, _value: &mut u64, _metrics: &Metrics) -> () {}
+
+    fn poll_recycle(
+        &self,
+        _recycling: &mut (),
+        _value: &mut u64,
+        _metrics: &Metrics,
+        _cx: &mut Context<'_>,
+    ) -> Poll<RecycleResult<Refused>> {
+        Poll::Ready(Ok(()))
+    }
+}
+
+/// Creates 42, always.
+#[derive(Drop)]
+pub struct FortyTwo;
+
+impl Manager for FortyTwo {
+    type Type = u64;
+
+    type Error = Refused;
+
+    type Creating = ();
+
+    type Recycling = ();
+
+    fn create(&self) -> () {}
+
+    fn poll_create(&self, _creating: &mut (), _cx: &mut Context<'_>) -> Poll<Result<u64, Refused>> {
+        Poll::Ready(Ok(42))
+    }
+
+    fn recycle(&self, _value: &mut u64, _metrics: &Metrics) -> () {}
+
+    fn poll_recycle(
+        &self,
+        _recycling: &mut (),
+        _value: &mut u64,
+        _metrics: &Metrics,
+        _cx: &mut Context<'_>,
+    ) -> Poll<RecycleResult<Refused>> {
+        Poll::Ready(Ok(()))
+    }
+}
+
+/// Refuses to recycle, and to create where it is told so. It counts its calls.
+#[derive(Drop)]
+pub struct Unreliable<'a> {
+    pub creates: bool,
+    pub recycled: &'a Cell<usize>,
+    pub detached: &'a Cell<usize>,
+}
+
+impl<'a> Manager for Unreliable<'a> {
+    type Type = ();
+
+    type Error = Refused;
+
+    type Creating = ();
+
+    type Recycling = ();
+
+    fn create(&self) -> () {}
+
+    fn poll_create(&self, _creating: &mut (), _cx: &mut Context<'_>) -> Poll<Result<(), Refused>> {
+        Poll::Ready(if self.creates { Ok(()) } else { Err(Refused) })
+    }
+
+    fn recycle(&self, _value: &mut (), _metrics: &Metrics) -> () {
+        count(self.recycled);
+    }
+
+    fn poll_recycle(
+        &self,
+        _recycling: &mut (),
+        _value: &mut (),
+        _metrics: &Metrics,
+        _cx: &mut Context<'_>,
+    ) -> Poll<RecycleResult<Refused>> {
+        Poll::Ready(Err(RecycleError::Backend(Refused)))
+    }
+
+    fn detach(&self, _value: &mut ()) {
+        count(self.detached);
+    }
+}
+
+/// One more.
+pub fn count(calls: &Cell<usize>) {
+    calls.set(calls.get().saturating_add(1));
+}
+
+/// Its first creation is pending for so many polls and is then refused. The others succeed at once.
+#[derive(Drop)]
+pub struct Draining {
+    pub pending: Cell<usize>,
+    pub refuses: Cell<bool>,
+}
+
+impl Manager for Draining {
+    type Type = ();
+
+    type Error = Refused;
+
+    type Creating = ();
+
+    type Recycling = ();
+
+    fn create(&self) -> () {}
+
+    fn poll_create(&self, _creating: &mut (), _cx: &mut Context<'_>) -> Poll<Result<(), Refused>> {
+        let pending = self.pending.get();
+        if pending > 0 {
+            self.pending.set(pending - 1);
+            return Poll::Pending;
+        }
+        Poll::Ready(if self.refuses.replace(false) {
+            Err(Refused)
+        } else {
+            Ok(())
+        })
+    }
+
+    fn recycle(&self, _value: &mut (), _metrics: &Metrics) -> () {}
+
+    fn poll_recycle(
+        &self,
+        _recycling: &mut (),
+        _value: &mut (),
+        _metrics: &Metrics,
+        _cx: &mut Context<'_>,
+    ) -> Poll<RecycleResult<Refused>> {
+        Poll::Ready(Ok(()))
+    }
+}
