@@ -43,7 +43,8 @@ use Rattle.deadpool.specs.declared.managed.desk.StepReply.TheVariants as step
 use Rattle.deadpool.specs.declared.managed.desk.CreatedReply.TheVariants as numbered
 use Rattle.deadpool.specs.declared.replay.moves.Reply.{Reply}
 use Rattle.deadpool.specs.declared.replay.moves.Reply.TheVariants as reply
-use Rattle.deadpool.proofs.Lists.{set-same, length-with_slot}
+use Rattle.deadpool.proofs.Lists.{set-same}
+use Rattle.deadpool.proofs.SlotLists.{length-with_slot}
 use Rattle.deadpool.proofs.Tickets.{NoTicket, IsOwned-set, IsOwned-like}
 use Rattle.deadpool.proofs.Settling.{goes, creates, prepares, lasts, Shifts, put, put_off, IsCounted-set, IsCounted-settled, put-image, put_off-image}
 use Rattle.deadpool.proofs.Ends.{Gives-same, holds_creation, holds_object, ends_free}

@@ -14,7 +14,8 @@ use Rattle.deadpool.specs.Pool.{Pool, is_going, is_creating, prepared_by, places
 use Rattle.deadpool.specs.Moves.{NobodyWaits}
 use Rattle.deadpool.specs.Image.{party_of, owner, image, IsCounted}
 use Rattle.deadpool.specs.declared.managed.slot.Slot.{Slot}
-use Rattle.deadpool.proofs.Lists.{count-set, count_given-set, without-absent}
+use Rattle.deadpool.proofs.Lists.{count_given-set, without-absent}
+use Rattle.deadpool.proofs.ListsLemmas.{count-set}
 use Rattle.deadpool.proofs.Tickets.{NoTicket, owners-set}
 use Rattle.deadpool.proofs.Settling.{goes, creates, prepares, put_off, put_off-image, settle-none, settles, places-image}
 

@@ -11,41 +11,11 @@ use Rattle.deadpool.specs.Steps.{with_slot}
 use Rattle.deadpool.specs.declared.managed.slot.Slot.{Slot}
 
 module _ {X : Type 0} where
-  -- the length with an element that a test lets through
-  length-cond : (b : Bool) (x : X) (xs : List X) → length (cond b (x ∷ xs) xs) ≡ cond b 1 0 + length xs
-  length-cond true x xs = omega arith
-  length-cond false x xs = omega arith
-
-  -- what is read where an element was set
-  pub get-set_same : (xs : List X) (n : ℕ) (old new : X) → slice_get xs n ≡ Some old → slice_get (set xs n new) n ≡ Some new
-  get-set_same [] n old new h = cc
-  get-set_same (x ∷ xs) zero old new h = refl
-  get-set_same (x ∷ xs) (suc n) old new h = get-set_same xs n old new h
-
-  -- what is read elsewhere
-  pub get-set_other : (xs : List X) (n m : ℕ) (new : X) → m ≢ n → slice_get (set xs n new) m ≡ slice_get xs m
-  get-set_other [] n m new h = refl
-  get-set_other (x ∷ xs) zero zero new h = absurd (h refl)
-  get-set_other (x ∷ xs) zero (suc m) new h = refl
-  get-set_other (x ∷ xs) (suc n) zero new h = refl
-  get-set_other (x ∷ xs) (suc n) (suc m) new h = get-set_other xs n m new (λ e. h (ap suc e))
-
   -- an element is set to itself
   pub set-same : (xs : List X) (n : ℕ) (x : X) → slice_get xs n ≡ Some x → set xs n x ≡ xs
   set-same [] n x h = refl
   set-same (y ∷ xs) zero x h = let e : y ≡ x = cc in ap (λ z. z ∷ xs) (sym e)
   set-same (y ∷ xs) (suc n) x h = ap (λ zs. y ∷ zs) (set-same xs n x h)
-
-  -- a count changes by the one element that is set
-  pub count-set : (f : X → Bool) (xs : List X) (n : ℕ) (old new : X) → slice_get xs n ≡ Some old
-      → length (filter f (set xs n new)) + cond (f old) 1 0 ≡ length (filter f xs) + cond (f new) 1 0
-  count-set f [] n old new h = cc
-  count-set f (x ∷ xs) zero old new h =
-      let same : x ≡ old = cc in
-      rw (same, length-cond (f new) new (filter f xs), length-cond (f old) old (filter f xs)) (omega arith)
-  count-set f (x ∷ xs) (suc n) old new h =
-      let rest = count-set f xs n old new h in
-      rw (length-cond (f x) x (filter f (set xs n new)), length-cond (f x) x (filter f xs)) (omega (arith, rest))
 
 module _ {Y : Type 0} where
   -- 1 where there is something
@@ -69,15 +39,6 @@ module _ {X Y : Type 0} where
   count_given-set f (x ∷ xs) (suc n) old new h =
       let rest = count_given-set f xs n old new h in
       rw (length-cons_option (f x) (filter_map f (set xs n new)), length-cons_option (f x) (filter_map f xs)) (omega (arith, rest))
-
--- one object more is out
-pub length-with_slot : {V : Type 0} (s : Slot V) (out : List (Slot V)) → length (with_slot s out) ≡ length out + 1
-length-with_slot s [] = refl
-length-with_slot s (t ∷ ts) =
-    elim (cases_Bool (nat_lt s.number t.number)) [
-      | inl less ↦ rw less (omega arith)
-      | inr more ↦ rw more (omega (arith, length-with_slot s ts))
-    ]
 
 -- the first of a list is in it
 pub has_number-head : (x : ℕ) (xs : List ℕ) → has_number x (x ∷ xs) ≡ true

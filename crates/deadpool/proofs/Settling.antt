@@ -16,7 +16,8 @@ use Rattle.deadpool.specs.Steps.{unqueued as pool_unqueued}
 use Rattle.deadpool.specs.Moves.{NobodyWaits}
 use Rattle.deadpool.specs.Image.{party_of, owner, is_under_way, image, IsOwned, IsCounted}
 use Rattle.deadpool.specs.declared.managed.slot.Slot.{Slot}
-use Rattle.deadpool.proofs.Lists.{count-set, count_given-set, so_many}
+use Rattle.deadpool.proofs.Lists.{count_given-set, so_many}
+use Rattle.deadpool.proofs.ListsLemmas.{count-set}
 use Rattle.deadpool.proofs.Tickets.{NoTicket, OneTicket, queueing, IsOwned-settled, owners-set, owners-absent, owners-unqueued, owners-queueing, owner-queueing}
 
 module _ {V C R S F A : Type 0} where

@@ -9,7 +9,8 @@ use Rattle.deadpool.specs.DeskState.{DeskState, grants, settled}
 use Rattle.deadpool.specs.DeskSteps.{is_listed, unqueued}
 use Rattle.deadpool.specs.Stages.{Getting}
 use Rattle.deadpool.specs.Image.{has_ticket, holds_ticket, owner, IsOwned}
-use Rattle.deadpool.proofs.Lists.{get-set_same, get-set_other, has_number-moved, has_number-without, without-absent, map_same, Tells, without-map, absent-map}
+use Rattle.deadpool.proofs.Lists.{has_number-moved, has_number-without, without-absent, map_same, Tells, without-map, absent-map}
+use Rattle.deadpool.proofs.ListsLemmas.{get-set_same, get-set_other}
 
 -- one condition on two lists
 or_and : (a b c : Bool) → ((a && c) || (b && c)) ≡ ((a || b) && c)
