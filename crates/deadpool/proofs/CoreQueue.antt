@@ -6,9 +6,10 @@ use Rattle.deadpool_parts.specs.declared.gate.Ask.TheVariants as ask
 use Rattle.deadpool_parts.specs.declared.gate.Entry.TheVariants as entry
 use Rattle.deadpool_parts.specs.declared.gate.Withdrawn.TheVariants as withdrawn
 use Rattle.deadpool_parts.specs.Gate.{Waiter, Line, arrived, find_waiter, without_waiter, granted_tickets, waiting_tickets, grant_count, entry_at_once, Joins, answer_of, asked, standing_of, IsLine}
-use Rattle.deadpool_parts.specs.Numbers.{has_number, without_number}
+use Rattle.deadpool_parts.specs.Numbers.{has_number}
 use Rattle.deadpool_parts.proofs.GateListed.{remove_first_none}
 use Rattle.deadpool_parts.proofs.GateTickets.{granted_tickets-arrived, waiting_tickets-arrived, granted_tickets-without_waiter, waiting_tickets-without_waiter, has_number_unlisted, has_number_granted, has_number_waiting, waiting_count-length}
+use Rattle.deadpool.proofs.NumberLists.{without_number-shorter, without_number-fewer}
 use Rattle.deadpool.specs.CoreFields.{state_of, IsSound}
 use Rattle.deadpool.specs.DeskState.{places, grants, settled}
 use Rattle.deadpool.specs.DeskSteps.{unqueued}
@@ -17,25 +18,6 @@ use Rattle.deadpool.specs.declared.managed.state.Core.TheInside.{Inside}
 -- whether a ticket is in one of the two lists
 abbrev has_ticket : ℕ → List Waiter → Bool
 has_ticket t ws = has_number t (granted_tickets ws) || has_number t (waiting_tickets ws)
-
--- a list without a number is no longer than with it
-pub without_number-length : (n : ℕ) (ns : List ℕ) → length (without_number n ns) ≤ length ns
-without_number-length n [] = omega arith
-without_number-length n (m ∷ ns) =
-    let rest = without_number-length n ns in
-    elim (cases_Bool (eqb m n)) [
-      | inl here ↦ rw here (omega arith)
-      | inr other ↦ rw other (omega arith)
-    ]
-
--- and shorter where it had it
-pub without_number-shorter : (n : ℕ) (ns : List ℕ) → has_number n ns ≡ true → length (without_number n ns) + 1 ≤ length ns
-without_number-shorter n [] has = cc
-without_number-shorter n (m ∷ ns) has =
-    elim (cases_Bool (eqb m n)) [
-      | inl here ↦ rw here (omega (arith, without_number-length n ns))
-      | inr other ↦ rw other (omega (arith, without_number-shorter n ns (rw other at has)))
-    ]
 
 -- a closed gate grants nothing, and an open one as many as wait and find room
 grant_count-length : (is_closed : Bool) (room : ℕ) (ws : List Waiter) → grant_count is_closed room ws ≡ cond (not is_closed) (min (length (waiting_tickets ws)) room) 0
@@ -175,14 +157,14 @@ module _ {T : Type 0} (core : Inside T) (gate : Line) where
   -- the same where a waiter leaves
   pub IsSound-without : (t : ℕ) → IsSound core → IsLine core.gate.is_closed core.gate.waiters → gate.waiters ≡ without_waiter t core.gate.waiters → IsSound with_gate
   IsSound-without t sound line gone =
-      let fewer = without_number-length t (granted_tickets core.gate.waiters) in
+      let fewer = without_number-shorter t (granted_tickets core.gate.waiters) in
       IsSound-gate sound (rw (gone, granted_tickets-without_waiter t core.gate.waiters line.apart) fewer)
 
   -- where the one that leaves had a place, that is free then
   pub places-without : (t : ℕ) → IsSound core → IsLine core.gate.is_closed core.gate.waiters → has_number t (granted_tickets core.gate.waiters) ≡ true
       → gate.waiters ≡ without_waiter t core.gate.waiters → places (state_of with_gate) + 1 ≤ core.ring.capacity
   places-without t sound line has gone =
-      let fewer = without_number-shorter t (granted_tickets core.gate.waiters) has in
+      let fewer = without_number-fewer t (granted_tickets core.gate.waiters) has in
       rw (gone, granted_tickets-without_waiter t core.gate.waiters line.apart) (omega (arith, fewer, sound.held))
 
   -- the state where the line is as it was

@@ -14,7 +14,8 @@ use Rattle.deadpool.specs.Pool.{Pool, is_going, is_creating, prepared_by, places
 use Rattle.deadpool.specs.Moves.{NobodyWaits}
 use Rattle.deadpool.specs.Image.{party_of, owner, image, IsCounted}
 use Rattle.deadpool.specs.declared.managed.slot.Slot.{Slot}
-use Rattle.deadpool.proofs.Lists.{count_given-set, without-absent}
+use Rattle.deadpool.proofs.Lists.{count_given-set}
+use Rattle.deadpool.proofs.NumberLists.{without_number-same}
 use Rattle.deadpool.proofs.ListsLemmas.{count-set}
 use Rattle.deadpool.proofs.Tickets.{NoTicket, owners-set}
 use Rattle.deadpool.proofs.Settling.{goes, creates, prepares, put_off, put_off-image, settle-none, settles, places-image}
@@ -77,7 +78,7 @@ module _ {V C R S F A : Type 0} (runtime : Option Runtime) (hooks : HookLists F 
     pub nobody_waits-unqueued : (t : ℕ) → has_number t core.granted ≡ false → has_number t core.waiting ≡ true → IsCounted (unqueued t core) (set gets n new) out
         → NobodyWaits (after (unqueued t core))
     nobody_waits-unqueued t absent waits k' is_open free =
-        let granted : without_number t core.granted ≡ core.granted = without-absent t core.granted absent in
+        let granted : without_number t core.granted ≡ core.granted = without_number-same t core.granted absent in
         let as_many : places (unqueued t core) ≡ places core = ap (λ ns. places (record core { granted = ns })) granted in
         let same : pool_places (after (unqueued t core)) ≡ pool_places pool =
         places-image runtime hooks timeouts first most (unqueued t core) (set gets n new) out k' ∙ as_many

@@ -1,14 +1,13 @@
 -- What setting one element of a list changes, and lists of numbers under a map.
-use Rattle.std.proofs.Common.{◌≡◌, ◌≢◌, ℕ, ◌+◌, zero, suc, List, [], ◌∷◌, ◌++◌, Bool, true, false, cond, not, ◌||◌, ◌&&◌, nat_lt, eqb, length, set, take, drop, map, refl, sym, ap, ◌∙◌, arith, inl, inr, Option, Some, None, eq-eqb}
-use Rattle.std.specs.List.{slice_get, filter, filter_map, cons_option}
+use Rattle.std.proofs.Common.{◌≡◌, ◌≢◌, ℕ, ◌+◌, zero, suc, List, [], ◌∷◌, ◌++◌, Bool, true, false, cond, not, ◌||◌, ◌&&◌, eqb, length, set, take, drop, map, refl, sym, ap, ◌∙◌, arith, inl, inr, Option, Some, None, eq-eqb}
+use Rattle.std.specs.List.{slice_get, filter_map, cons_option}
 use Rattle.std.proofs.Math.Bool.{or_assoc}
-use Rattle.std.proofs.lemmas.Bool.{cases_Bool, and_right, or_left, or_right}
-use Rattle.std.proofs.lemmas.Bool.Decides.{nat_tests, eqb_tells}
+use Rattle.std.proofs.lemmas.Bool.{and_right, or_right}
+use Rattle.std.proofs.lemmas.Bool.Decides.{eqb_tells}
 use Rattle.std.proofs.lemmas.List.{take-append-drop}
 use Rattle.std.proofs.lemmas.List.Folds.{list_any-append}
 use Rattle.deadpool_parts.specs.Numbers.{has_number, without_number}
-use Rattle.deadpool.specs.Steps.{with_slot}
-use Rattle.deadpool.specs.declared.managed.slot.Slot.{Slot}
+use Rattle.deadpool.proofs.NumberLists.{has_number-without, without_number-same}
 
 module _ {X : Type 0} where
   -- an element is set to itself
@@ -48,38 +47,10 @@ has_number-head x xs = ap (λ b. b || has_number x xs) (eq-eqb x x refl)
 pub has_number-tail : (u x : ℕ) (xs : List ℕ) → has_number u xs ≡ true → has_number u (x ∷ xs) ≡ true
 has_number-tail u x xs h = or_right (eqb x u) (has_number u xs) h
 
--- a number in a list with an element that a test lets through
-has_number-cond : (c : Bool) (u x : ℕ) (xs : List ℕ) → has_number u (cond c (x ∷ xs) xs) ≡ cond c (eqb x u || has_number u xs) (has_number u xs)
-has_number-cond true u x xs = refl
-has_number-cond false u x xs = refl
-
--- one step of a search where a number was left out
-without-step : (u t x : ℕ) (a b : Bool) → a ≡ (b && not (eqb u t))
-    → cond (not (eqb x t)) (eqb x u || a) a ≡ ((eqb x u || b) && not (eqb u t))
-without-step u t x a b h = grind (arith, nat_tests)
-
--- what a list has without a number
-pub has_number-without : (u t : ℕ) (xs : List ℕ) → has_number u (without_number t xs) ≡ (has_number u xs && not (eqb u t))
-has_number-without u t [] = refl
-has_number-without u t (x ∷ xs) =
-    has_number-cond (not (eqb x t)) u x (without_number t xs)
-    ∙ without-step u t x (has_number u (without_number t xs)) (has_number u xs) (has_number-without u t xs)
-
--- a number that is not in the list
-pub without-absent : (t : ℕ) (xs : List ℕ) → has_number t xs ≡ false → without_number t xs ≡ xs
-without-absent t [] h = refl
-without-absent t (x ∷ xs) h =
-    elim (cases_Bool (eqb x t)) [
-      | inl here ↦ let there : true ≡ false = sym (or_left (eqb x t) (has_number t xs) here) ∙ h in cc
-      | inr other ↦
-          let rest : has_number t xs ≡ false = sym (ap (λ b. b || has_number t xs) other) ∙ h in
-          rw other (ap (λ ys. x ∷ ys) (without-absent t xs rest))
-    ]
-
 -- a number leaves a list once
 pub without-twice : (t : ℕ) (xs : List ℕ) → without_number t (without_number t xs) ≡ without_number t xs
 without-twice t xs =
-    without-absent t (without_number t xs)
+    without_number-same t (without_number t xs)
     (has_number-without t t xs ∙ ap (λ b. has_number t xs && not b) (eq-eqb t t refl) ∙ and_right (has_number t xs) false refl)
 
 -- what waits and is granted a place is listed as before

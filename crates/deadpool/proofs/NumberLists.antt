@@ -57,6 +57,15 @@ without_number-same n (x ∷ xs) h =
 pub without_number-shorter : (n : ℕ) (xs : List ℕ) → length (without_number n xs) ≤ length xs
 without_number-shorter n xs = filter-shorter (λ m. not (m == n)) xs
 
+-- and fewer where it was there
+pub without_number-fewer : (n : ℕ) (ns : List ℕ) → has_number n ns ≡ true → length (without_number n ns) + 1 ≤ length ns
+without_number-fewer n [] has = cc
+without_number-fewer n (m ∷ ns) has =
+    elim (cases_Bool (m == n)) [
+      | inl here ↦ rw here (omega (arith, without_number-shorter n ns))
+      | inr other ↦ rw other (omega (arith, without_number-fewer n ns (rw other at has)))
+    ]
+
 -- where it was there once, one fewer is left
 pub without_number-once : (n : ℕ) (xs : List ℕ) → IsOnce xs → has_number n xs ≡ true → length (without_number n xs) + 1 ≡ length xs
 without_number-once n [] once h = cc

@@ -9,7 +9,8 @@ use Rattle.deadpool.specs.DeskState.{DeskState, grants, settled}
 use Rattle.deadpool.specs.DeskSteps.{is_listed, unqueued}
 use Rattle.deadpool.specs.Stages.{Getting}
 use Rattle.deadpool.specs.Image.{has_ticket, holds_ticket, owner, IsOwned}
-use Rattle.deadpool.proofs.Lists.{has_number-moved, has_number-without, without-absent, map_same, Tells, without-map, absent-map}
+use Rattle.deadpool.proofs.Lists.{has_number-moved, map_same, Tells, without-map, absent-map}
+use Rattle.deadpool.proofs.NumberLists.{has_number-without, without_number-same}
 use Rattle.deadpool.proofs.ListsLemmas.{get-set_same, get-set_other}
 
 -- one condition on two lists
@@ -215,7 +216,7 @@ module _ {V C R S : Type 0} (d : DeskState V) (gets : List (Option (Getting V C 
     -- no ticket in the queue is owned by a get without one
     pub owners-absent : (xs : List ℕ) → ((u : ℕ) → has_number u xs ≡ true → is_listed u d ≡ true) → NoTicket old → without_number n (map (owner gets) xs) ≡ map (owner gets) xs
     owners-absent xs listed none =
-        without-absent n (map (owner gets) xs) (absent-map (owner gets) n xs (λ u k. not_owner n old u h (none u) (listed u k)))
+        without_number-same n (map (owner gets) xs) (absent-map (owner gets) n xs (λ u k. not_owner n old u h (none u) (listed u k)))
 
     -- a get's ticket is told from the others by its owner
     pub tells : (t : ℕ) → owner gets t ≡ n → OneTicket t old → (xs : List ℕ) → ((u : ℕ) → has_number u xs ≡ true → is_listed u d ≡ true) → Tells (owner gets) n t xs
