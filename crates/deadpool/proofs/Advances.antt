@@ -46,7 +46,8 @@ use Rattle.deadpool.specs.declared.replay.moves.Reply.TheVariants as reply
 use Rattle.deadpool.proofs.Lists.{set-same}
 use Rattle.deadpool.proofs.SlotLists.{length-with_slot}
 use Rattle.deadpool.proofs.Tickets.{NoTicket, IsOwned-set, IsOwned-like}
-use Rattle.deadpool.proofs.Settling.{goes, creates, prepares, lasts, Shifts, put, put_off, IsCounted-set, IsCounted-settled, put-image, put_off-image}
+use Rattle.deadpool.proofs.Settles.{counted_settled}
+use Rattle.deadpool.proofs.Settling.{goes, creates, prepares, lasts, Shifts, put, put_off, IsCounted-set, put-image, put_off-image}
 use Rattle.deadpool.proofs.Ends.{Gives-same, holds_creation, holds_object, ends_free}
 use Rattle.deadpool.proofs.CoreDesk.{core_desk}
 
@@ -113,7 +114,7 @@ module _ {V E C R S F A : Type 0} (may : May V E C R S F A) (runtime : Option Ru
         record { going = refl; creations = let one = one_creation in omega arith; outside = refl; room = omega arith } in (
           ap (λ (q : Pool V C R S F A). (reply.Failed cause, q))
               (ends_free runtime hooks timeouts first most core gets out n (stands stage.Finished) without_creation (put_off_as creator h (λ u. refl) stage.Finished (λ u. refl)) counted),
-          IsCounted-settled without_creation (set gets n (stands stage.Finished)) out counted,
+          counted_settled without_creation (set gets n (stands stage.Finished)) out counted,
         )
 
     -- so does one that is told to the desk
@@ -241,7 +242,7 @@ module _ {V E C R S F A : Type 0} (may : May V E C R S F A) (runtime : Option Ru
         } in (
           ap (λ (q : Pool V C R S F A). (reply.Failed cause, q))
               (ends_free runtime hooks timeouts first most core gets out n (stands stage.Finished) left (put_off_as old h none stage.Finished (λ u. refl)) counted),
-          IsCounted-settled left (set gets n (stands stage.Finished)) out counted,
+          counted_settled left (set gets n (stands stage.Finished)) out counted,
         )
 
   -- what a preparation came to

@@ -30,7 +30,8 @@ use Rattle.deadpool.specs.declared.replay.moves.Move.TheVariants as move
 use Rattle.deadpool.specs.declared.replay.moves.Reply.TheVariants as reply
 use Rattle.deadpool.proofs.CoreDesk.{core_desk}
 use Rattle.deadpool.proofs.Tickets.{NoTicket, IsOwned-set, IsOwned-like, IsOwned-unqueued}
-use Rattle.deadpool.proofs.Settling.{goes, creates, prepares, Shifts, IsCounted-set, IsCounted-settled, put_off-image, put_off-unqueued}
+use Rattle.deadpool.proofs.Settles.{counted_settled}
+use Rattle.deadpool.proofs.Settling.{goes, creates, prepares, Shifts, IsCounted-set, put_off-image, put_off-unqueued}
 use Rattle.deadpool.proofs.Ends.{Gives-same, holds_place, holds_creation, holds_object, ends_free, ends_empty}
 
 module _ {V E C R S F A : Type 0} (may : May V E C R S F A) (runtime : Option Runtime) (hooks : HookLists F A) (timeouts : Timeouts) (first most n : ℕ)
@@ -76,7 +77,7 @@ module _ {V E C R S F A : Type 0} (may : May V E C R S F A) (runtime : Option Ru
       (IsOwned-like core gone (IsOwned-set core gets k.tickets n (stands old) None h none (λ u. refl)) left refl refl) shifts in (
         ends_free runtime hooks timeouts first most core gets out n None left
             (put_off-image runtime hooks timeouts first most core gets out k.tickets n (stands old) None h none (λ u. refl)) counted,
-        IsCounted-settled left gone out counted,
+        counted_settled left gone out counted,
       )
 
   module _ (ticket : ℕ) (deadline : Option Moment) (h : slice_get gets n ≡ Some (stands (stage.Queued ticket deadline))) where
@@ -95,7 +96,7 @@ module _ {V E C R S F A : Type 0} (may : May V E C R S F A) (runtime : Option Ru
         record { going = refl; creations = refl; outside = refl; room = omega arith } in (
           ends_free runtime hooks timeouts first most core gets out n None left
               (put_off-unqueued runtime hooks timeouts first most core gets out k.tickets n old None h ticket is_ours.1 (λ u. refl) (λ u. refl)) counted,
-          IsCounted-settled left gone out counted,
+          counted_settled left gone out counted,
         )
 
     -- so it is at the desk

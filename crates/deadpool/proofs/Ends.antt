@@ -18,7 +18,8 @@ use Rattle.deadpool.proofs.Lists.{count_given-set}
 use Rattle.deadpool.proofs.NumberLists.{without_number-same}
 use Rattle.deadpool.proofs.ListsLemmas.{count-set}
 use Rattle.deadpool.proofs.Tickets.{NoTicket, owners-set}
-use Rattle.deadpool.proofs.Settling.{goes, creates, prepares, put_off, put_off-image, settle-none, settles, places-image}
+use Rattle.deadpool.proofs.Settles.{settles, counts_of}
+use Rattle.deadpool.proofs.Settling.{goes, creates, prepares, put_off, put_off-image, settle-none, places-image}
 
 -- a computation gives what one that is equal to it gives
 pub Gives-same : {Q : Type 0} {Answer : Q → Type 0} {A : Type 0} (may : (q : Q) → Answer q → Type 0) (p q : Program Q Answer A) (a : A)
@@ -55,7 +56,7 @@ module _ {V C R S F A : Type 0} (runtime : Option Runtime) (hooks : HookLists F 
 
   -- what a get held is free
   pub ends_free : (d : DeskState V) → put_off n (party_of new) pool ≡ after d → IsCounted d (set gets n new) out → settle (put_off n (party_of new) pool) ≡ after (settled d)
-  ends_free d e k = ap settle e ∙ sym (settles runtime hooks timeouts first most d (set gets n new) out k)
+  ends_free d e k = ap settle e ∙ sym (settles runtime hooks timeouts first most d (set gets n new) out (counts_of d (set gets n new) out k))
 
   -- it held no place, or none can be granted
   pub ends_quietly : (d : DeskState V) → put_off n (party_of new) pool ≡ after d → NobodyWaits (after d) → settle (put_off n (party_of new) pool) ≡ after d

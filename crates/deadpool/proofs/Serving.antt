@@ -28,7 +28,8 @@ use Rattle.deadpool.specs.declared.managed.desk.Serving.TheVariants as serving
 use Rattle.deadpool.specs.declared.replay.moves.Reply.{Reply}
 use Rattle.deadpool.specs.declared.replay.moves.Reply.TheVariants as reply
 use Rattle.deadpool.proofs.Tickets.{NoTicket, IsOwned-like}
-use Rattle.deadpool.proofs.Settling.{goes, creates, prepares, lasts, IsCounted-set, IsCounted-settled, settles, put}
+use Rattle.deadpool.proofs.Settles.{settles, counts_of, counted_settled}
+use Rattle.deadpool.proofs.Settling.{goes, creates, prepares, lasts, IsCounted-set, put}
 
 module _ {T : Type 0} where
   -- where nothing is idle, nothing is next
@@ -182,8 +183,8 @@ module _ {V C R S F A : Type 0} (runtime : Option Runtime) (hooks : HookLists F 
               ∙ serve_from-exhausted n party pool (unwrap_or allowance (length d.idle)) (subst (λ m. largest_usize ≤ m) (sym (creating_same left)) more)
               ∙ ap (λ (q : Pool V C R S F A). (reply.Failed NumbersExhausted, settle q))
               (ap (put n (party_of (stands new))) left.unqueued ∙ left.named new none)
-              ∙ ap (λ (q : Pool V C R S F A). (reply.Failed NumbersExhausted, q)) (sym (settles runtime hooks timeouts first most d (set gets n (stands new)) out counted)),
-          IsCounted-settled d (set gets n (stands new)) out counted,
+              ∙ ap (λ (q : Pool V C R S F A). (reply.Failed NumbersExhausted, q)) (sym (settles runtime hooks timeouts first most d (set gets n (stands new)) out (counts_of d (set gets n (stands new)) out counted))),
+          counted_settled d (set gets n (stands new)) out counted,
         )
 
     -- what serving does at the desk, it does in the pool

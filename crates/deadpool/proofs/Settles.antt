@@ -13,11 +13,8 @@ use Rattle.deadpool.specs.Stages.{Getting}
 use Rattle.deadpool.specs.Pool.{Pool, Party, is_going, is_creating, prepared_by, places as pool_places, grants as pool_grants, settle}
 use Rattle.deadpool.specs.Image.{party_of, owner, image, IsOwned, IsCounted}
 use Rattle.deadpool.specs.declared.managed.slot.Slot.{Slot}
-
--- `||` groups either way
-or_assoc : (a b c : Bool) → ((a || b) || c) ≡ (a || (b || c))
-or_assoc true b c = refl
-or_assoc false b c = refl
+use Rattle.deadpool.proofs.Tickets.{IsOwned-like}
+use Rattle.deadpool.proofs.Lists.{has_number-moved}
 
 module _ {V : Type 0} where
   -- the queue of a desk where the first n that wait have a place
@@ -26,10 +23,7 @@ module _ {V : Type 0} where
 
   -- a grant takes nobody out of the queue
   pub is_listed-granting : (t n : ℕ) (d : DeskState V) → is_listed t (granting n d) ≡ is_listed t d
-  is_listed-granting t n d =
-      ap (λ b. b || has_number t (drop n d.waiting)) (list_any-append (λ m. m == t) d.granted (take n d.waiting))
-      ∙ or_assoc (has_number t d.granted) (has_number t (take n d.waiting)) (has_number t (drop n d.waiting))
-      ∙ ap (λ b. has_number t d.granted || b) (sym (list_any-append (λ m. m == t) (take n d.waiting) (drop n d.waiting)) ∙ ap (has_number t) (take-append-drop n d.waiting))
+  is_listed-granting t n d = has_number-moved t n d.granted d.waiting
 
 module _ {V C R S : Type 0} where
   -- the desk's counts are those of the parties
@@ -53,12 +47,8 @@ module _ {V C R S : Type 0} where
   pub same_counted : (d d' : DeskState V) (gets : List (Option (Getting V C R S))) (out : List (Slot V)) → IsCounted d gets out
       → d'.granted ≡ d.granted → d'.waiting ≡ d.waiting → d'.going ≡ d.going → d'.creations ≡ d.creations → d'.outside ≡ d.outside → IsCounted d' gets out
   same_counted d d' gets out k granted waiting going creations outside =
-      let listed : (t : ℕ) → is_listed t d' ≡ is_listed t d = λ t. rw (granted, waiting) refl in
       record {
-        tickets = record {
-          owned = λ t h. k.tickets.owned t (sym (listed t) ∙ h);
-          listed = λ n t g e h. let l = k.tickets.listed n t g e h in (listed t ∙ l.0, l.1);
-        };
+        tickets = IsOwned-like d gets k.tickets d' granted waiting;
         going = going ∙ k.going;
         creations = creations ∙ k.creations;
         outside = outside ∙ k.outside;

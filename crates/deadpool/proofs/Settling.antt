@@ -18,7 +18,7 @@ use Rattle.deadpool.specs.Image.{party_of, owner, is_under_way, image, IsOwned, 
 use Rattle.deadpool.specs.declared.managed.slot.Slot.{Slot}
 use Rattle.deadpool.proofs.Lists.{count_given-set, so_many}
 use Rattle.deadpool.proofs.ListsLemmas.{count-set}
-use Rattle.deadpool.proofs.Tickets.{NoTicket, OneTicket, queueing, IsOwned-settled, owners-set, owners-absent, owners-unqueued, owners-queueing, owner-queueing}
+use Rattle.deadpool.proofs.Tickets.{NoTicket, OneTicket, queueing, owners-set, owners-absent, owners-unqueued, owners-queueing, owner-queueing}
 
 module _ {V C R S F A : Type 0} where
   -- nobody who waits can be granted a place
@@ -83,11 +83,6 @@ module _ {V C R S : Type 0} where
         room = rw (length-set gets n new) (omega (arith, c3, k.room, s.room));
       }
 
-  -- settling changes no count
-  pub IsCounted-settled : (d : DeskState V) (gets : List (Option (Getting V C R S))) (out : List (Slot V)) → IsCounted d gets out → IsCounted (settled d) gets out
-  IsCounted-settled d gets out k =
-      record { tickets = IsOwned-settled d gets k.tickets; going = k.going; creations = k.creations; outside = k.outside; room = k.room }
-
 module _ {V C R S F A : Type 0} (runtime : Option Runtime) (hooks : HookLists F A) (timeouts : Timeouts) (first most : ℕ) where
   -- the pool that a desk, its gets and the objects out stand for
   abbrev img : DeskState V → List (Option (Getting V C R S)) → List (Slot V) → Pool V C R S F A
@@ -98,19 +93,6 @@ module _ {V C R S F A : Type 0} (runtime : Option Runtime) (hooks : HookLists F 
   places-image d gets out k =
       let l : length (map (owner gets) d.granted) ≡ length d.granted = length-map d.granted (owner gets) in
       omega (arith, l, k.creations, k.outside, k.going)
-
-  -- the desk settles as the pool does
-  pub settles : (d : DeskState V) (gets : List (Option (Getting V C R S))) (out : List (Slot V)) → IsCounted d gets out → img (settled d) gets out ≡ settle (img d gets out)
-  settles d gets out k =
-      let l : length (map (owner gets) d.waiting) ≡ length d.waiting = length-map d.waiting (owner gets) in
-      let by : ℕ → ℕ → ℕ = λ waiting held. if d.is_open then min waiting (d.limit - held) else 0 in
-      let same : grants d ≡ pool_grants (img d gets out) =
-      ap (λ m. by m (places d)) (sym l) ∙ ap (by (length (map (owner gets) d.waiting))) (sym (places-image d gets out k)) in
-      let with : List ℕ → List ℕ → Pool V C R S F A = λ granted waiting. record (img d gets out) { granted = granted; waiting = waiting } in
-      ap (λ ns. with ns (map (owner gets) (drop (grants d) d.waiting)))
-      (map-append (owner gets) d.granted (take (grants d) d.waiting) ∙ ap (λ ns. map (owner gets) d.granted ++ ns) (sym (take-map (owner gets) (grants d) d.waiting)))
-      ∙ ap (with (map (owner gets) d.granted ++ take (grants d) (map (owner gets) d.waiting))) (sym (drop-map (owner gets) (grants d) d.waiting))
-      ∙ ap (λ m. with (map (owner gets) d.granted ++ take m (map (owner gets) d.waiting)) (drop m (map (owner gets) d.waiting))) same
 
 -- another party stands at n
 abbrev pub put : {V C R S F A : Type 0} → ℕ → Option (Party V C R S) → Pool V C R S F A → Pool V C R S F A

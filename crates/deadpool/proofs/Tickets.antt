@@ -91,15 +91,6 @@ module _ {V C R S : Type 0} (d : DeskState V) (gets : List (Option (Getting V C 
         listed = λ n u g there holds. let l = o.listed n u g there holds in (same u ∙ l.0, l.1);
       }
 
-  -- the desk settles
-  pub IsOwned-settled : IsOwned (settled d) gets
-  IsOwned-settled =
-      let same : (u : ℕ) → is_listed u (settled d) ≡ is_listed u d = λ u. has_number-moved u (grants d) d.granted d.waiting in
-      record {
-        owned = λ u k. o.owned u (sym (same u) ∙ k);
-        listed = λ n u g there holds. let l = o.listed n u g there holds in (same u ∙ l.0, l.1);
-      }
-
   -- a get without a ticket owns none
   pub not_owner : (n : ℕ) (old : Option (Getting V C R S)) (t : ℕ) → slice_get gets n ≡ Some old → has_ticket t old ≡ false → is_listed t d ≡ true → owner gets t ≢ n
   not_owner n old t h none k e =

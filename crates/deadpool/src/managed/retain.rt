@@ -1,8 +1,9 @@
 //! What a retain asks, and what it gives.
-ghost use Rattle.std.specs.Prelude.{⊤, ℕ, Bool};
+ghost use Rattle.std.specs.Prelude.{◌≡◌, [], ⊤, ℕ, Bool};
 ghost use Rattle.deadpool.specs.declared.managed.metrics.Metrics.{Metrics};
 
 use crate::managed::Metrics;
+use std::alloc::Global;
 use std::marker::Model;
 
 /// Says which idle objects a retain keeps, and is told of each of the others. It may change with each call.
@@ -46,4 +47,16 @@ impl<T> Model for RetainResult<T> {
     ghost Value = { Retained T };
 
     ghost view = { λ r. record { retained = r.retained; removed = r.removed.items } };
+}
+
+impl<T> RetainResult<T> {
+    /// What a retain gives where nothing is idle. It takes no memory.
+    pub fn empty(alloc: Global) -> Self
+        ensures { result ≡ record { retained = 0; removed = [] } }
+    {
+        RetainResult {
+            retained: 0,
+            removed: Vec::new(alloc),
+        }
+    }
 }
