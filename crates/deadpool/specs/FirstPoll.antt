@@ -87,7 +87,7 @@ module _ {V E C R S F A : Type 0} (desk : DeskOf (DeskState V) V) (may : May V E
   CreatesAs core (poll.Ready (Err e), c) core' turn = (turn ≡ Done (Err (Backend e))) × (core' ≡ settled core)
   CreatesAs core (poll.Pending, c) core' turn = ⊥
 
-  -- from the state without the creation: it is answered, or nothing can serve its timeout and nothing is called
+  -- from the state without the creation: it is answered, or nothing can serve its timeout and nothing is asked
   abbrev pub CreatesOne : DeskState V → DeskState V → Stage V C R S → Turn V E → Type 0
   CreatesOne core core' stage' turn =
       (stage' ≡ Finished)
@@ -95,7 +95,7 @@ module _ {V E C R S F A : Type 0} (desk : DeskOf (DeskState V) V) (may : May V E
       ⊎ ((lacks_runtime runtime timeouts.create ≡ false) × ((x : Poll (Result V E) × C) × (Gives may (create None) x × CreatesAs core x core' turn))))
 
 module _ {V E C R S F A : Type 0} (desk : DeskOf (DeskState V) V) (may : May V E C R S F A) where
-  -- where a place is free, the wait needs no runtime and no answer may be pending, a new get's poll may come to just these ends
+  -- where a place is free, the wait lacks no runtime and no answer may be pending, a new get's poll may come to just these ends
   abbrev pub FirstPoll : Type 0
   FirstPoll =
       AtOnce may → (runtime : Option Runtime) (hooks : HookLists F A) (now : Moment) (timeouts : Timeouts) (core core' : DeskState V) (stage' : Stage V C R S) (turn : Turn V E)

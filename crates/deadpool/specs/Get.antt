@@ -127,7 +127,7 @@ module _ {V E C R S : Type 0} where
   AfterCreation now deadline _ _ after turn = ⊥
 
 module _ {V E C R S F A : Type 0} (may : May V E C R S F A) where
-  -- an object is given up where its step was done: only then it is detached
+  -- an object is given up where its step was done, and only then a detach is asked
   abbrev pub GivesUp : V → StepReply → Type 0
   GivesUp value step.Done = (left : V) × may (Detach value) left
   GivesUp value step.Unknown = ⊤
@@ -151,7 +151,7 @@ module _ {V E C R S F A : Type 0} (may : May V E C R S F A) where
       GivesUp v reply × (after ≡ Finished) × (turn ≡ ended_by (PostCreateHook e) reply)
   AfterChecked slot _ _ after turn = ⊥
 
-  -- A creation that is not begun begins now. A timeout without a runtime ends the get, and nothing is called.
+  -- A creation that is not begun begins now. A timeout without a runtime ends the get, and nothing is asked.
   abbrev pub AdvancesCreation : Option Runtime → Moment → Option Duration → Option C → Option Moment → Made V → Stage V C R S → Turn V E → Type 0
   AdvancesCreation runtime now timeout (Some c) deadline made after turn =
       (x : Poll (Result V E) × C) × (Gives may (create (Some c)) x × AfterCreation now deadline x made after turn)

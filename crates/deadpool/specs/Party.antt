@@ -70,7 +70,7 @@ module _ {V E C R S F A : Type 0} where
   created n party now deadline p (poll.Pending, c) =
       if is_reached deadline now then fail n party (Timeout phase.Create) p else rest n party (creating (Some c) deadline) p
 
-  -- A creation that is not begun begins now. A timeout without a runtime ends the get, and nothing is called.
+  -- A creation that is not begun begins now. A timeout without a runtime ends the get, and nothing is asked.
   abbrev pub go_on_creating : ℕ → Party V C R S → Moment → Option C → Option Moment → Pool V C R S F A → Asking V E C R S F A (Reply V E × Pool V C R S F A)
   go_on_creating n party now (Some c) deadline p = create (Some c) >>= λ x. Return (created n party now deadline p x)
   go_on_creating n party now None deadline p =

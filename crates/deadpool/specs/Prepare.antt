@@ -62,7 +62,7 @@ module _ {V E C R S F A : Type 0} where
   abbrev pub poll_recycling : Moment → HookLists F A → Option Moment → R → Slot V → Asking V E C R S F A (Prepared V R S)
   poll_recycling now hooks deadline r slot = ask (PollRecycling r slot.value slot.metrics) >>= recycled now hooks deadline slot
 
-  -- A recycling begins. A timeout without a runtime gives the object up, and nothing is called.
+  -- A recycling begins. A timeout without a runtime gives the object up, and nothing is asked.
   abbrev pub begin_recycling : Moment → Option Runtime → Option Duration → HookLists F A → Slot V → Asking V E C R S F A (Prepared V R S)
   begin_recycling now runtime timeout hooks slot =
       if lacks_runtime runtime timeout then Return (GivenUp slot)

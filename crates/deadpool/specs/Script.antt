@@ -19,11 +19,11 @@ use Rattle.deadpool_parts.specs.declared.config.Timeouts.{Timeouts}
 use Rattle.deadpool_parts.specs.declared.errors.PoolError.{PoolError}
 use Rattle.deadpool_parts.specs.declared.errors.HookError.TheVariants.{Message}
 use Rattle.deadpool_parts.specs.declared.errors.RecycleError.TheVariants.{Backend}
-use Rattle.deadpool.specs.Moves.{moved, is_more, by_handle, take_at, resize, retain, upgrade}
+use Rattle.deadpool.specs.Moves.{moved, is_more, retain}
 use Rattle.deadpool.specs.Outside.{Question, Answer, Asking, BeginCreation, PollCreation, BeginRecycling, PollRecycling, CallHook, BeginHook, PollHook, Detach, Reserve}
 use Rattle.deadpool.specs.Pool.{Pool, opened}
 use Rattle.deadpool.specs.Rank.{rank_at}
-use Rattle.deadpool.specs.Steps.{find_slot, closed, cloned, handle_dropped}
+use Rattle.deadpool.specs.Steps.{find_slot}
 use Rattle.deadpool.specs.declared.managed.hooks.Hook.TheVariants.{AsyncFn}
 use Rattle.deadpool.specs.declared.managed.slot.Slot.{Slot}
 use Rattle.deadpool.specs.declared.replay.moves.Move.{Move}
@@ -153,18 +153,11 @@ abbrev pub timeouts_of : Option ℕ → Option ℕ → Option ℕ → Timeouts
 timeouts_of wait create recycle =
     record { wait = option_map nanoseconds wait; create = option_map nanoseconds create; recycle = option_map nanoseconds recycle }
 
--- one line of a script: a move, a step that no move makes yet, or words for calls to come
+-- one line of a script: a move, or words for calls to come. A retain's move has its numbers in a vector: here they are a list
 pub data Event : Type 0 where
   move_by : Move ℕ → Event
-  -- an object, by its number, leaves the pool for good
-  take_out : ℕ → Event
-  resize_to : ℕ → Event
   -- the numbers of the idle objects that are kept
   retain_only : List ℕ → Event
-  close_pool : Event
-  clone_handle : Event
-  drop_handle : Event
-  upgrade_handle : Event
   answer : Kind → List Word → Event
 
 -- The lines as they are written. A party and an object are named by their numbers, and a moment by its nanoseconds.
@@ -188,6 +181,24 @@ put n v = move_by (move.Put n v)
 
 abbrev pub back : ℕ → Event
 back n = move_by (move.Back n)
+
+abbrev pub take_out : ℕ → Event
+take_out n = move_by (move.Take n)
+
+abbrev pub resize_to : ℕ → Event
+resize_to limit = move_by (move.Resize limit)
+
+abbrev pub close_pool : Event
+close_pool = move_by move.Close
+
+abbrev pub clone_handle : Event
+clone_handle = move_by move.Clone
+
+abbrev pub drop_handle : Event
+drop_handle = move_by move.DropHandle
+
+abbrev pub upgrade_handle : Event
+upgrade_handle = move_by move.Upgrade
 
 abbrev pub status : Event
 status = move_by move.Status
@@ -287,13 +298,7 @@ by_move m p s = played (moved m p) s
 
 abbrev pub done : Event → ScriptPool → Script → Played
 done (move_by m) p s = by_move m p s
-done (take_out n) p s = played (take_at (find_slot n p.out) n p) s
-done (resize_to n) p s = played (resize n p) s
 done (retain_only ns) p s = played (retain ns p) s
-done close_pool p s = (by_handle (λ q. (reply.Done, closed q)) p, s)
-done clone_handle p s = (by_handle (λ q. (reply.Done, cloned q)) p, s)
-done drop_handle p s = (by_handle (λ q. (reply.Done, handle_dropped q)) p, s)
-done upgrade_handle p s = (upgrade p, s)
 done (answer kind ws) p s = ((reply.Done, p), with_words kind (words kind s ++ ws) s)
 
 -- the replies to some lines

@@ -1,4 +1,5 @@
-//! Object and connection pools that can't lose a place, an object or a waiter.
+//! Object and connection pools: the pool's state, gets over it, and trials, which play moves and lose no place, no object
+//! and no get that waits.
 #![tactic(auto)]
 
 pub mod managed;

@@ -7,8 +7,8 @@ pub struct Status {
     pub max_size: usize,
     /// How many it has: idle, being prepared, or out.
     pub size: usize,
-    /// How many of them a new get would find idle.
+    /// How many more are idle than gets that were polled and have none; 0 where there are fewer.
     pub available: usize,
-    /// How many gets wait for an object.
+    /// How many more gets were polled and have no object than objects are idle; 0 where there are fewer.
     pub waiting: usize,
 }

@@ -1,9 +1,13 @@
 //! Managed pools on one thread, by the moves of a trial.
+mod calls;
 mod gets;
 mod hooks;
 mod managers;
 mod metrics;
+mod object_ids;
+mod retain;
 mod timeouts;
+mod watched;
 
 use deadpool::managed::{AsyncHook, Manager, PoolBuilder, PoolError, SyncHook};
 use deadpool::replay::{Move, Reply, Trial};

@@ -1,8 +1,11 @@
 //! What is asked of a pool: one step at a time, each with its reply. Gets ask, and objects that go back, and the pool's
 //! owner.
 //!
-//! A get that holds a place and no object is served: it is given an idle object, or it begins a creation. Of the steps
-//! below, those that lower a count answer `Unknown` where there is nothing to lower, and change nothing.
+//! A get that holds a place and no object is served: it is given an idle object, or it begins a creation.
+//!
+//! What a step does is said as `Core` does it, by its relations. Of the steps below, those that lower a count answer
+//! `Unknown` where there is nothing to lower, and change nothing. Another desk has relations of its own, and owes
+//! nothing beyond them but that it keeps to an allowance.
 ghost use Rattle.std.specs.Prelude.{ℕ, Bool, Option, Result};
 ghost use Rattle.std.specs.declared.alloc.AllocError.{AllocError};
 ghost use Rattle.deadpool_parts.specs.declared.status.Status.{Status};

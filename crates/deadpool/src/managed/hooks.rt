@@ -21,7 +21,7 @@ pub trait SyncHook<M: Manager> {
     // Holds of each answer at a value, with the value that it leaves.
     ghost may_call: { Self → M.Type → Metrics → Result (Unit {0}) (HookError M.Error) → M.Type → Type 0 } = { λ _ _ _ _ _. ⊤ };
 
-    /// Sees an object, which it may change or refuse. It leaves a value that could be handed out as such.
+    /// Sees an object, which it may change or refuse. A value that could be handed out before can be after.
     fn call(&self, value: &mut M::Type, metrics: &Metrics) -> HookResult<M::Error>
         requires { can_call self.now }
         ensures answer { may_call self.now value.old metrics.now result value.new }

@@ -4,7 +4,7 @@ ghost use Rattle.deadpool.specs.FirstPoll.{FirstPoll, FirstPollEnded, FirstCreat
 
 use crate::managed::{AsyncHook, Core, Desk, Manager, SyncHook};
 
-/// One `poll_over` of a new get over an open `Core` with a free place, where the wait needs no runtime.
+/// One `poll_over` of a new get over an open `Core` with a free place, where the wait lacks no runtime.
 ///
 /// Where every answer comes at once, it gives the first idle object in mode order that is accepted, and has given up those
 /// before it. Just where none was accepted it begins a creation, which ends in the same poll, or ends as the numbers are

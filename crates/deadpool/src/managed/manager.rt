@@ -71,7 +71,9 @@ pub trait Manager {
         ensures ready { IfReadyOk result (λ _. is_ready value.new) }
         ensures kept { Keeps cx.old cx.new };
 
-    /// Is told of each object that its pool gives up. By default nothing is done.
+    /// Is told of an object that a get or a retain gives up, and of one that a return or a take gives up while the pool has
+    /// a handle. Objects that go with a smaller limit, a close or the last handle are dropped without it. By default
+    /// nothing is done.
     fn detach(&self, _value: &mut Self::Type)
         ensures { LeavesOrKeeps (may_detach self.now) _value.old _value.new }
     {}

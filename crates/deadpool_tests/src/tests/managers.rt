@@ -171,3 +171,69 @@ impl Manager for Draining {
         Poll::Ready(Ok(()))
     }
 }
+
+/// What a counted manager was asked, and whether it answers.
+#[derive(Drop)]
+pub struct Calls {
+    pub answers: Cell<bool>,
+    pub created: Cell<usize>,
+    pub detached: Cell<usize>,
+}
+
+impl Calls {
+    pub fn new() -> Self {
+        Calls {
+            answers: Cell::new(true),
+            created: Cell::new(0),
+            detached: Cell::new(0),
+        }
+    }
+
+    fn answer<T: Drop>(&self, answer: T) -> Poll<T> {
+        if self.answers.get() {
+            Poll::Ready(answer)
+        } else {
+            Poll::Pending
+        }
+    }
+}
+
+/// Counts the calls of `create` and `detach`. Its creations and recyclings are pending while it does not answer.
+#[derive(Drop)]
+pub struct Counted<'a> {
+    pub calls: &'a Calls,
+}
+
+impl<'a> Manager for Counted<'a> {
+    type Type = u64;
+
+    type Error = Refused;
+
+    type Creating = ();
+
+    type Recycling = ();
+
+    fn create(&self) -> () {
+        count(&self.calls.created);
+    }
+
+    fn poll_create(&self, _creating: &mut (), _cx: &mut Context<'_>) -> Poll<Result<u64, Refused>> {
+        self.calls.answer(Ok(0))
+    }
+
+    fn recycle(&self, _value: &mut u64, _metrics: &Metrics) -> () {}
+
+    fn poll_recycle(
+        &self,
+        _recycling: &mut (),
+        _value: &mut u64,
+        _metrics: &Metrics,
+        _cx: &mut Context<'_>,
+    ) -> Poll<RecycleResult<Refused>> {
+        self.calls.answer(Ok(()))
+    }
+
+    fn detach(&self, _value: &mut u64) {
+        count(&self.calls.detached);
+    }
+}

@@ -1,7 +1,7 @@
 //! Scripts with the owner's steps: take, resize, retain, close, and the count of pool handles.
 use super::Lines;
 
-pub const SCRIPTS: [(&'static str, Lines); 18] = [
+pub const SCRIPTS: [(&'static str, Lines); 23] = [
     (
         "clone-and-two-drops",
         &[
@@ -349,6 +349,91 @@ pub const SCRIPTS: [(&'static str, Lines); 18] = [
             ("back 2", "kept"),
             ("back 3", "kept"),
             ("status", "max 2 size 2 available 2 waiting 0"),
+        ],
+    ),
+    (
+        "take-after-a-shrink-leaves-no-place-over",
+        &[
+            ("pool 2 fifo none 0", "ok"),
+            ("start", "party 0"),
+            ("poll 0 0", "object 0 value 0"),
+            ("answer create pending", "ok"),
+            ("start", "party 1"),
+            ("poll 1 0", "pending"),
+            ("resize 1", "ok"),
+            ("take 0", "taken 0"),
+            ("start", "party 2"),
+            ("poll 2 0", "pending"),
+            ("status", "max 1 size 0 available 0 waiting 2"),
+        ],
+    ),
+    (
+        "cancel-after-a-shrink-leaves-no-place-over",
+        &[
+            ("pool 1 fifo none 0", "ok"),
+            ("answer create pending", "ok"),
+            ("start", "party 0"),
+            ("poll 0 0", "pending"),
+            ("resize 0", "ok"),
+            ("cancel 0", "cancelled"),
+            ("start 0 - -", "party 1"),
+            (
+                "poll 1 0",
+                "error Timeout occurred while waiting for a slot to become available",
+            ),
+            ("status", "max 0 size 0 available 0 waiting 0"),
+        ],
+    ),
+    (
+        "return-after-a-shrink-leaves-no-place-over",
+        &[
+            ("pool 2 fifo none 0", "ok"),
+            ("start", "party 0"),
+            ("poll 0 0", "object 0 value 0"),
+            ("answer create pending", "ok"),
+            ("start", "party 1"),
+            ("poll 1 0", "pending"),
+            ("resize 1", "ok"),
+            ("back 0", "kept"),
+            ("start 0 - -", "party 2"),
+            (
+                "poll 2 0",
+                "error Timeout occurred while waiting for a slot to become available",
+            ),
+            ("status", "max 1 size 1 available 0 waiting 0"),
+        ],
+    ),
+    (
+        "shrink-below-the-idle-leaves-no-place-over",
+        &[
+            ("pool 2 fifo none 0", "ok"),
+            ("start", "party 0"),
+            ("poll 0 0", "object 0 value 0"),
+            ("back 0", "kept"),
+            ("resize 0", "ok"),
+            ("start 0 - -", "party 1"),
+            (
+                "poll 1 0",
+                "error Timeout occurred while waiting for a slot to become available",
+            ),
+            ("status", "max 0 size 0 available 0 waiting 0"),
+        ],
+    ),
+    (
+        "refused-growth-and-empty-retain",
+        &[
+            ("pool 2 fifo none 0", "ok"),
+            ("resize 18446744073709551615", "out of memory"),
+            ("status", "max 2 size 0 available 0 waiting 0"),
+            ("retain", "retained 0 removed"),
+            ("start", "party 0"),
+            ("poll 0 0", "object 0 value 0"),
+            ("start", "party 1"),
+            ("poll 1 0", "object 1 value 1"),
+            ("back 0", "kept"),
+            ("back 1", "kept"),
+            ("retain", "retained 0 removed 0 1"),
+            ("status", "max 2 size 0 available 0 waiting 0"),
         ],
     ),
 ];
