@@ -1,8 +1,8 @@
--- What each state of a run has from the one before it: a queue in order, nobody who waits while a place is free, and no more
--- places and objects than its limit or so many.
-use Rattle.std.proofs.Common.{◌≡◌, ℕ, ◌+◌, ◌-◌, ◌≤◌, max, min, List, ◌++◌, true, false, not, length, set, take, drop, sym, ap, ◌∙◌, subst, arith, inl, inr, Option, Some, None, length-append, length-take, append_assoc}
-use Rattle.std.specs.Prelude.{slice_get, is_some, filter, filter_map, ◌==◌}
-use Rattle.std.proofs.lemmas.Bool.{cases_Bool, cond_both, cond-true, and_parts}
+-- What each state of a run has from the one before it: a queue in order of those that stand as queued, nobody who waits while a
+-- place is free, and no more places and objects than its limit or so many.
+use Rattle.std.proofs.Common.{◌≡◌, ◌≢◌, ℕ, ◌+◌, ◌-◌, ◌≤◌, max, min, List, ◌++◌, true, false, length, set, take, drop, sym, ap, ◌∙◌, subst, arith, inl, inr, Option, Some, None, length-append, length-take, append_assoc}
+use Rattle.std.specs.Prelude.{slice_get, is_some, filter, filter_map}
+use Rattle.std.proofs.lemmas.Bool.{cond_both, cond-true}
 use Rattle.std.proofs.lemmas.Bool.Decides.{eqb_tells}
 use Rattle.std.proofs.lemmas.List.{take-append-drop, drop_all}
 use Rattle.deadpool_parts.specs.Numbers.{has_number}
@@ -10,38 +10,39 @@ use Rattle.deadpool_parts.specs.declared.config.Timeouts.{Timeouts}
 use Rattle.deadpool.specs.Pool.{Pool, Party, Standing, goes, creates, prepared_at, is_going, is_creating, prepared_by, creating_count, places, size, reach, grants, settle}
 use Rattle.deadpool.specs.Steps.{to, unqueued}
 use Rattle.deadpool.specs.Moves.{NobodyWaits}
-use Rattle.deadpool.specs.Laws.{IsOnce, IsLawful, queue, waits_at, is_queued}
+use Rattle.deadpool.specs.Laws.{IsOnce, MarksQueued, IsLawful, queue, waits_at, is_queued}
 use Rattle.deadpool.specs.declared.managed.slot.Slot.{Slot}
-use Rattle.deadpool.proofs.ListsLemmas.{one_if, get-set_other, count-set, held-set}
-use Rattle.deadpool.proofs.NumberLists.{has_number-without, without_number-append, without_number-gone, without_number-shorter, IsOnce-without}
+use Rattle.deadpool.proofs.ListsLemmas.{one_if, get-set_same, get-set_other, count-set, held-set}
+use Rattle.deadpool.proofs.NumberLists.{has_number-other, without_number-append, without_number-gone, without_number-shorter, IsOnce-without}
 
 module _ {V C R S F A : Type 0} where
-  -- who is in the queue stands as queued
-  abbrev pub AreMarked : Pool V C R S F A → List (Option (Party V C R S)) → Type 0
-  AreMarked p parties = (n : ℕ) → has_number n (queue p) ≡ true → is_queued (slice_get parties n) ≡ true
+  -- of all but one, those in the queue stand as queued, and nobody else
+  abbrev pub MarksOthers : ℕ → Pool V C R S F A → Type 0
+  MarksOthers n p = (m : ℕ) → m ≢ n → has_number m (queue p) ≡ is_queued (slice_get p.parties m)
 
-  -- a queue in order, and no more places and objects than the limit or so many
+  -- nobody is in the queue twice, and no more places and objects than the limit or so many
   pub record IsOrderly (most : ℕ) (p : Pool V C R S F A) : Type 0 where
     pub once : IsOnce (queue p)
-    pub marks : AreMarked p p.parties
     pub few_places : places p ≤ max p.limit most
     pub few_objects : size p + creating_count p ≤ max p.limit most
 
-  -- and nobody waits while a place is free
+  -- and those in the queue are marked, and nobody waits while a place is free
   pub record Follows (most : ℕ) (p : Pool V C R S F A) : Type 0 where
     pub orderly : IsOrderly most p
+    pub marks : MarksQueued p
     pub nobody_waits : NobodyWaits p
 
   -- a lawful pool is within its own reach
   pub Follows-self : (p : Pool V C R S F A) → IsLawful p → Follows (reach p) p
   Follows-self p l = record {
-    orderly = record { once = l.once; marks = l.marks; few_places = omega arith; few_objects = omega arith };
+    orderly = record { once = l.once; few_places = omega arith; few_objects = omega arith };
+    marks = l.marks;
     nobody_waits = l.nobody_waits;
   }
 
   -- what follows is lawful
   pub Follows-lawful : (most : ℕ) (p : Pool V C R S F A) → Follows most p → IsLawful p
-  Follows-lawful most p f = record { once = f.orderly.once; marks = f.orderly.marks; nobody_waits = f.nobody_waits }
+  Follows-lawful most p f = record { once = f.orderly.once; marks = f.marks; nobody_waits = f.nobody_waits }
 
   -- what follows is within so much or the limit
   pub Follows-reach : (most : ℕ) (p : Pool V C R S F A) → Follows most p → reach p ≤ max p.limit most
@@ -56,9 +57,9 @@ module _ {V C R S F A : Type 0} where
   granting n p = record p { granted = p.granted ++ take n p.waiting; waiting = drop n p.waiting }
 
   -- as many as are free, where the pool is open
-  granting_follows : (most n : ℕ) (p : Pool V C R S F A) → IsOrderly most p → n ≤ p.limit - places p → (p.is_open ≡ true → n ≡ min (length p.waiting) (p.limit - places p))
+  granting_follows : (most n : ℕ) (p : Pool V C R S F A) → IsOrderly most p → MarksQueued p → n ≤ p.limit - places p → (p.is_open ≡ true → n ≡ min (length p.waiting) (p.limit - places p))
       → Follows most (granting n p)
-  granting_follows most n p k few all =
+  granting_follows most n p k marks few all =
       let same : queue (granting n p) ≡ queue p = rw append_assoc (ap (λ ys. p.granted ++ ys) (take-append-drop n p.waiting)) in
       let longer = length-append p.granted (take n p.waiting) in
       let taken = length-take n p.waiting in
@@ -66,17 +67,17 @@ module _ {V C R S F A : Type 0} where
       record {
         orderly = record {
           once = rw same k.once;
-          marks = λ m h. k.marks m (rw same at h);
           few_places = omega (arith, few, longer, taken, places_few);
           few_objects = k.few_objects;
         };
+        marks = λ m. ap (has_number m) same ∙ marks m;
         nobody_waits = λ opens free. let is = all opens in drop_all n p.waiting (omega (arith, is, free, longer, taken));
       }
 
   -- the free places are given to those that wait
-  pub settle_follows : (most : ℕ) (p : Pool V C R S F A) → IsOrderly most p → Follows most (settle p)
-  settle_follows most p k =
-      granting_follows most (grants p) p k
+  pub settle_follows : (most : ℕ) (p : Pool V C R S F A) → IsOrderly most p → MarksQueued p → Follows most (settle p)
+  settle_follows most p k marks =
+      granting_follows most (grants p) p k marks
       (cond_both p.is_open _ _ (λ n. n ≤ p.limit - places p) (λ opens. omega arith) (λ closed. omega arith))
       (λ opens. cond-true p.is_open _ _ opens)
 
@@ -92,26 +93,29 @@ module _ {V C R S F A : Type 0} where
       let places_few = k.few_places in
       record {
         once = rw (← left) (IsOnce-without n (queue p) k.once);
-        marks = λ m h. k.marks m (and_parts (has_number m (queue p)) (not (m == n)) (sym (has_number-without m n (queue p)) ∙ ap (has_number m) left ∙ h)).0;
         few_places = omega (arith, fewer, places_few);
         few_objects = k.few_objects;
       }
 
-  -- whoever does not stand as queued is not in the queue
-  pub not_queued : (n : ℕ) (party : Party V C R S) (p : Pool V C R S F A) → AreMarked p p.parties → slice_get p.parties n ≡ Some (Some party) → waits_at party.standing ≡ false
-      → has_number n (queue p) ≡ false
-  not_queued n party p marks h other =
-      elim (cases_Bool (has_number n (queue p))) [
-        | inl there ↦ let is : waits_at party.standing ≡ true = ap is_queued (sym h) ∙ marks n there in cc
-        | inr gone ↦ gone
-      ]
+  -- the others are in it as before
+  pub unqueued_marks : (n : ℕ) (p : Pool V C R S F A) → MarksOthers n p → MarksOthers n (unqueued n p)
+  unqueued_marks n p marks m other =
+      ap (has_number m) (sym (without_number-append n p.granted p.waiting)) ∙ has_number-other m n (queue p) other ∙ marks m other
 
-  -- the marks of the others stay
-  pub set_marks : (n : ℕ) (new : Option (Party V C R S)) (p : Pool V C R S F A) → AreMarked p p.parties → has_number n (queue p) ≡ false → AreMarked p (set p.parties n new)
-  set_marks n new p marks gone m h =
+  -- whoever does not stand as queued is not in the queue
+  pub not_queued : (n : ℕ) (party : Party V C R S) (p : Pool V C R S F A) → MarksQueued p → slice_get p.parties n ≡ Some (Some party) → waits_at party.standing ≡ false
+      → has_number n (queue p) ≡ false
+  not_queued n party p marks h other = marks n ∙ ap is_queued h ∙ other
+
+  -- where one party stands elsewhere, the marks of the others stay
+  pub set_marks : (n : ℕ) (old new : Option (Party V C R S)) (p : Pool V C R S F A) → slice_get p.parties n ≡ Some old → MarksOthers n p → has_number n (queue p) ≡ is_queued (Some new)
+      → MarksQueued (record p { parties = set p.parties n new })
+  set_marks n old new p h marks here m =
       elim (eqb_tells m n) [
-        | inl same ↦ let there : has_number n (queue p) ≡ true = subst (λ (k : ℕ). has_number k (queue p) ≡ true) same.1 h in cc
-        | inr other ↦ ap is_queued (get-set_other p.parties n m new other.1) ∙ marks m h
+        | inl same ↦
+            subst (λ (i : ℕ). has_number i (queue p) ≡ is_queued (slice_get (set p.parties n new) i)) (sym same.1)
+            (here ∙ ap is_queued (sym (get-set_same p.parties n old new h)))
+        | inr other ↦ marks m other.1 ∙ ap is_queued (sym (get-set_other p.parties n m new other.1))
       ]
 
 module _ {V C R S : Type 0} where
@@ -137,26 +141,27 @@ module _ {V C R S : Type 0} where
 module _ {V C R S F A : Type 0} where
   -- A party that is in the queue no more leaves what it held, and it is settled.
   pub left_follows : (most n : ℕ) (party : Party V C R S) (new : Option (Party V C R S)) (p : Pool V C R S F A)
-      → IsOrderly most p → slice_get p.parties n ≡ Some (Some party) → is_going new ≡ false → is_creating new ≡ false → prepared_by new ≡ None
+      → IsOrderly most p → MarksOthers n p → slice_get p.parties n ≡ Some (Some party)
+      → is_queued (Some new) ≡ false → is_going new ≡ false → is_creating new ≡ false → prepared_by new ≡ None
       → Follows most (settle (record (unqueued n p) { parties = set p.parties n new }))
-  left_follows most n party new p k h f0 f1 f2 =
+  left_follows most n party new p k marks h w f0 f1 f2 =
       let u = unqueued_orderly most n p k in
       let c = rw (f0, f1, f2) at (counts p.parties n (Some party) new h) in
       let places_few = u.few_places in
       let objects_few = u.few_objects in
       settle_follows most (record (unqueued n p) { parties = set p.parties n new }) record {
         once = u.once;
-        marks = set_marks n new (unqueued n p) u.marks (unqueued_gone n p);
         few_places = omega (arith, c, places_few);
         few_objects = omega (arith, c, objects_few);
       }
+      (set_marks n (Some party) new (unqueued n p) h (unqueued_marks n p marks) (unqueued_gone n p ∙ sym w))
 
   -- A party stands elsewhere with the same places and no more objects.
   pub same_places_follow : (most n : ℕ) (timeouts : Timeouts) (old new : Standing V C R S) (next : ℕ) (idle out : List (Slot V)) (p : Pool V C R S F A)
-      → Follows most p → slice_get p.parties n ≡ Some (Some (standing_at timeouts old)) → waits_at old ≡ false
+      → Follows most p → slice_get p.parties n ≡ Some (Some (standing_at timeouts old)) → waits_at old ≡ waits_at new
       → holds new + length out ≡ holds old + length p.out → makes new + (length idle + length out) ≤ makes old + (length p.idle + length p.out)
       → Follows most (to n (standing_at timeouts old) new (record p { next = next; idle = idle; out = out }))
-  same_places_follow most n timeouts old new next idle out p f h other same few =
+  same_places_follow most n timeouts old new next idle out p f h waits same few =
       let k = f.orderly in
       let c = counts p.parties n (Some (standing_at timeouts old)) (Some (standing_at timeouts new)) h in
       let places_few = k.few_places in
@@ -164,9 +169,9 @@ module _ {V C R S F A : Type 0} where
       record {
         orderly = record {
           once = k.once;
-          marks = set_marks n (Some (standing_at timeouts new)) p k.marks (not_queued n (standing_at timeouts old) p k.marks h other);
           few_places = omega (arith, c, same, places_few);
           few_objects = omega (arith, c, few, objects_few);
         };
+        marks = set_marks n (Some (standing_at timeouts old)) (Some (standing_at timeouts new)) p h (λ m other. f.marks m) (f.marks n ∙ ap is_queued h ∙ waits);
         nobody_waits = λ opens free. f.nobody_waits opens (omega (arith, c, same, free));
       }

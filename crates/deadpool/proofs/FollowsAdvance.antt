@@ -1,8 +1,7 @@
 -- What follows an advance of a party, and its cancelling.
-use Rattle.std.proofs.Common.{◌≡◌, ◌≢◌, ℕ, ◌+◌, ◌-◌, ◌<◌, ◌≤◌, max, List, [], ◌∷◌, ◌++◌, Bool, true, false, not, ◌||◌, ◌&&◌, length, set, refl, sym, ap, ◌∙◌, subst, arith, inl, inr, Option, Some, None, Result, Ok, Err, append_assoc}
-use Rattle.std.specs.Prelude.{nat_lt, slice_get, unwrap_or, is_none, ◌==◌}
-use Rattle.std.proofs.lemmas.Bool.{cond_both, ltb-true, ltb-false, or_cases, ne_eqb}
-use Rattle.std.proofs.lemmas.Bool.Decides.{eqb_tells}
+use Rattle.std.proofs.Common.{◌≡◌, ℕ, ◌+◌, ◌-◌, ◌<◌, ◌≤◌, max, List, [], ◌∷◌, ◌++◌, Bool, true, false, not, ◌&&◌, length, refl, sym, ap, ◌∙◌, arith, Option, Some, None, Result, Ok, Err, append_assoc}
+use Rattle.std.specs.Prelude.{nat_lt, slice_get, unwrap_or, is_none}
+use Rattle.std.proofs.lemmas.Bool.{cond_both, ltb-true, ltb-false}
 use Rattle.std.proofs.lemmas.Option.{slice_get-get_or}
 use Rattle.futures.specs.declared.task.Poll.{Poll}
 use Rattle.futures.specs.declared.task.Poll.TheVariants as poll
@@ -32,11 +31,11 @@ use Rattle.deadpool.specs.Metrics.{new_metrics}
 use Rattle.deadpool.specs.declared.managed.prepare.Prepared.{Prepared}
 use Rattle.deadpool.specs.declared.managed.prepare.Prepared.TheVariants as prepared
 use Rattle.deadpool.specs.declared.replay.moves.Reply.{Reply}
-use Rattle.deadpool.proofs.ListsLemmas.{one_if, get-set_same, get-set_other}
-use Rattle.deadpool.proofs.NumberLists.{has_number-append, without_number-once, IsOnce-left, IsOnce-push}
+use Rattle.deadpool.proofs.ListsLemmas.{one_if}
+use Rattle.deadpool.proofs.NumberLists.{has_number-push, has_number-last, without_number-once, IsOnce-left, IsOnce-push}
 use Rattle.deadpool.proofs.SlotLists.{length-with_slot}
 use Rattle.deadpool.proofs.Falls.{other_idle-shorter}
-use Rattle.deadpool.proofs.Follows.{IsOrderly, Follows, unqueued_gone, unqueued_orderly, not_queued, set_marks, counts, standing_at, holds, makes, left_follows, same_places_follow}
+use Rattle.deadpool.proofs.Follows.{MarksOthers, IsOrderly, Follows, unqueued_gone, unqueued_orderly, unqueued_marks, not_queued, set_marks, counts, standing_at, holds, makes, left_follows, same_places_follow}
 
 -- where no object is served, none is idle
 pub next_idle-none : {V : Type 0} (mode : QueueMode) (idle : List (Slot V)) → next_idle mode idle ≡ None → length idle ≡ 0
@@ -51,27 +50,28 @@ module _ {V E C R S F A : Type 0} where
 
 module _ {V C R S F A : Type 0} where
   -- a party's end
-  pub ended_follows : (most n : ℕ) (party : Party V C R S) (p : Pool V C R S F A) → IsOrderly most p → slice_get p.parties n ≡ Some (Some party) → Follows most (ended n party p)
-  ended_follows most n party p k h = left_follows most n party (Some record { timeouts = party.timeouts; standing = finished }) p k h refl refl refl
+  pub ended_follows : (most n : ℕ) (party : Party V C R S) (p : Pool V C R S F A) → IsOrderly most p → MarksOthers n p → slice_get p.parties n ≡ Some (Some party)
+      → Follows most (ended n party p)
+  ended_follows most n party p k marks h = left_follows most n party (Some record { timeouts = party.timeouts; standing = finished }) p k marks h refl refl refl refl
 
 -- A party that holds a place, or may take a free one, is served.
 module _ {V C R S F A : Type 0} (E : Type 0) (most n : ℕ) (timeouts : Timeouts) (old : Standing V C R S) (p : Pool V C R S F A)
-    (k : IsOrderly most p) (h : slice_get p.parties n ≡ Some (Some (standing_at timeouts old))) (gone : has_number n (queue p) ≡ false)
+    (k : IsOrderly most p) (marks : MarksOthers n p) (h : slice_get p.parties n ≡ Some (Some (standing_at timeouts old))) (gone : has_number n (queue p) ≡ false)
     (f1 : creates old ≡ false) (f2 : prepared_at old ≡ None) (room : places p + 1 ≤ max p.limit most + one_if (goes old))
     (waits : p.is_open ≡ true → places p + 1 < p.limit + one_if (goes old) → p.waiting ≡ []) where
   -- it stands elsewhere with one place
-  placed_follows : (new : Standing V C R S) (idle : List (Slot V)) → holds new ≡ 1
+  placed_follows : (new : Standing V C R S) (idle : List (Slot V)) → waits_at new ≡ false → holds new ≡ 1
       → size (to n (standing_at timeouts old) new (record p { idle = idle })) + creating_count (to n (standing_at timeouts old) new (record p { idle = idle })) ≤ max p.limit most
       → Follows most (to n (standing_at timeouts old) new (record p { idle = idle }))
-  placed_follows new idle one few =
+  placed_follows new idle served one few =
       let c = rw (f1, f2) at (counts p.parties n (Some (standing_at timeouts old)) (Some (standing_at timeouts new)) h) in
       record {
         orderly = record {
           once = k.once;
-          marks = set_marks n (Some (standing_at timeouts new)) p k.marks gone;
           few_places = omega (arith, c, one, room);
           few_objects = few;
         };
+        marks = set_marks n (Some (standing_at timeouts old)) (Some (standing_at timeouts new)) (record p { idle = idle }) h marks (gone ∙ sym served);
         nobody_waits = λ opens free. waits opens (omega (arith, c, one, free));
       }
 
@@ -85,28 +85,16 @@ module _ {V C R S F A : Type 0} (E : Type 0) (most n : ℕ) (timeouts : Timeouts
       (λ some.
       let new : Standing V C R S = recycling (PreRecycle slot start) (Some (allowed - 1)) in
       let c = rw (f1, f2) at (counts p.parties n (Some (standing_at timeouts old)) (Some (standing_at timeouts new)) h) in
-      placed_follows new (other_idle p.mode p.idle) refl (omega (arith, c, less, few)))
+      placed_follows new (other_idle p.mode p.idle) refl refl (omega (arith, c, less, few)))
       (λ none.
       let c = rw (f1, f2) at (counts p.parties n (Some (standing_at timeouts old)) (Some (standing_at timeouts (going None))) h) in
-      placed_follows (going None) p.idle refl (omega (arith, c, few)))
+      placed_follows (going None) p.idle refl refl (omega (arith, c, few)))
   serve_follows None allowed e =
       let empty = next_idle-none p.mode p.idle e in
       let c = rw (f1, f2) at (counts p.parties n (Some (standing_at timeouts old)) (Some (standing_at timeouts (creating None None))) h) in
       cond_both (nat_lt (p.next + creating_count p) largest_usize) _ _ (After most)
-      (λ few. placed_follows (creating None None) p.idle refl (omega (arith, c, room, empty)))
-      (λ full. ended_follows most n (standing_at timeouts old) p k h)
-
-module _ {V C R S : Type 0} where
-  -- a party that is queued now is marked, and so are those that were
-  queued_marked : (n m : ℕ) (timeouts : Timeouts) (deadline : Option Moment) (old : Option (Party V C R S)) (parties : List (Option (Party V C R S)))
-      → slice_get parties n ≡ Some old → (m ≢ n → is_queued (slice_get parties m) ≡ true)
-      → is_queued (slice_get (set parties n (Some (standing_at timeouts (queued deadline)))) m) ≡ true
-  queued_marked n m timeouts deadline old parties h others =
-      let new : Option (Party V C R S) = Some (standing_at timeouts (queued deadline)) in
-      elim (eqb_tells m n) [
-        | inl same ↦ subst (λ (i : ℕ). is_queued (slice_get (set parties n new) i) ≡ true) (sym same.1) (ap is_queued (get-set_same parties n old new h))
-        | inr other ↦ ap is_queued (get-set_other parties n m new other.1) ∙ others other.1
-      ]
+      (λ few. placed_follows (creating None None) p.idle refl refl (omega (arith, c, room, empty)))
+      (λ full. ended_follows most n (standing_at timeouts old) p k marks h)
 
 module _ {V C R S F A : Type 0} (E : Type 0) (most n : ℕ) (timeouts : Timeouts) (now : Moment) where
   -- who joins the queue where no place is free
@@ -114,33 +102,30 @@ module _ {V C R S F A : Type 0} (E : Type 0) (most n : ℕ) (timeouts : Timeouts
       → (found : Bool) → After {E = E} most (joined n (standing_at timeouts unpolled) deadline p found)
   joined_follows deadline p f h full true =
       let k = f.orderly in
-      let gone = not_queued n (standing_at timeouts unpolled) p k.marks h refl in
+      let gone = not_queued n (standing_at timeouts unpolled) p f.marks h refl in
       let c = counts p.parties n (Some (standing_at timeouts unpolled)) (Some (standing_at timeouts (queued deadline))) h in
       let places_few = k.few_places in
       let objects_few = k.few_objects in
       record {
         orderly = record {
           once = rw (← append_assoc) (IsOnce-push (queue p) n k.once gone);
-          marks = λ m listed. queued_marked n m timeouts deadline (Some (standing_at timeouts unpolled)) p.parties h (λ other.
-              let flat : has_number m (queue p ++ n ∷ []) ≡ true = rw append_assoc listed in
-              elim (or_cases (has_number m (queue p)) ((n == m) || false) (sym (has_number-append m (queue p) (n ∷ [])) ∙ flat)) [
-                | inl there ↦ k.marks m there
-                | inr here ↦ let differs : (n == m) ≡ false = ne_eqb n m (λ e. other (sym e)) in let clash : ((n == m) || false) ≡ false = rw differs refl in cc
-              ]);
           few_places = omega (arith, c, places_few);
           few_objects = omega (arith, c, objects_few);
         };
+        marks = set_marks n (Some (standing_at timeouts unpolled)) (Some (standing_at timeouts (queued deadline))) (record p { waiting = p.waiting ++ n ∷ [] }) h
+            (λ m other. ap (has_number m) (sym (append_assoc p.granted p.waiting (n ∷ []))) ∙ has_number-push m n (queue p) other ∙ f.marks m)
+            (ap (has_number n) (sym (append_assoc p.granted p.waiting (n ∷ []))) ∙ has_number-last n (queue p));
         nobody_waits = λ opens free. absurd (omega (arith, c, full, free));
       }
-  joined_follows deadline p f h full false = ended_follows most n (standing_at timeouts unpolled) p f.orderly h
+  joined_follows deadline p f h full false = ended_follows most n (standing_at timeouts unpolled) p f.orderly (λ m other. f.marks m) h
 
   -- the first poll
   enter_follows : (p : Pool V C R S F A) → Follows most p → slice_get p.parties n ≡ Some (Some (standing_at timeouts unpolled))
       → Always (After {E = E} most) (enter n (standing_at timeouts unpolled) now p)
   enter_follows p f h =
       let k = f.orderly in
-      let gone = not_queued n (standing_at timeouts unpolled) p k.marks h refl in
-      let ends = ended_follows most n (standing_at timeouts unpolled) p k h in
+      let gone = not_queued n (standing_at timeouts unpolled) p f.marks h refl in
+      let ends = ended_follows most n (standing_at timeouts unpolled) p k (λ m other. f.marks m) h in
       let deadline = deadline_after now timeouts.wait in
       let P : Asking V E C R S F A (Reply V E × Pool V C R S F A) → Type 0 = Always (After most) in
       cond_both (is_positive timeouts.wait && is_none p.runtime) _ _ P (λ lacks. ends) (λ serves.
@@ -148,7 +133,7 @@ module _ {V C R S F A : Type 0} (E : Type 0) (most n : ℕ) (timeouts : Timeouts
       cond_both (nat_lt (places p) p.limit) _ _ P
       (λ few.
       let free = ltb-true (places p) p.limit few in
-      serve_follows E most n timeouts unpolled p k h gone refl refl (omega (arith, free)) (λ is_open more. f.nobody_waits is_open free)
+      serve_follows E most n timeouts unpolled p k (λ m other. f.marks m) h gone refl refl (omega (arith, free)) (λ is_open more. f.nobody_waits is_open free)
       (next_idle p.mode p.idle) (length p.idle) refl)
       (λ full.
       cond_both (is_reached deadline now) _ _ P (λ late. ends) (λ early found. joined_follows deadline p f h (ltb-false (places p) p.limit full) found))))
@@ -158,14 +143,14 @@ module _ {V C R S F A : Type 0} (E : Type 0) (most n : ℕ) (timeouts : Timeouts
       → After {E = E} most (inquire n (standing_at timeouts (queued deadline)) now deadline p)
   inquire_follows deadline p f h =
       let k = f.orderly in
-      let ends = ended_follows most n (standing_at timeouts (queued deadline)) p k h in
+      let ends = ended_follows most n (standing_at timeouts (queued deadline)) p k (λ m other. f.marks m) h in
       let places_few = k.few_places in
       let objects_few = k.few_objects in
       cond_both (not p.is_open) _ _ (After {E = E} most) (λ closed. ends) (λ opens.
       cond_both (has_number n p.granted) _ _ (After {E = E} most)
       (λ granted.
       let fewer = without_number-once n p.granted (IsOnce-left p.granted p.waiting k.once) granted in
-      serve_follows E most n timeouts (queued deadline) (unqueued n p) (unqueued_orderly most n p k) h (unqueued_gone n p) refl refl
+      serve_follows E most n timeouts (queued deadline) (unqueued n p) (unqueued_orderly most n p k) (unqueued_marks n p (λ m other. f.marks m)) h (unqueued_gone n p) refl refl
       (omega (arith, fewer, places_few))
       (λ is_open free. ap (without_number n) (f.nobody_waits is_open (omega (arith, fewer, free))))
       (next_idle p.mode p.idle) (length p.idle) refl)
@@ -174,10 +159,10 @@ module _ {V C R S F A : Type 0} (E : Type 0) (most n : ℕ) (timeouts : Timeouts
       cond_both (is_reached deadline now) _ _ (After {E = E} most) (λ late. ends) (λ early. record {
         orderly = record {
           once = k.once;
-          marks = λ m listed. queued_marked n m timeouts deadline (Some (standing_at timeouts (queued deadline))) p.parties h (λ other. k.marks m listed);
           few_places = omega (arith, c, places_few);
           few_objects = omega (arith, c, objects_few);
         };
+        marks = set_marks n (Some (standing_at timeouts (queued deadline))) (Some (standing_at timeouts (queued deadline))) p h (λ m other. f.marks m) (f.marks n ∙ ap is_queued h);
         nobody_waits = λ is_open free. f.nobody_waits is_open (omega (arith, c, free));
       })))
 
@@ -187,7 +172,7 @@ module _ {V C R S F A : Type 0} (E : Type 0) (most n : ℕ) (timeouts : Timeouts
   going_follows allowance p f h =
       let k = f.orderly in
       let places_few = k.few_places in
-      serve_follows E most n timeouts (going allowance) p k h (not_queued n (standing_at timeouts (going allowance)) p k.marks h refl) refl refl
+      serve_follows E most n timeouts (going allowance) p k (λ m other. f.marks m) h (not_queued n (standing_at timeouts (going allowance)) p f.marks h refl) refl refl
       (omega (arith, places_few)) (λ is_open free. f.nobody_waits is_open (omega (arith, free)))
       (next_idle p.mode p.idle) (unwrap_or allowance (length p.idle)) refl
 
@@ -214,17 +199,17 @@ module _ {V C R S F A : Type 0} (E : Type 0) (most n : ℕ) (timeouts : Timeouts
   checked_follows slot at p (verdict.Accepted, v) f h = handed_follows (checking slot at) (with_value v slot) p f h refl refl refl
   checked_follows slot at p (verdict.Pending next, v) f h =
       same_places_follow most n timeouts (checking slot at) (checking (with_value v slot) next) p.next p.idle p.out p f h refl refl (omega arith)
-  checked_follows slot at p (verdict.Refused cause, v) f h = λ left. ended_follows most n (standing_at timeouts (checking slot at)) p f.orderly h
+  checked_follows slot at p (verdict.Refused cause, v) f h = λ left. ended_follows most n (standing_at timeouts (checking slot at)) p f.orderly (λ m other. f.marks m) h
 
   -- by a creation's answer
   created_follows : (begun : Option C) (before deadline : Option Moment) (p : Pool V C R S F A) (x : Poll (Result V E) × C) → Follows most p
       → slice_get p.parties n ≡ Some (Some (standing_at timeouts (creating begun before))) → After {E = E} most (created n (standing_at timeouts (creating begun before)) now deadline p x)
   created_follows begun before deadline p (poll.Ready (Ok value), c) f h =
       same_places_follow most n timeouts (creating begun before) (checking record { number = p.next; value = value; metrics = new_metrics now } start) (p.next + 1) p.idle p.out p f h refl refl (omega arith)
-  created_follows begun before deadline p (poll.Ready (Err cause), c) f h = ended_follows most n (standing_at timeouts (creating begun before)) p f.orderly h
+  created_follows begun before deadline p (poll.Ready (Err cause), c) f h = ended_follows most n (standing_at timeouts (creating begun before)) p f.orderly (λ m other. f.marks m) h
   created_follows begun before deadline p (poll.Pending, c) f h =
       cond_both (is_reached deadline now) _ _ (After {E = E} most)
-      (λ late. ended_follows most n (standing_at timeouts (creating begun before)) p f.orderly h)
+      (λ late. ended_follows most n (standing_at timeouts (creating begun before)) p f.orderly (λ m other. f.marks m) h)
       (λ early. same_places_follow most n timeouts (creating begun before) (creating (Some c) deadline) p.next p.idle p.out p f h refl refl (omega arith))
 
   -- a creation, begun or not
@@ -237,7 +222,7 @@ module _ {V C R S F A : Type 0} (E : Type 0) (most n : ℕ) (timeouts : Timeouts
       let after = deadline_after now timeouts.create in
       let P : Asking V E C R S F A (Reply V E × Pool V C R S F A) → Type 0 = Always (After most) in
       cond_both (lacks_runtime p.runtime timeouts.create) _ _ P
-      (λ lacks. ended_follows most n (standing_at timeouts (creating None deadline)) p f.orderly h)
+      (λ lacks. ended_follows most n (standing_at timeouts (creating None deadline)) p f.orderly (λ m other. f.marks m) h)
       (λ serves. Always-bind (After {E = E} most) (create {R = R} {S = S} {F = F} {A = A} None) (λ x. Return (created n (standing_at timeouts (creating None deadline)) now after p x))
       (λ x. created_follows None deadline after p x f h))
 
@@ -264,8 +249,8 @@ module _ {V C R S F A : Type 0} (E : Type 0) (most n : ℕ) where
   -- by the object that the party prepared, or none
   cancel_with_follows : (object : Option (Slot V)) (party : Party V C R S) (p : Pool V C R S F A) → Follows most p → slice_get p.parties n ≡ Some (Some party)
       → Always (After {E = E} most) (cancel_with object n p)
-  cancel_with_follows (Some slot) party p f h = λ left. left_follows most n party None p f.orderly h refl refl refl
-  cancel_with_follows None party p f h = left_follows most n party None p f.orderly h refl refl refl
+  cancel_with_follows (Some slot) party p f h = λ left. left_follows most n party None p f.orderly (λ m other. f.marks m) h refl refl refl refl
+  cancel_with_follows None party p f h = left_follows most n party None p f.orderly (λ m other. f.marks m) h refl refl refl refl
 
   -- a party is cancelled
   pub cancel_follows : (party : Party V C R S) (p : Pool V C R S F A) → Follows most p → slice_get p.parties n ≡ Some (Some party) → Always (After {E = E} most) (cancel n party p)

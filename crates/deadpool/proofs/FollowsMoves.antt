@@ -1,5 +1,5 @@
 -- What follows each step of a pool's owner, and each move.
-use Rattle.std.proofs.Common.{◌≡◌, ℕ, ◌+◌, ◌-◌, ◌≤◌, max, min, List, [], ◌∷◌, ◌++◌, Bool, true, false, not, length, drop, refl, ap, ◌∙◌, arith, Option, Some, None, length-append, length-drop}
+use Rattle.std.proofs.Common.{◌≡◌, ℕ, zero, suc, ◌+◌, ◌-◌, ◌≤◌, max, min, List, [], ◌∷◌, ◌++◌, Bool, true, false, not, length, drop, refl, sym, ◌∙◌, arith, Option, Some, None, length-append, length-drop}
 use Rattle.std.specs.Prelude.{nat_lt, nat_le, slice_get, filter, unwrap_or, ◌==◌, if◌then◌else◌}
 use Rattle.std.proofs.lemmas.Bool.{cond_both}
 use Rattle.deadpool_parts.specs.Numbers.{has_number}
@@ -17,17 +17,19 @@ use Rattle.deadpool.specs.declared.replay.moves.Move.{Move}
 use Rattle.deadpool.specs.declared.replay.moves.Move.TheVariants as move
 use Rattle.deadpool.specs.declared.replay.moves.Reply.{Reply}
 use Rattle.deadpool.specs.declared.replay.moves.Reply.TheVariants as reply
-use Rattle.deadpool.proofs.ListsLemmas.{get-append, count-push, held-push, filter-shorter}
+use Rattle.deadpool.proofs.ListsLemmas.{count-push, held-push, filter-shorter}
 use Rattle.deadpool.proofs.SlotLists.{length-with_put, length-without_slot}
 use Rattle.deadpool.proofs.Follows.{IsOrderly, Follows, Follows-self, standing_at, settle_follows}
 use Rattle.deadpool.proofs.FollowsAdvance.{After, advance_follows, cancel_follows}
 
 module _ {V C R S : Type 0} where
-  -- who is queued stays so where a party starts
-  started_marked : (parties : List (Option (Party V C R S))) (new : Option (Party V C R S)) (n : ℕ) (found : Option (Option (Party V C R S))) → slice_get parties n ≡ found
-      → is_queued found ≡ true → is_queued (slice_get (parties ++ new ∷ []) n) ≡ true
-  started_marked parties new n None e h = cc
-  started_marked parties new n (Some party) e h = ap is_queued (get-append parties (new ∷ []) n party e) ∙ h
+  -- where a party starts that is not queued, the same are queued
+  started_marked : (parties : List (Option (Party V C R S))) (new : Option (Party V C R S)) (n : ℕ) → is_queued (Some new) ≡ false
+      → is_queued (slice_get parties n) ≡ is_queued (slice_get (parties ++ new ∷ []) n)
+  started_marked [] new zero h = sym h
+  started_marked [] new (suc n) h = refl
+  started_marked (x ∷ xs) new zero h = refl
+  started_marked (x ∷ xs) new (suc n) h = started_marked xs new n h
 
 module _ {V C R S F A : Type 0} (most : ℕ) where
   -- other objects, no more of them, and the same places
@@ -40,10 +42,10 @@ module _ {V C R S F A : Type 0} (most : ℕ) where
       record {
         orderly = record {
           once = k.once;
-          marks = k.marks;
           few_places = omega (arith, same, places_few);
           few_objects = omega (arith, same, fewer, objects_few);
         };
+        marks = f.marks;
         nobody_waits = λ opens free. f.nobody_waits opens (omega (arith, same, free));
       }
 
@@ -55,7 +57,7 @@ module _ {V C R S F A : Type 0} (most : ℕ) where
       let fewer = length-without_slot n p.out slot found in
       let places_few = k.few_places in
       let objects_few = k.few_objects in
-      record { once = k.once; marks = k.marks; few_places = omega (arith, fewer, places_few); few_objects = omega (arith, fewer, one, objects_few) }
+      record { once = k.once; few_places = omega (arith, fewer, places_few); few_objects = omega (arith, fewer, one, objects_few) }
 
 module _ {V C R S F A : Type 0} where
   -- another limit: what is there is within the reach that there was
@@ -64,14 +66,16 @@ module _ {V C R S F A : Type 0} where
       let idle = drop (min (length p.idle) (size p - n)) p.idle in
       let shorter = length-drop (min (length p.idle) (size p - n)) p.idle in
       settle_follows (reach p) (record p { limit = n; reserve = max p.reserve n; idle = idle })
-      record { once = l.once; marks = l.marks; few_places = omega arith; few_objects = omega (arith, shorter) }
+      record { once = l.once; few_places = omega arith; few_objects = omega (arith, shorter) } l.marks
 
   -- a pool closes
   pub closed_follows : (p : Pool V C R S F A) → IsLawful p → Follows (reach p) (closed p)
   closed_follows p l =
-      let k = (resized_follows 0 p l).orderly in
+      let f = resized_follows 0 p l in
+      let k = f.orderly in
       record {
-        orderly = record { once = k.once; marks = k.marks; few_places = k.few_places; few_objects = k.few_objects };
+        orderly = record { once = k.once; few_places = k.few_places; few_objects = k.few_objects };
+        marks = f.marks;
         nobody_waits = λ opens free. cc;
       }
 
@@ -102,10 +106,10 @@ module _ {V C R S F A : Type 0} (E : Type 0) (p : Pool V C R S F A) (l : IsLawfu
       (λ few. record {
         orderly = record {
           once = l.once;
-          marks = λ n h. started_marked p.parties new n (slice_get p.parties n) refl (l.marks n h);
           few_places = omega (arith, c0, c1, c2);
           few_objects = omega (arith, c1, c2);
         };
+        marks = λ n. l.marks n ∙ started_marked p.parties new n refl;
         nobody_waits = λ opens free. l.nobody_waits opens (omega (arith, c0, c1, c2, free));
       })
       (λ full. Follows-self p l)
@@ -121,11 +125,11 @@ module _ {V C R S F A : Type 0} (E : Type 0) (p : Pool V C R S F A) (l : IsLawfu
   back_follows n (Some slot) h =
       let f = Follows-self p l in
       let P : Asking V E C R S F A (Reply V E × Pool V C R S F A) → Type 0 = Always (After (reach p)) in
-      let gone = settle_follows (reach p) _ (without_slot_orderly (reach p) n slot p p.idle f h (omega arith)) in
+      let gone = settle_follows (reach p) _ (without_slot_orderly (reach p) n slot p p.idle f h (omega arith)) f.marks in
       let longer = length-append p.idle (slot ∷ []) in
       cond_both (p.handles == 0) _ _ P (λ none. gone) (λ some.
       cond_both (nat_le (size p) p.limit) _ _ P
-      (λ fits. settle_follows (reach p) _ (without_slot_orderly (reach p) n slot p (p.idle ++ slot ∷ []) f h (omega (arith, longer))))
+      (λ fits. settle_follows (reach p) _ (without_slot_orderly (reach p) n slot p (p.idle ++ slot ∷ []) f h (omega (arith, longer))) f.marks)
       (λ above left. gone))
 
   -- an object leaves the pool for good
@@ -133,7 +137,7 @@ module _ {V C R S F A : Type 0} (E : Type 0) (p : Pool V C R S F A) (l : IsLawfu
   take_follows n None h = Follows-self p l
   take_follows n (Some slot) h =
       let P : Asking V E C R S F A (Reply V E × Pool V C R S F A) → Type 0 = Always (After (reach p)) in
-      let gone = settle_follows (reach p) _ (without_slot_orderly (reach p) n slot p p.idle (Follows-self p l) h (omega arith)) in
+      let gone = settle_follows (reach p) _ (without_slot_orderly (reach p) n slot p p.idle (Follows-self p l) h (omega arith)) l.marks in
       cond_both (p.handles == 0) _ _ P (λ none. gone) (λ some left. gone)
 
   -- another limit is asked for

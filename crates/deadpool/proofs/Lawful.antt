@@ -29,7 +29,7 @@ module _ {V C R S F A : Type 0} where
   -- a new pool is lawful
   pub opened_lawful : (limit : ℕ) (mode : QueueMode) (runtime : Option Runtime) (hooks : HookLists F A) (timeouts : Timeouts) (first most : ℕ)
       → IsLawful (opened {V = V} {C = C} {R = R} {S = S} limit mode runtime hooks timeouts first most)
-  opened_lawful limit mode runtime hooks timeouts first most = record { once = tt; marks = λ n h. cc; nobody_waits = λ opens free. refl }
+  opened_lawful limit mode runtime hooks timeouts first most = record { once = tt; marks = λ n. refl; nobody_waits = λ opens free. refl }
 
 module _ {V E C R S F A : Type 0} where
   -- the pool after a step is lawful

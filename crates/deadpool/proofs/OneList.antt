@@ -1,5 +1,5 @@
 -- In a lawful pool a party is in at most one list.
-use Rattle.std.proofs.Common.{◌≡◌, ℕ, ◌+◌, ◌<◌, ◌≤◌, suc, zero, List, [], ◌∷◌, ◌++◌, Bool, true, false, refl, ap, arith, inl, inr, Option, Some, None}
+use Rattle.std.proofs.Common.{◌≡◌, ℕ, ◌+◌, ◌<◌, ◌≤◌, suc, zero, List, [], ◌∷◌, ◌++◌, Bool, true, false, refl, sym, ap, ◌∙◌, arith, inl, inr, Option, Some, None}
 use Rattle.std.specs.Prelude.{slice_get, is_some, ◌==◌}
 use Rattle.std.proofs.lemmas.Bool.{cases_Bool, ne_eqb}
 use Rattle.deadpool_parts.specs.Numbers.{has_number}
@@ -65,7 +65,7 @@ module _ {V C R S F A : Type 0} (p : Pool V C R S F A) (l : IsLawful p) where
   times-queue : (n : ℕ) → times n (queue p) ≤ one_if (is_queued (slice_get p.parties n))
   times-queue n =
       elim (cases_Bool (has_number n (queue p))) [
-        | inl there ↦ let once = times-once n (queue p) l.once in let one : one_if (is_queued (slice_get p.parties n)) ≡ 1 = ap one_if (l.marks n there) in omega (arith, once, one)
+        | inl there ↦ let once = times-once n (queue p) l.once in let one : one_if (is_queued (slice_get p.parties n)) ≡ 1 = ap one_if (sym (l.marks n) ∙ there) in omega (arith, once, one)
         | inr gone ↦ let none = times-none n (queue p) gone in omega (arith, none)
       ]
 

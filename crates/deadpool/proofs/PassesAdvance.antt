@@ -15,7 +15,7 @@ use Rattle.deadpool.specs.Prepare.{create, prepare, check, lacks_runtime, with_v
 use Rattle.deadpool.specs.Pool.{Pool, Party, Standing, unpolled, queued, going, creating, recycling, checking, finished, prepared_at, creating_count, places}
 use Rattle.deadpool.specs.Steps.{to, ended, removed, serve_from, with_slot}
 use Rattle.deadpool.specs.Party.{joined, enter, inquire, hand_out, reviewed, checked, created, go_on_creating, advance_at, advance, cancel_with, cancel}
-use Rattle.deadpool.specs.Laws.{queue, waits_at}
+use Rattle.deadpool.specs.Laws.{MarksQueued, queue, waits_at}
 use Rattle.deadpool.specs.RunLaws.{KeepsOrder}
 use Rattle.deadpool.specs.declared.managed.slot.Slot.{Slot}
 use Rattle.deadpool.specs.declared.managed.prepare.Verdict.{Verdict}
@@ -28,7 +28,7 @@ use Rattle.deadpool.specs.declared.managed.prepare.Prepared.TheVariants as prepa
 use Rattle.deadpool.specs.declared.replay.moves.Reply.{Reply}
 use Rattle.deadpool.proofs.ListsLemmas.{one_if}
 use Rattle.deadpool.proofs.Falls.{other_idle-shorter}
-use Rattle.deadpool.proofs.Follows.{AreMarked, not_queued}
+use Rattle.deadpool.proofs.Follows.{not_queued}
 use Rattle.deadpool.proofs.NumberCounts.{held, is_at, held-served, held-with_slot}
 use Rattle.deadpool.proofs.PreparedNumbers.{Always-then, IsNumber, prepare_number}
 use Rattle.deadpool.proofs.Passes.{Passes, prepares, order_same, order_without, order_joined, passes_self, settle_passes, party_passes}
@@ -154,7 +154,7 @@ module _ {V C R S F A : Type 0} (E : Type 0) (n : ℕ) (party : Party V C R S) (
       (λ serves. Always-bind (Passed {E = E} p) (create {R = R} {S = S} {F = F} {A = A} None) (λ x. Return (created n party now after p x)) (λ x. created_passes now after x))
 
   -- an advance, by where the party stands
-  advance_passes_at : (now : Moment) (standing : Standing V C R S) → party.standing ≡ standing → AreMarked p p.parties → Always (Passed {E = E} p) (advance_at standing n party now p)
+  advance_passes_at : (now : Moment) (standing : Standing V C R S) → party.standing ≡ standing → MarksQueued p → Always (Passed {E = E} p) (advance_at standing n party now p)
   advance_passes_at now unpolled e marks = enter_passes now (not_queued n party p marks h (ap waits_at e))
   advance_passes_at now (queued deadline) e marks = inquire_passes now deadline
   advance_passes_at now (going allowance) e marks =
@@ -168,7 +168,7 @@ module _ {V C R S F A : Type 0} (E : Type 0) (n : ℕ) (party : Party V C R S) (
   advance_passes_at now finished e marks = passes_self false p
 
   -- one advance
-  pub advance_passes : (now : Moment) → AreMarked p p.parties → Always (Passed {E = E} p) (advance n now party p)
+  pub advance_passes : (now : Moment) → MarksQueued p → Always (Passed {E = E} p) (advance n now party p)
   advance_passes now marks = advance_passes_at now party.standing refl marks
 
   -- the party is no more

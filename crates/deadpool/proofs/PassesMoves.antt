@@ -11,7 +11,7 @@ use Rattle.deadpool.specs.Pool.{Pool, Party, unpolled, size, status_of}
 use Rattle.deadpool.specs.Steps.{find_slot, without_slot, with_put, resized, closed, cloned, handle_dropped, most_handles}
 use Rattle.deadpool.specs.Party.{advance, cancel}
 use Rattle.deadpool.specs.Moves.{by_handle, started, put_at, back_at, take_at, resize, give_up, retain_with, retain, upgrade, by_party, moved}
-use Rattle.deadpool.specs.Laws.{queue}
+use Rattle.deadpool.specs.Laws.{MarksQueued, queue}
 use Rattle.deadpool.specs.RunLaws.{sets_limit}
 use Rattle.deadpool.specs.declared.managed.slot.Slot.{Slot}
 use Rattle.deadpool.specs.declared.replay.moves.Move.{Move}
@@ -21,7 +21,6 @@ use Rattle.deadpool.specs.declared.replay.moves.Reply.TheVariants as reply
 use Rattle.deadpool.proofs.ListsLemmas.{count-push, filter-shorter}
 use Rattle.deadpool.proofs.SlotLists.{length-without_slot}
 use Rattle.deadpool.proofs.NumberCounts.{held, held-cons, held-append, held-without_slot, held-with_put, held-drop, held-filter}
-use Rattle.deadpool.proofs.Follows.{AreMarked}
 use Rattle.deadpool.proofs.Passes.{Passes, prepares, order_same, passes_self, settle_passes, objects_pass}
 use Rattle.deadpool.proofs.PassesAdvance.{Passed, advance_passes, cancel_passes}
 
@@ -182,7 +181,7 @@ module _ {V C R S F A : Type 0} (E : Type 0) (p : Pool V C R S F A) where
   by_party_passes n step (Some (Some party)) e h = h party e
 
   -- whatever the outside answers, every move
-  pub moved_passes : (m : Move V) → AreMarked p p.parties → Always (λ x. Passes (sets_limit m) p x.1) (moved {E = E} m p)
+  pub moved_passes : (m : Move V) → MarksQueued p → Always (λ x. Passes (sets_limit m) p x.1) (moved {E = E} m p)
   moved_passes (move.Start timeouts) marks = by_handle_passes false (started timeouts) (started_passes timeouts)
   moved_passes (move.Advance n now) marks = by_party_passes n (advance n now) (slice_get p.parties n) refl (λ party e. advance_passes E n party p e now marks)
   moved_passes (move.Poll n now) marks = by_party_passes n (advance n now) (slice_get p.parties n) refl (λ party e. advance_passes E n party p e now marks)

@@ -23,8 +23,11 @@ module _ {V C R S F A : Type 0} where
   abbrev pub queue : Pool V C R S F A → List ℕ
   queue p = p.granted ++ p.waiting
 
+  -- who is in the queue stands as queued, and nobody else does
+  abbrev pub MarksQueued : Pool V C R S F A → Type 0
+  MarksQueued p = (n : ℕ) → has_number n (queue p) ≡ is_queued (slice_get p.parties n)
+
   pub record IsLawful (p : Pool V C R S F A) : Type 0 where
     pub once : IsOnce (queue p)
-    -- who is in the queue stands as queued
-    pub marks : (n : ℕ) → has_number n (queue p) ≡ true → is_queued (slice_get p.parties n) ≡ true
+    pub marks : MarksQueued p
     pub nobody_waits : NobodyWaits p

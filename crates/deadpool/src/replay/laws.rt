@@ -1,5 +1,6 @@
 //! What is true of every state of every run from a pool that is well, and of each two neighbours in it, whatever the manager
 //! and the hooks answer. A function here does nothing: its contract is the law.
+ghost use Rattle.deadpool.specs.Laws.{MarksQueued};
 ghost use Rattle.deadpool.specs.Outside.{may};
 ghost use Rattle.deadpool.specs.RunLaws.{OpensWell, EachState, EachStep, EachLater, EndsWell, StaysWithin, HasFewIdle, IsEmptyIfClosed, IsNumbered, CountsOn, NoneReturns, KeepsQueue, IsListedOnce};
 
@@ -35,6 +36,12 @@ pub fn numbers_stand_once<M: Manager, F: SyncHook<M>, A: AsyncHook<M>>()
 pub fn new_object_has_next<M: Manager, F: SyncHook<M>, A: AsyncHook<M>>()
     ensures next { (manager : M) → EachStep (may M.Manager F.SyncHook A.AsyncHook manager) CountsOn }
     ensures gone { (manager : M) → EachLater (may M.Manager F.SyncHook A.AsyncHook manager) NoneReturns }
+{}
+
+/// Those that were granted a place and those that wait are those that stand as queued: no get that waits drops out of the
+/// queue, and nobody else is in it.
+pub fn queue_has_the_queued<M: Manager, F: SyncHook<M>, A: AsyncHook<M>>()
+    ensures { (manager : M) → EachState (may M.Manager F.SyncHook A.AsyncHook manager) MarksQueued }
 {}
 
 /// Those that were granted a place, followed by those that wait, change only by removals and by one party at the end.
