@@ -1,19 +1,18 @@
--- Each move, and each step of a pool's owner, leads from a lawful pool to a lawful one, whatever the outside answers.
-use Rattle.std.proofs.Common.{ℕ, List, Option, refl}
+-- Each move leads from a lawful pool to a lawful one, whatever the outside answers.
+use Rattle.std.proofs.Common.{ℕ, Option, refl}
 use Rattle.deadpool_parts.specs.Program.{Program, Return, Ask, Always}
 use Rattle.deadpool_parts.specs.declared.config.QueueMode.{QueueMode}
 use Rattle.deadpool_parts.specs.declared.config.Timeouts.{Timeouts}
 use Rattle.deadpool_parts.specs.declared.moment.Runtime.{Runtime}
 use Rattle.deadpool.specs.HookLists.{HookLists}
 use Rattle.deadpool.specs.Pool.{Pool, opened, reach}
-use Rattle.deadpool.specs.Steps.{find_slot, closed, cloned, handle_dropped}
-use Rattle.deadpool.specs.Moves.{moved, by_handle, take_at, resize, retain, upgrade}
+use Rattle.deadpool.specs.Moves.{moved}
 use Rattle.deadpool.specs.Laws.{IsLawful}
 use Rattle.deadpool.specs.declared.replay.moves.Move.{Move}
 use Rattle.deadpool.specs.declared.replay.moves.Reply.{Reply}
 use Rattle.deadpool.proofs.Follows.{Follows-lawful}
 use Rattle.deadpool.proofs.FollowsAdvance.{After}
-use Rattle.deadpool.proofs.FollowsMoves.{moved_follows, resize_follows, retain_follows, take_follows, by_handle_follows, closed_follows, cloned_follows, handle_dropped_follows, upgrade_follows}
+use Rattle.deadpool.proofs.FollowsMoves.{moved_follows}
 
 -- what follows from a fact that always holds always holds
 pub Always-more : {Q : Type 0} {Answer : Q → Type 0} {A : Type 0} (P more : A → Type 0) → ((a : A) → P a → more a) → (p : Program Q Answer A) → Always P p → Always more p
@@ -44,31 +43,3 @@ module _ {V C R S F A : Type 0} (E : Type 0) where
   -- every move
   pub moved_lawful : (m : Move V) (p : Pool V C R S F A) → IsLawful p → Always (λ x. IsLawful x.1) (moved {E = E} m p)
   moved_lawful m p l = Always-more (After (reach p)) LawfulAfter (lawful_after p) (moved {E = E} m p) (moved_follows E p l m)
-
-  -- another limit
-  pub resize_lawful : (n : ℕ) (p : Pool V C R S F A) → IsLawful p → Always (λ x. IsLawful x.1) (resize {E = E} n p)
-  resize_lawful n p l = Always-more (After (reach p)) LawfulAfter (lawful_after p) (resize {E = E} n p) (resize_follows E p l n)
-
-  -- some of the idle objects are kept
-  pub retain_lawful : (kept : List ℕ) (p : Pool V C R S F A) → IsLawful p → Always (λ x. IsLawful x.1) (retain {E = E} kept p)
-  retain_lawful kept p l = Always-more (After (reach p)) LawfulAfter (lawful_after p) (retain {E = E} kept p) (retain_follows E p l kept)
-
-  -- an object leaves for good
-  pub take_lawful : (n : ℕ) (p : Pool V C R S F A) → IsLawful p → Always (λ x. IsLawful x.1) (take_at {E = E} (find_slot n p.out) n p)
-  take_lawful n p l = Always-more (After (reach p)) LawfulAfter (lawful_after p) (take_at {E = E} (find_slot n p.out) n p) (take_follows E p l n (find_slot n p.out) refl)
-
-  -- a pool closes
-  pub closed_lawful : (answer : Reply V E) (p : Pool V C R S F A) → IsLawful p → IsLawful (by_handle (λ q. (answer, closed q)) p).1
-  closed_lawful answer p l = lawful_after p (by_handle (λ q. (answer, closed q)) p) (by_handle_follows E p l (λ q. (answer, closed q)) (closed_follows p l))
-
-  -- one more handle
-  pub cloned_lawful : (answer : Reply V E) (p : Pool V C R S F A) → IsLawful p → IsLawful (by_handle (λ q. (answer, cloned q)) p).1
-  cloned_lawful answer p l = lawful_after p (by_handle (λ q. (answer, cloned q)) p) (by_handle_follows E p l (λ q. (answer, cloned q)) (cloned_follows p l))
-
-  -- one handle fewer
-  pub handle_dropped_lawful : (answer : Reply V E) (p : Pool V C R S F A) → IsLawful p → IsLawful (by_handle (λ q. (answer, handle_dropped q)) p).1
-  handle_dropped_lawful answer p l = lawful_after p (by_handle (λ q. (answer, handle_dropped q)) p) (by_handle_follows E p l (λ q. (answer, handle_dropped q)) (handle_dropped_follows p l))
-
-  -- one more handle, while there is one
-  pub upgrade_lawful : (p : Pool V C R S F A) → IsLawful p → IsLawful (upgrade {E = E} p).1
-  upgrade_lawful p l = lawful_after p (upgrade p) (upgrade_follows E p l)

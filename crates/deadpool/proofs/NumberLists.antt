@@ -1,6 +1,7 @@
 -- Lists of numbers: who is in them, and what is left where one is taken out.
 use Rattle.std.proofs.Common.{◌≡◌, ◌≢◌, ℕ, ◌+◌, ◌≤◌, List, [], ◌∷◌, ◌++◌, Bool, true, false, cond, not, ◌||◌, ◌&&◌, length, refl, sym, ap, ◌∙◌, subst, arith, inl, inr}
 use Rattle.std.specs.Prelude.{◌==◌}
+use Rattle.std.proofs.Math.Bool.{and-true, or-true, or-false}
 use Rattle.std.proofs.lemmas.Bool.{eq-eqb, eqb-true, ne_eqb, cases_Bool, or_parts}
 use Rattle.std.proofs.lemmas.Bool.Decides.{nat_tests}
 use Rattle.std.proofs.lemmas.List.Elements.{filter-append}
@@ -13,19 +14,6 @@ use Rattle.deadpool.proofs.ListsLemmas.{filter-shorter}
 and_false : (a : Bool) → (a && false) ≡ false
 and_false true = refl
 and_false false = refl
-
--- and so on
-and_true : (a : Bool) → (a && true) ≡ a
-and_true true = refl
-and_true false = refl
-
-or_true : (a : Bool) → (a || true) ≡ true
-or_true true = refl
-or_true false = refl
-
-or_false : (a : Bool) → (a || false) ≡ a
-or_false true = refl
-or_false false = refl
 
 -- a test of two numbers does not depend on their order
 pub differs_sym : (a b : ℕ) → (a == b) ≡ false → (b == a) ≡ false
@@ -57,16 +45,16 @@ has_number-without n m (x ∷ xs) =
 
 -- the others are left as they were
 pub has_number-other : (n m : ℕ) (xs : List ℕ) → n ≢ m → has_number n (without_number m xs) ≡ has_number n xs
-has_number-other n m xs other = has_number-without n m xs ∙ ap (λ b. has_number n xs && not b) (ne_eqb n m other) ∙ and_true (has_number n xs)
+has_number-other n m xs other = has_number-without n m xs ∙ ap (λ b. has_number n xs && not b) (ne_eqb n m other) ∙ and-true (has_number n xs)
 
 -- and where one more stands at the back
 pub has_number-push : (n m : ℕ) (xs : List ℕ) → n ≢ m → has_number n (xs ++ m ∷ []) ≡ has_number n xs
 has_number-push n m xs other =
-    has_number-append n xs (m ∷ []) ∙ ap (λ b. has_number n xs || (b || false)) (ne_eqb m n (λ e. other (sym e))) ∙ or_false (has_number n xs)
+    has_number-append n xs (m ∷ []) ∙ ap (λ b. has_number n xs || (b || false)) (ne_eqb m n (λ e. other (sym e))) ∙ or-false (has_number n xs)
 
 -- which is there
 pub has_number-last : (n : ℕ) (xs : List ℕ) → has_number n (xs ++ n ∷ []) ≡ true
-has_number-last n xs = has_number-append n xs (n ∷ []) ∙ ap (λ b. has_number n xs || (b || false)) (eq-eqb n n refl) ∙ or_true (has_number n xs)
+has_number-last n xs = has_number-append n xs (n ∷ []) ∙ ap (λ b. has_number n xs || (b || false)) (eq-eqb n n refl) ∙ or-true (has_number n xs)
 
 -- the one that is taken out is no longer there
 pub without_number-gone : (n : ℕ) (xs : List ℕ) → has_number n (without_number n xs) ≡ false

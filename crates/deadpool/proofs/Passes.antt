@@ -1,5 +1,5 @@
--- What each step of a pool has: the limits, the numbers of its objects, and the order of its queue.
-use Rattle.std.proofs.Common.{◌≡◌, ℕ, ◌+◌, ◌≤◌, List, [], ◌∷◌, ◌++◌, Bool, true, false, not, ◌&&◌, length, set, take, drop, refl, sym, ap, ◌∙◌, arith, Option, Some, append_assoc, subst, cond, inl, inr}
+-- What each step of a pool has: the limits, the numbers of its objects, the order of its queue, and the parties that stay.
+use Rattle.std.proofs.Common.{◌≡◌, ◌≢◌, ℕ, ◌+◌, ◌≤◌, List, [], ◌∷◌, ◌++◌, Bool, true, false, not, ◌&&◌, length, set, take, drop, refl, sym, ap, ◌∙◌, arith, Option, Some, None, append_assoc, subst, cond, inl, inr}
 use Rattle.std.specs.Prelude.{slice_get, filter, ◌==◌}
 use Rattle.std.proofs.lemmas.Bool.{cases_Bool, eqb-true, or_cases, and_parts}
 use Rattle.std.proofs.lemmas.List.{take-append-drop, append-nil}
@@ -8,7 +8,7 @@ use Rattle.deadpool.specs.Pool.{Pool, Party, prepared_by, preparing, grants, set
 use Rattle.deadpool.specs.Laws.{queue}
 use Rattle.deadpool.specs.RunLaws.{KeepsOrder, HasFewIdle, numbers}
 use Rattle.deadpool.specs.declared.managed.slot.Slot.{Slot}
-use Rattle.deadpool.proofs.ListsLemmas.{one_if, count-set}
+use Rattle.deadpool.proofs.ListsLemmas.{one_if, get-set_other, count-set}
 use Rattle.deadpool.proofs.NumberLists.{without_number-append, without_number-shorter, has_number-without}
 use Rattle.deadpool.proofs.NumberCounts.{times, held, is_at, times-map, held-append, held-filter_map}
 
@@ -77,8 +77,8 @@ module _ {V C R S F A : Type 0} where
       let middle = held-filter_map n prepared_by p.parties in
       omega (arith, all, parts, more, middle)
 
--- From p a step may lead to q. It sets another limit only where it may.
-pub record Passes {V C R S F A : Type 0} (sets : Bool) (p q : Pool V C R S F A) : Type 0 where
+-- From p a step may lead to q. It sets another limit only where it may, and changes no party but the one that it names.
+pub record Passes {V C R S F A : Type 0} (sets : Bool) (name : Option ℕ) (p q : Pool V C R S F A) : Type 0 where
   pub limit : sets ≡ false → q.limit ≡ p.limit
   pub few_idle : HasFewIdle p → HasFewIdle q
   pub closed : (p.is_open ≡ false → p.limit ≡ 0) → q.is_open ≡ false → q.limit ≡ 0
@@ -88,11 +88,12 @@ pub record Passes {V C R S F A : Type 0} (sets : Bool) (p q : Pool V C R S F A) 
   pub next : q.next ≡ p.next + one_if grows
   pub few : (n : ℕ) → count n q ≤ count n p + one_if (grows && (p.next == n))
   pub order : KeepsOrder (queue p) (queue q)
+  pub others : (m : ℕ) (party : Option (Party V C R S)) → name ≢ Some m → slice_get p.parties m ≡ Some party → slice_get q.parties m ≡ Some party
 
 module _ {V C R S F A : Type 0} where
   -- nothing happens
-  pub passes_self : (sets : Bool) (p : Pool V C R S F A) → Passes sets p p
-  passes_self sets p = record {
+  pub passes_self : (sets : Bool) (name : Option ℕ) (p : Pool V C R S F A) → Passes sets name p p
+  passes_self sets name p = record {
     limit = λ same. refl;
     few_idle = λ few. few;
     closed = λ c. c;
@@ -101,11 +102,12 @@ module _ {V C R S F A : Type 0} where
     next = omega arith;
     few = λ n. omega arith;
     order = order_same (queue p);
+    others = λ m party other k. k;
   }
 
   -- those that wait are granted what is free
-  pub settle_passes : (sets : Bool) (p q : Pool V C R S F A) → Passes sets p q → Passes sets p (settle q)
-  settle_passes sets p q s =
+  pub settle_passes : (sets : Bool) (name : Option ℕ) (p q : Pool V C R S F A) → Passes sets name p q → Passes sets name p (settle q)
+  settle_passes sets name p q s =
       let same : queue (settle q) ≡ queue q = append_assoc q.granted (take (grants q) q.waiting) (drop (grants q) q.waiting) ∙ ap (λ ys. q.granted ++ ys) (take-append-drop (grants q) q.waiting) in
       let k = s.order in
       record {
@@ -117,13 +119,14 @@ module _ {V C R S F A : Type 0} where
         next = s.next;
         few = s.few;
         order = record { stays = k.stays; joins = k.joins; is = same ∙ k.is; few = k.few; fresh = k.fresh };
+        others = s.others;
       }
 
   -- A party stands elsewhere, or is no more. Idle and out are so, and so is the queue.
   pub party_passes : (n : ℕ) (old new : Option (Party V C R S)) (grows : Bool) (next : ℕ) (idle out : List (Slot V)) (granted waiting : List ℕ) (p : Pool V C R S F A)
       → slice_get p.parties n ≡ Some old → next ≡ p.next + one_if grows → length idle ≤ length p.idle → KeepsOrder (queue p) (granted ++ waiting)
       → ((m : ℕ) → held m idle + (one_if (prepares m new) + held m out) ≤ held m p.idle + (one_if (prepares m old) + held m p.out) + one_if (grows && (p.next == m)))
-      → Passes false p (record p { next = next; parties = set p.parties n new; idle = idle; out = out; granted = granted; waiting = waiting })
+      → Passes false (Some n) p (record p { next = next; parties = set p.parties n new; idle = idle; out = out; granted = granted; waiting = waiting })
   party_passes n old new grows next idle out granted waiting p h e fewer order same = record {
     limit = λ kept. refl;
     few_idle = λ few. omega (arith, fewer, few);
@@ -133,11 +136,12 @@ module _ {V C R S F A : Type 0} where
     next = e;
     few = λ m. let one = count-set (prepares m) p.parties n old new h in let all = same m in omega (arith, one, all);
     order = order;
+    others = λ m party other k. get-set_other p.parties n m new (λ e. other (ap Some (sym e))) ∙ k;
   }
 
   -- other objects
   pub objects_pass : (handles : ℕ) (idle out : List (Slot V)) (p : Pool V C R S F A) → (HasFewIdle p → length idle ≤ p.limit)
-      → ((m : ℕ) → held m idle + held m out ≤ held m p.idle + held m p.out) → Passes false p (record p { handles = handles; idle = idle; out = out })
+      → ((m : ℕ) → held m idle + held m out ≤ held m p.idle + held m p.out) → Passes false None p (record p { handles = handles; idle = idle; out = out })
   objects_pass handles idle out p fewer same = record {
     limit = λ kept. refl;
     few_idle = fewer;
@@ -147,4 +151,5 @@ module _ {V C R S F A : Type 0} where
     next = omega arith;
     few = λ m. let all = same m in omega (arith, all);
     order = order_same (queue p);
+    others = λ m party other k. k;
   }

@@ -88,6 +88,11 @@ module _ {V E C R S F A : Type 0} (may : May V E C R S F A) (IsMeant : Move V �
   makes_have move.Upgrade p passed answer meant good ran = one_has move.Upgrade p ran.0 passed answer meant good ran.1 ran.2
   makes_have move.Status p passed answer meant good ran = one_has move.Status p ran.0 passed answer meant good ran.1 ran.2
 
+  -- each two neighbours of them
+  pub makes_next : (m : Move V) (p : Pool V C R S F A) (passed : List (Pool V C R S F A)) (answer : Reply V E) → IsMeant m → Good p → Makes may p m passed answer → Neighbours Next (p ∷ passed)
+  unfolding Passing
+  makes_next m p passed answer meant good ran = (makes_have m p passed answer meant good ran).1
+
   -- the states of a whole run, one after another
   states_have : (moves : List (Move V)) (p after : Pool V C R S F A) (passed : List (List (Pool V C R S F A))) (answers : List (Reply V E)) → Each IsMeant moves → Good p
       → PoolRuns may p moves passed answers after → Each Good (flat passed) × Neighbours Next (p ∷ flat passed) × Good after

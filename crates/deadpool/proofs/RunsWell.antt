@@ -1,21 +1,23 @@
 -- What is true of every state of every run of a managed pool that begins well, and of each two neighbours.
-use Rattle.std.proofs.Common.{◌≡◌, ◌≤◌, List, false, max, arith, inl, inr, refl}
+use Rattle.std.proofs.Common.{◌≡◌, ℕ, ◌≤◌, List, false, max, arith, inl, inr, refl}
 use Rattle.std.proofs.lemmas.Bool.{cases_Bool}
 use Rattle.deadpool_parts.specs.Numbers.{has_number}
 use Rattle.deadpool_parts.specs.Program.{Always}
+use Rattle.deadpool_parts.specs.declared.moment.Moment.{Moment}
 use Rattle.deadpool_parts.specs.Runs.{all_states, Each, Neighbours}
 use Rattle.deadpool.specs.Outside.{May}
 use Rattle.deadpool.specs.Pool.{Pool, size, reach}
 use Rattle.deadpool.specs.Moves.{moved, PoolRuns}
 use Rattle.deadpool.specs.Laws.{IsLawful}
-use Rattle.deadpool.specs.RunLaws.{numbers, IsWell, Succeeds, sets_limit, NoneReturns, EachState, EachStep, EachLater, EndsWell, StaysWithin}
+use Rattle.deadpool.specs.RunLaws.{numbers, IsWell, Succeeds, sets_limit, NoneReturns, EachState, EachStep, EachLater, EachMove, EndsWell, StaysWithin}
 use Rattle.deadpool.specs.declared.replay.moves.Move.{Move}
+use Rattle.deadpool.specs.declared.replay.moves.Move.TheVariants as move
 use Rattle.deadpool.specs.declared.replay.moves.Reply.{Reply}
 use Rattle.deadpool.proofs.Lawful.{Always-more, Always-both, LawfulAfter, moved_lawful}
 use Rattle.deadpool.proofs.Reach.{ReachAfter, moved_reach}
 use Rattle.deadpool.proofs.RunStates.{Each-more}
-use Rattle.deadpool.proofs.RunsHave.{each_of, Neighbours-more, Later-of, Later-more, runs_have}
-use Rattle.deadpool.proofs.Well.{moved_well, moved_limit}
+use Rattle.deadpool.proofs.RunsHave.{each_of, Neighbours-more, Later-of, Later-more, makes_next, runs_have}
+use Rattle.deadpool.proofs.Well.{WellAfter, moved_well, moved_limit}
 
 module _ {V C R S F A : Type 0} where
   -- what is gone stays gone, and more numbers were given
@@ -55,6 +57,16 @@ module _ {V E C R S F A : Type 0} (may : May V E C R S F A) where
   -- what follows for one that succeeds another
   pub each_step : (P : Pool V C R S F A → Pool V C R S F A → Type 0) → ((q r : Pool V C R S F A) → Succeeds q r → P q r) → EachStep may P
   each_step P implies moves p after passed answers w ran = Neighbours-more Succeeds P implies (all_states p passed) (runs_well moves p after passed answers w ran).1
+
+  -- What each move keeps holds of the states that one move passes, where an advance of a poll is as an advance.
+  pub each_move : (P : Move V → Pool V C R S F A → Pool V C R S F A → Type 0) → ((n : ℕ) (now : Moment) (q r : Pool V C R S F A) → P (move.Advance n now) q r → P (move.Poll n now) q r)
+      → ((m : Move V) (p : Pool V C R S F A) → IsWell p → Always (λ (x : Reply V E × Pool V C R S F A). P m p x.1) (moved m p)) → EachMove may P
+  each_move P polls keeps m p passed answer w made =
+      makes_next may (λ l. (q r : Pool V C R S F A) → P l q r → P m q r) IsWell (P m) (λ n now implies q r h. implies q r (polls n now q r h))
+      (λ l q implies h.
+      Always-more (λ (x : Reply V E × Pool V C R S F A). WellAfter q x × P l q x.1) (λ (x : Reply V E × Pool V C R S F A). IsWell x.1 × P m q x.1) (λ x k. (k.0.0, implies q x.1 k.1)) (moved l q)
+      (Always-both (WellAfter q) (λ (x : Reply V E × Pool V C R S F A). P l q x.1) (moved l q) (moved_well E l q h) (keeps l q h)))
+      m p passed answer (λ q r h. h) w made
 
   -- every run ends well
   pub ends_well : EndsWell may

@@ -1,8 +1,9 @@
--- Each move, and each step of a pool's owner, leads from a pool that is well to one that is well and succeeds it, whatever the
+-- Each move leads from a pool that is well to one that is well and succeeds it, and leaves the others as they were, whatever the
 -- outside answers.
-use Rattle.std.proofs.Common.{◌≡◌, ℕ, ◌+◌, ◌<◌, ◌≤◌, List, Bool, true, false, ◌&&◌, refl, sym, ap, ◌∙◌, arith, inl, inr}
-use Rattle.std.specs.Prelude.{◌==◌, Option}
+use Rattle.std.proofs.Common.{◌≡◌, ◌≢◌, ◌⊎◌, ℕ, ◌+◌, ◌<◌, ◌≤◌, Bool, true, false, ◌&&◌, refl, sym, ap, ◌∙◌, arith, inl, inr}
+use Rattle.std.specs.Prelude.{◌==◌, Option, Some, None, slice_get}
 use Rattle.std.proofs.lemmas.Bool.{cases_Bool, and_parts, eqb-true}
+use Rattle.std.proofs.lemmas.Bool.Decides.{eqb_tells}
 use Rattle.std.proofs.lemmas.List.{nil_from_length}
 use Rattle.deadpool_parts.specs.Numbers.{has_number}
 use Rattle.deadpool_parts.specs.Program.{Always}
@@ -10,26 +11,24 @@ use Rattle.deadpool_parts.specs.declared.config.QueueMode.{QueueMode}
 use Rattle.deadpool_parts.specs.declared.config.Timeouts.{Timeouts}
 use Rattle.deadpool_parts.specs.declared.moment.Runtime.{Runtime}
 use Rattle.deadpool.specs.HookLists.{HookLists}
-use Rattle.deadpool.specs.Outside.{Asking}
-use Rattle.deadpool.specs.Pool.{Pool, opened}
-use Rattle.deadpool.specs.Steps.{find_slot, closed, cloned, handle_dropped}
-use Rattle.deadpool.specs.Moves.{moved, by_handle, take_at, resize, retain, upgrade}
-use Rattle.deadpool.specs.Laws.{IsLawful}
-use Rattle.deadpool.specs.RunLaws.{numbers, IsNumbered, IsWell, CountsOn, Succeeds, sets_limit}
+use Rattle.deadpool.specs.Pool.{Pool, Party, opened}
+use Rattle.deadpool.specs.Moves.{moved}
+use Rattle.deadpool.specs.Laws.{IsLawful, is_queued}
+use Rattle.deadpool.specs.RunLaws.{numbers, IsNumbered, IsWell, CountsOn, Succeeds, sets_limit, named, OthersStayQueued, OthersStand}
 use Rattle.deadpool.specs.declared.replay.moves.Move.{Move}
 use Rattle.deadpool.specs.declared.replay.moves.Reply.{Reply}
 use Rattle.deadpool.proofs.ListsLemmas.{one_if}
 use Rattle.deadpool.proofs.NumberCounts.{times, times-none, times-some, times-once, once-times}
-use Rattle.deadpool.proofs.Lawful.{Always-more, Always-both, LawfulAfter, opened_lawful, moved_lawful, resize_lawful, retain_lawful, take_lawful, closed_lawful, cloned_lawful, handle_dropped_lawful, upgrade_lawful}
+use Rattle.deadpool.proofs.Lawful.{Always-more, Always-both, LawfulAfter, opened_lawful, moved_lawful}
 use Rattle.deadpool.proofs.Passes.{Passes, times-numbers}
-use Rattle.deadpool.proofs.PassesMoves.{by_handle_passes, closed_passes, cloned_passes, handle_dropped_passes, take_passes, resize_passes, retain_passes, upgrade_passes, moved_passes}
+use Rattle.deadpool.proofs.PassesMoves.{moved_passes}
 
 -- a test that counts holds
 one_true : (b : Bool) → 1 ≤ one_if b → b ≡ true
 one_true true h = refl
 one_true false h = absurd (omega arith)
 
-module _ {V C R S F A : Type 0} (sets : Bool) (p q : Pool V C R S F A) (k : IsNumbered p) (s : Passes sets p q) where
+module _ {V C R S F A : Type 0} (sets : Bool) (name : Option ℕ) (p q : Pool V C R S F A) (k : IsNumbered p) (s : Passes sets name p q) where
   -- a number that comes is the next one
   new_is_next : (n : ℕ) → has_number n (numbers q) ≡ true → has_number n (numbers p) ≡ false → (n ≡ p.next) × (q.next ≡ p.next + 1)
   new_is_next n there before =
@@ -77,18 +76,40 @@ module _ {V C R S F A : Type 0} (sets : Bool) (p q : Pool V C R S F A) (k : IsNu
   counts_on : CountsOn p q
   counts_on = let next = s.next in record { first = s.first; next = omega (arith, next); new = new_is_next }
 
+-- a name is of the number, or of none or another
+is_name : (name : Option ℕ) (n : ℕ) → (name ≡ Some n) ⊎ (name ≢ Some n)
+is_name None n = inr (λ e. cc)
+is_name (Some k) n = elim (eqb_tells k n) [ inl same ↦ inl (ap Some same.1) | inr other ↦ inr (λ e. other.1 cc) ]
+
 module _ {V C R S F A : Type 0} where
+  -- where the others are as they were, those that were queued are
+  others_stay_queued : (m : Move V) (p q : Pool V C R S F A) → IsLawful p → IsLawful q → OthersStand m p q → OthersStayQueued m p q
+  others_stay_queued m p q l k others n there gone =
+      elim (is_name (named m) n) [
+        | inl this ↦ this
+        | inr other ↦ absurd (still (slice_get p.parties n) refl other)
+      ]
+    where
+      still : (found : Option (Option (Party V C R S))) → slice_get p.parties n ≡ found → named m ≢ Some n → ⊥
+      still None e other =
+          let before : is_queued (slice_get p.parties n) ≡ true = sym (l.marks n) ∙ there in
+          let none : is_queued (slice_get p.parties n) ≡ false = ap is_queued e in cc
+      still (Some party) e other =
+          let before : is_queued (slice_get p.parties n) ≡ true = sym (l.marks n) ∙ there in
+          let after : is_queued (slice_get q.parties n) ≡ false = sym (k.marks n) ∙ gone in
+          let same : slice_get q.parties n ≡ slice_get p.parties n = others n party other e ∙ sym e in cc
+
   -- a step that has so much leads from a pool that is well to one that is well and succeeds it
-  passes_well : (sets : Bool) (p q : Pool V C R S F A) → IsWell p → IsLawful q → Passes sets p q → IsWell q × Succeeds p q
-  passes_well sets p q w l s =
+  passes_well : (sets : Bool) (name : Option ℕ) (p q : Pool V C R S F A) → IsWell p → IsLawful q → Passes sets name p q → IsWell q × Succeeds p q
+  passes_well sets name p q w l s =
       let few = s.few_idle w.few_idle in (
         record {
           lawful = l;
           few_idle = few;
           closed = λ shut. let none : q.limit ≡ 0 = s.closed (λ before. (w.closed before).0) shut in (none, nil_from_length q.idle (omega (arith, few, none)));
-          numbered = numbered sets p q w.numbered s;
+          numbered = numbered sets name p q w.numbered s;
         },
-        record { counted = counts_on sets p q w.numbered s; queued = s.order },
+        record { counted = counts_on sets name p q w.numbered s; queued = s.order },
       )
 
   -- a new pool is well
@@ -106,55 +127,29 @@ module _ {V E C R S F A : Type 0} where
   abbrev pub WellAfter : Pool V C R S F A → Reply V E × Pool V C R S F A → Type 0
   WellAfter p x = IsWell x.1 × Succeeds p x.1
 
-  -- the step has so much
-  abbrev PassesTo : Bool → Pool V C R S F A → Reply V E × Pool V C R S F A → Type 0
-  PassesTo sets p x = Passes sets p x.1
+  -- the step of a move, to a lawful pool
+  abbrev StepsTo : Move V → Pool V C R S F A → Reply V E × Pool V C R S F A → Type 0
+  StepsTo m p x = IsLawful x.1 × Passes (sets_limit m) (named m) p x.1
 
-  -- whatever is answered
-  always_well : (sets : Bool) (p : Pool V C R S F A) (step : Asking V E C R S F A (Reply V E × Pool V C R S F A)) → IsWell p → Always LawfulAfter step → Always (PassesTo sets p) step
-      → Always (WellAfter p) step
-  always_well sets p step w l s =
-      Always-more (λ (x : Reply V E × Pool V C R S F A). LawfulAfter x × PassesTo sets p x) (WellAfter p) (λ x h. passes_well sets p x.1 w h.0 h.1) step
-      (Always-both LawfulAfter (PassesTo sets p) step l s)
+  -- what follows for every move, whatever is answered
+  follows_well : (P : Reply V E × Pool V C R S F A → Type 0) (m : Move V) (p : Pool V C R S F A) → IsLawful p → ((x : Reply V E × Pool V C R S F A) → StepsTo m p x → P x) → Always P (moved m p)
+  follows_well P m p l implies =
+      Always-more (StepsTo m p) P implies (moved m p)
+      (Always-both LawfulAfter (λ (x : Reply V E × Pool V C R S F A). Passes (sets_limit m) (named m) p x.1) (moved m p) (moved_lawful E m p l) (moved_passes E p m l.marks))
 
-module _ {V C R S F A : Type 0} (E : Type 0) where
+module _ {V C R S F A : Type 0} (E : Type 0) (m : Move V) (p : Pool V C R S F A) where
   -- every move
-  pub moved_well : (m : Move V) (p : Pool V C R S F A) → IsWell p → Always (WellAfter {E = E} p) (moved m p)
-  moved_well m p w = always_well (sets_limit m) p (moved {E = E} m p) w (moved_lawful E m p w.lawful) (moved_passes E p m w.lawful.marks)
+  pub moved_well : IsWell p → Always (WellAfter {E = E} p) (moved m p)
+  moved_well w = follows_well (WellAfter p) m p w.lawful (λ x h. passes_well (sets_limit m) (named m) p x.1 w h.0 h.1)
 
   -- the limit is as it was, unless the move may set one
-  pub moved_limit : (m : Move V) (p : Pool V C R S F A) → IsLawful p → sets_limit m ≡ false → Always (λ x. x.1.limit ≡ p.limit) (moved {E = E} m p)
-  moved_limit m p l same =
-      Always-more (PassesTo (sets_limit m) p) (λ (x : Reply V E × Pool V C R S F A). x.1.limit ≡ p.limit) (λ x s. s.limit same) (moved {E = E} m p) (moved_passes E p m l.marks)
+  pub moved_limit : IsLawful p → sets_limit m ≡ false → Always (λ x. x.1.limit ≡ p.limit) (moved {E = E} m p)
+  moved_limit l same = follows_well (λ (x : Reply V E × Pool V C R S F A). x.1.limit ≡ p.limit) m p l (λ x h. h.1.limit same)
 
-  -- another limit
-  pub resize_well : (n : ℕ) (p : Pool V C R S F A) → IsWell p → Always (WellAfter {E = E} p) (resize n p)
-  resize_well n p w = always_well true p (resize {E = E} n p) w (resize_lawful E n p w.lawful) (resize_passes E p n)
+  -- nobody but the party that the move names leaves the queue
+  pub moved_queue : IsLawful p → Always (λ x. OthersStayQueued m p x.1) (moved {E = E} m p)
+  moved_queue l = follows_well (λ (x : Reply V E × Pool V C R S F A). OthersStayQueued m p x.1) m p l (λ x h. others_stay_queued m p x.1 l h.0 h.1.others)
 
-  -- some of the idle objects are kept
-  pub retain_well : (kept : List ℕ) (p : Pool V C R S F A) → IsWell p → Always (WellAfter {E = E} p) (retain kept p)
-  retain_well kept p w = always_well false p (retain {E = E} kept p) w (retain_lawful E kept p w.lawful) (retain_passes E p kept)
-
-  -- an object leaves for good
-  pub take_well : (n : ℕ) (p : Pool V C R S F A) → IsWell p → Always (WellAfter {E = E} p) (take_at (find_slot n p.out) n p)
-  take_well n p w = always_well false p (take_at {E = E} (find_slot n p.out) n p) w (take_lawful E n p w.lawful) (take_passes E p n (find_slot n p.out) refl)
-
-  -- a pool closes
-  pub closed_well : (answer : Reply V E) (p : Pool V C R S F A) → IsWell p → WellAfter {E = E} p (by_handle (λ q. (answer, closed q)) p)
-  closed_well answer p w =
-      passes_well true p (by_handle (λ q. (answer, closed q)) p).1 w (closed_lawful E answer p w.lawful) (by_handle_passes E p true (λ q. (answer, closed q)) (closed_passes p))
-
-  -- one more handle
-  pub cloned_well : (answer : Reply V E) (p : Pool V C R S F A) → IsWell p → WellAfter {E = E} p (by_handle (λ q. (answer, cloned q)) p)
-  cloned_well answer p w =
-      passes_well false p (by_handle (λ q. (answer, cloned q)) p).1 w (cloned_lawful E answer p w.lawful) (by_handle_passes E p false (λ q. (answer, cloned q)) (cloned_passes p))
-
-  -- one handle fewer
-  pub handle_dropped_well : (answer : Reply V E) (p : Pool V C R S F A) → IsWell p → WellAfter {E = E} p (by_handle (λ q. (answer, handle_dropped q)) p)
-  handle_dropped_well answer p w =
-      passes_well false p (by_handle (λ q. (answer, handle_dropped q)) p).1 w (handle_dropped_lawful E answer p w.lawful)
-      (by_handle_passes E p false (λ q. (answer, handle_dropped q)) (handle_dropped_passes p))
-
-  -- one more handle, while there is one
-  pub upgrade_well : (p : Pool V C R S F A) → IsWell p → WellAfter {E = E} p (upgrade p)
-  upgrade_well p w = passes_well false p (upgrade {E = E} p).1 w (upgrade_lawful E p w.lawful) (upgrade_passes E p)
+  -- and every other party is as it was
+  pub moved_others : IsLawful p → Always (λ x. OthersStand m p x.1) (moved {E = E} m p)
+  moved_others l = follows_well (λ (x : Reply V E × Pool V C R S F A). OthersStand m p x.1) m p l (λ x h. h.1.others)

@@ -1,5 +1,5 @@
 -- What is true of every state of every run, and of each two neighbours in it.
-use Rattle.std.specs.Prelude.{◌≡◌, ℕ, ◌+◌, ◌<◌, ◌≤◌, Bool, true, false, List, [], ◌∷◌, ◌++◌, length, map, ⊤, Option, if◌then◌else◌, is_some}
+use Rattle.std.specs.Prelude.{◌≡◌, ℕ, ◌+◌, ◌<◌, ◌≤◌, ◌≢◌, Bool, true, false, List, [], ◌∷◌, ◌++◌, length, map, ⊤, Option, Some, None, if◌then◌else◌, is_some, slice_get}
 use Rattle.std.specs.List.{filter}
 use Rattle.deadpool_parts.specs.Numbers.{has_number}
 use Rattle.deadpool_parts.specs.Runs.{all_states, Each, Neighbours}
@@ -9,7 +9,7 @@ use Rattle.deadpool_parts.specs.declared.moment.Runtime.{Runtime}
 use Rattle.deadpool.specs.HookLists.{HookLists}
 use Rattle.deadpool.specs.Outside.{May}
 use Rattle.deadpool.specs.Pool.{Pool, Party, opened, is_going, is_creating, prepared_by, preparing, size, reach}
-use Rattle.deadpool.specs.Moves.{PoolRuns}
+use Rattle.deadpool.specs.Moves.{Makes, PoolRuns}
 use Rattle.deadpool.specs.Laws.{IsOnce, IsLawful, queue}
 use Rattle.deadpool.specs.declared.replay.moves.Move.{Move}
 use Rattle.deadpool.specs.declared.replay.moves.Move.TheVariants as move
@@ -113,6 +113,32 @@ sets_limit move.DropHandle = false
 sets_limit move.Upgrade = false
 sets_limit move.Status = false
 
+-- the party that the move names, where it names one
+abbrev pub named : {V : Type 0} → Move V → Option ℕ
+named (move.Start timeouts) = None
+named (move.Advance n now) = Some n
+named (move.Poll n now) = Some n
+named (move.Cancel n) = Some n
+named (move.Put n v) = None
+named (move.Back n) = None
+named (move.Take n) = None
+named (move.Resize n) = None
+named (move.Retain kept) = None
+named move.Close = None
+named move.Clone = None
+named move.DropHandle = None
+named move.Upgrade = None
+named move.Status = None
+
+module _ {V C R S F A : Type 0} where
+  -- who leaves the queue is the party that the move names
+  abbrev pub OthersStayQueued : Move V → Pool V C R S F A → Pool V C R S F A → Type 0
+  OthersStayQueued m p q = (n : ℕ) → has_number n (queue p) ≡ true → has_number n (queue q) ≡ false → named m ≡ Some n
+
+  -- every other party is as it was
+  abbrev pub OthersStand : Move V → Pool V C R S F A → Pool V C R S F A → Type 0
+  OthersStand m p q = (n : ℕ) (party : Option (Party V C R S)) → named m ≢ Some n → slice_get p.parties n ≡ Some party → slice_get q.parties n ≡ Some party
+
 module _ {V E C R S F A : Type 0} (may : May V E C R S F A) where
   -- P holds of every state of every run that begins well
   abbrev pub EachState : (Pool V C R S F A → Type 0) → Type 0
@@ -128,6 +154,10 @@ module _ {V E C R S F A : Type 0} (may : May V E C R S F A) where
   abbrev pub EachLater : (Pool V C R S F A → Pool V C R S F A → Type 0) → Type 0
   EachLater P = (moves : List (Move V)) (p after : Pool V C R S F A) (passed : List (List (Pool V C R S F A))) (answers : List (Reply V E))
       → IsWell p → PoolRuns may p moves passed answers after → Later P (all_states p passed)
+
+  -- P holds of each two neighbours among a state that is well and those that one move passes from it
+  abbrev pub EachMove : (Move V → Pool V C R S F A → Pool V C R S F A → Type 0) → Type 0
+  EachMove P = (m : Move V) (p : Pool V C R S F A) (passed : List (Pool V C R S F A)) (answer : Reply V E) → IsWell p → Makes may p m passed answer → Neighbours (P m) (p ∷ passed)
 
   -- every such run ends well
   abbrev pub EndsWell : Type 0

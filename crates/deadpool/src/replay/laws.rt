@@ -2,7 +2,7 @@
 //! and the hooks answer. A function here does nothing: its contract is the law.
 ghost use Rattle.deadpool.specs.Laws.{MarksQueued};
 ghost use Rattle.deadpool.specs.Outside.{may};
-ghost use Rattle.deadpool.specs.RunLaws.{OpensWell, EachState, EachStep, EachLater, EndsWell, StaysWithin, HasFewIdle, IsEmptyIfClosed, IsNumbered, CountsOn, NoneReturns, KeepsQueue, IsListedOnce};
+ghost use Rattle.deadpool.specs.RunLaws.{OpensWell, EachState, EachStep, EachLater, EachMove, EndsWell, StaysWithin, HasFewIdle, IsEmptyIfClosed, IsNumbered, CountsOn, NoneReturns, KeepsQueue, OthersStayQueued, OthersStand, IsListedOnce};
 
 use crate::managed::{AsyncHook, Manager, SyncHook};
 
@@ -47,6 +47,13 @@ pub fn queue_has_the_queued<M: Manager, F: SyncHook<M>, A: AsyncHook<M>>()
 /// Those that were granted a place, followed by those that wait, change only by removals and by one party at the end.
 pub fn queue_keeps_order<M: Manager, F: SyncHook<M>, A: AsyncHook<M>>()
     ensures { (manager : M) → EachStep (may M.Manager F.SyncHook A.AsyncHook manager) KeepsQueue }
+{}
+
+/// Whoever leaves the queue by a move is the party that the move names, and every other party is as it was. A poll is
+/// looked at advance by advance.
+pub fn no_waiter_is_lost<M: Manager, F: SyncHook<M>, A: AsyncHook<M>>()
+    ensures queue { (manager : M) → EachMove (may M.Manager F.SyncHook A.AsyncHook manager) OthersStayQueued }
+    ensures parties { (manager : M) → EachMove (may M.Manager F.SyncHook A.AsyncHook manager) OthersStand }
 {}
 
 /// A party is in at most one list.
