@@ -1,5 +1,5 @@
 -- How often a number stands in a list, among objects, and among what parties prepare.
-use Rattle.std.proofs.Common.{◌≡◌, ℕ, ◌+◌, ◌-◌, ◌≤◌, suc, List, [], ◌∷◌, ◌++◌, Bool, true, false, length, map, take, drop, get_or, refl, sym, ap, ◌∙◌, subst, arith, inl, inr, Option, Some, None, length-append}
+use Rattle.std.proofs.Common.{◌≡◌, ℕ, ◌+◌, ◌-◌, ◌≤◌, suc, List, [], ◌∷◌, ◌++◌, Bool, true, false, not, length, map, take, drop, get_or, refl, sym, ap, ◌∙◌, subst, arith, inl, inr, Option, Some, None, length-append}
 use Rattle.std.specs.Prelude.{◌==◌, nat_lt, filter, filter_map}
 use Rattle.std.specs.List.{cons_option}
 use Rattle.std.proofs.lemmas.Bool.{cases_Bool, cond_both, eqb-true, eq-eqb}
@@ -126,6 +126,15 @@ module _ {V : Type 0} where
             rw other (omega (arith, old, later, rest))
       ]
 
+  -- one that is found is one of those with its number
+  pub held-found : (n k : ℕ) (slot : Slot V) (xs : List (Slot V)) → find_slot k xs ≡ Some slot → one_if (slot.number == n) ≤ held n (filter (λ s. s.number == k) xs)
+  held-found n k slot [] h = cc
+  held-found n k slot (x ∷ xs) h =
+      elim (cases_Bool (x.number == k)) [
+        | inl here ↦ let same : x ≡ slot = let found = rw here at h in cc in let more = held-cons n slot (filter (λ s. s.number == k) xs) in rw (here, same) (omega (arith, more))
+        | inr other ↦ rw other (held-found n k slot xs (rw other at h))
+      ]
+
   -- a value has no number
   pub held-with_put : (n k : ℕ) (v : V) (xs : List (Slot V)) → held n (with_put k v xs) ≡ held n xs
   held-with_put n k v [] = refl
@@ -136,28 +145,33 @@ module _ {V : Type 0} where
       let rest = held-with_put n k v xs in
       cond_both (x.number == k) _ _ (λ ys. held n ys ≡ held n (x ∷ xs)) (λ here. omega (arith, old, put)) (λ other. omega (arith, old, later, rest))
 
+  -- the first so many and the others are all
+  pub held-split : (n k : ℕ) (xs : List (Slot V)) → held n (take k xs) + held n (drop k xs) ≡ held n xs
+  held-split n k xs = sym (held-append n (take k xs) (drop k xs)) ∙ ap (held n) (take-append-drop k xs)
+
   -- no more are left than there were
   pub held-drop : (n k : ℕ) (xs : List (Slot V)) → held n (drop k xs) ≤ held n xs
-  held-drop n k xs =
-      let sum = held-append n (take k xs) (drop k xs) in
-      let parts : held n (take k xs ++ drop k xs) ≡ held n xs = ap (held n) (take-append-drop k xs) in
-      omega (arith, sum, parts)
+  held-drop n k xs = let parts = held-split n k xs in omega (arith, parts)
 
-  -- nor under a test
-  pub held-filter : (n : ℕ) (f : Slot V → Bool) (xs : List (Slot V)) → held n (filter f xs) ≤ held n xs
-  held-filter n f [] = omega arith
-  held-filter n f (x ∷ xs) =
+  -- those that pass a test and those that do not are all
+  pub held-parts : (n : ℕ) (f : Slot V → Bool) (xs : List (Slot V)) → held n xs ≡ held n (filter f xs) + held n (filter (λ x. not (f x)) xs)
+  held-parts n f [] = omega arith
+  held-parts n f (x ∷ xs) =
       let old = held-cons n x xs in
-      let kept = held-cons n x (filter f xs) in
-      let rest = held-filter n f xs in
-      cond_both (f x) _ _ (λ ys. held n ys ≤ held n (x ∷ xs)) (λ stays. omega (arith, old, kept, rest)) (λ goes. omega (arith, old, rest))
+      let in_one = held-cons n x (filter f xs) in
+      let in_other = held-cons n x (filter (λ y. not (f y)) xs) in
+      let rest = held-parts n f xs in
+      elim (cases_Bool (f x)) [
+        | inl stays ↦ rw stays (omega (arith, old, in_one, rest))
+        | inr goes ↦ rw goes (omega (arith, old, in_other, rest))
+      ]
 
   -- the object that may be there has the number
   abbrev pub is_at : ℕ → Option (Slot V) → Bool
   is_at n None = false
   is_at n (Some slot) = slot.number == n
 
-  held-cons_option : (n : ℕ) (o : Option (Slot V)) (xs : List (Slot V)) → held n (cons_option o xs) ≡ one_if (is_at n o) + held n xs
+  pub held-cons_option : (n : ℕ) (o : Option (Slot V)) (xs : List (Slot V)) → held n (cons_option o xs) ≡ one_if (is_at n o) + held n xs
   held-cons_option n None xs = omega arith
   held-cons_option n (Some slot) xs = held-cons n slot xs
 

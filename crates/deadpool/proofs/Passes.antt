@@ -1,4 +1,4 @@
--- What each step of a pool has: the limits, the numbers of its objects, the order of its queue, and the parties that stay.
+-- What each step of a pool has: the limits, the numbers of its objects, the order of its queue, and what stays.
 use Rattle.std.proofs.Common.{◌≡◌, ◌≢◌, ℕ, ◌+◌, ◌≤◌, List, [], ◌∷◌, ◌++◌, Bool, true, false, not, ◌&&◌, length, set, take, drop, refl, sym, ap, ◌∙◌, arith, Option, Some, None, append_assoc, subst, cond, inl, inr}
 use Rattle.std.specs.Prelude.{slice_get, filter, ◌==◌}
 use Rattle.std.proofs.lemmas.Bool.{cases_Bool, eqb-true, or_cases, and_parts}
@@ -77,8 +77,9 @@ module _ {V C R S F A : Type 0} where
       let middle = held-filter_map n prepared_by p.parties in
       omega (arith, all, parts, more, middle)
 
--- From p a step may lead to q. It sets another limit only where it may, and changes no party but the one that it names.
-pub record Passes {V C R S F A : Type 0} (sets : Bool) (name : Option ℕ) (p q : Pool V C R S F A) : Type 0 where
+-- From p a step may lead to q. It sets another limit only where it may, changes no party but the one that it names, and
+-- no objects leave but some of these.
+pub record Passes {V C R S F A : Type 0} (sets : Bool) (name : Option ℕ) (leaving : List (Slot V)) (p q : Pool V C R S F A) : Type 0 where
   pub limit : sets ≡ false → q.limit ≡ p.limit
   pub few_idle : HasFewIdle p → HasFewIdle q
   pub closed : (p.is_open ≡ false → p.limit ≡ 0) → q.is_open ≡ false → q.limit ≡ 0
@@ -87,13 +88,14 @@ pub record Passes {V C R S F A : Type 0} (sets : Bool) (name : Option ℕ) (p q 
   pub grows : Bool
   pub next : q.next ≡ p.next + one_if grows
   pub few : (n : ℕ) → count n q ≤ count n p + one_if (grows && (p.next == n))
+  pub stay : (n : ℕ) → count n p ≤ count n q + held n leaving
   pub order : KeepsOrder (queue p) (queue q)
   pub others : (m : ℕ) (party : Option (Party V C R S)) → name ≢ Some m → slice_get p.parties m ≡ Some party → slice_get q.parties m ≡ Some party
 
 module _ {V C R S F A : Type 0} where
   -- nothing happens
-  pub passes_self : (sets : Bool) (name : Option ℕ) (p : Pool V C R S F A) → Passes sets name p p
-  passes_self sets name p = record {
+  pub passes_self : (sets : Bool) (name : Option ℕ) (leaving : List (Slot V)) (p : Pool V C R S F A) → Passes sets name leaving p p
+  passes_self sets name leaving p = record {
     limit = λ same. refl;
     few_idle = λ few. few;
     closed = λ c. c;
@@ -101,13 +103,14 @@ module _ {V C R S F A : Type 0} where
     grows = false;
     next = omega arith;
     few = λ n. omega arith;
+    stay = λ n. omega arith;
     order = order_same (queue p);
     others = λ m party other k. k;
   }
 
   -- those that wait are granted what is free
-  pub settle_passes : (sets : Bool) (name : Option ℕ) (p q : Pool V C R S F A) → Passes sets name p q → Passes sets name p (settle q)
-  settle_passes sets name p q s =
+  pub settle_passes : (sets : Bool) (name : Option ℕ) (leaving : List (Slot V)) (p q : Pool V C R S F A) → Passes sets name leaving p q → Passes sets name leaving p (settle q)
+  settle_passes sets name leaving p q s =
       let same : queue (settle q) ≡ queue q = append_assoc q.granted (take (grants q) q.waiting) (drop (grants q) q.waiting) ∙ ap (λ ys. q.granted ++ ys) (take-append-drop (grants q) q.waiting) in
       let k = s.order in
       record {
@@ -118,16 +121,18 @@ module _ {V C R S F A : Type 0} where
         grows = s.grows;
         next = s.next;
         few = s.few;
+        stay = s.stay;
         order = record { stays = k.stays; joins = k.joins; is = same ∙ k.is; few = k.few; fresh = k.fresh };
         others = s.others;
       }
 
   -- A party stands elsewhere, or is no more. Idle and out are so, and so is the queue.
-  pub party_passes : (n : ℕ) (old new : Option (Party V C R S)) (grows : Bool) (next : ℕ) (idle out : List (Slot V)) (granted waiting : List ℕ) (p : Pool V C R S F A)
+  pub party_passes : (n : ℕ) (old new : Option (Party V C R S)) (grows : Bool) (next : ℕ) (idle out : List (Slot V)) (granted waiting : List ℕ) (leaving : List (Slot V)) (p : Pool V C R S F A)
       → slice_get p.parties n ≡ Some old → next ≡ p.next + one_if grows → length idle ≤ length p.idle → KeepsOrder (queue p) (granted ++ waiting)
       → ((m : ℕ) → held m idle + (one_if (prepares m new) + held m out) ≤ held m p.idle + (one_if (prepares m old) + held m p.out) + one_if (grows && (p.next == m)))
-      → Passes false (Some n) p (record p { next = next; parties = set p.parties n new; idle = idle; out = out; granted = granted; waiting = waiting })
-  party_passes n old new grows next idle out granted waiting p h e fewer order same = record {
+      → ((m : ℕ) → held m p.idle + (one_if (prepares m old) + held m p.out) ≤ held m idle + (one_if (prepares m new) + held m out) + held m leaving)
+      → Passes false (Some n) leaving p (record p { next = next; parties = set p.parties n new; idle = idle; out = out; granted = granted; waiting = waiting })
+  party_passes n old new grows next idle out granted waiting leaving p h e fewer order same enough = record {
     limit = λ kept. refl;
     few_idle = λ few. omega (arith, fewer, few);
     closed = λ c. c;
@@ -135,14 +140,16 @@ module _ {V C R S F A : Type 0} where
     grows = grows;
     next = e;
     few = λ m. let one = count-set (prepares m) p.parties n old new h in let all = same m in omega (arith, one, all);
+    stay = λ m. let one = count-set (prepares m) p.parties n old new h in let all = enough m in omega (arith, one, all);
     order = order;
     others = λ m party other k. get-set_other p.parties n m new (λ e. other (ap Some (sym e))) ∙ k;
   }
 
   -- other objects
-  pub objects_pass : (handles : ℕ) (idle out : List (Slot V)) (p : Pool V C R S F A) → (HasFewIdle p → length idle ≤ p.limit)
-      → ((m : ℕ) → held m idle + held m out ≤ held m p.idle + held m p.out) → Passes false None p (record p { handles = handles; idle = idle; out = out })
-  objects_pass handles idle out p fewer same = record {
+  pub objects_pass : (handles : ℕ) (idle out leaving : List (Slot V)) (p : Pool V C R S F A) → (HasFewIdle p → length idle ≤ p.limit)
+      → ((m : ℕ) → held m idle + held m out ≤ held m p.idle + held m p.out)
+      → ((m : ℕ) → held m p.idle + held m p.out ≤ held m idle + held m out + held m leaving) → Passes false None leaving p (record p { handles = handles; idle = idle; out = out })
+  objects_pass handles idle out leaving p fewer same enough = record {
     limit = λ kept. refl;
     few_idle = fewer;
     closed = λ c. c;
@@ -150,6 +157,7 @@ module _ {V C R S F A : Type 0} where
     grows = false;
     next = omega arith;
     few = λ m. let all = same m in omega (arith, all);
+    stay = λ m. let all = enough m in omega (arith, all);
     order = order_same (queue p);
     others = λ m party other k. k;
   }

@@ -1,6 +1,6 @@
 -- Each move leads from a pool that is well to one that is well and succeeds it, and leaves the others as they were, whatever the
 -- outside answers.
-use Rattle.std.proofs.Common.{◌≡◌, ◌≢◌, ◌⊎◌, ℕ, ◌+◌, ◌<◌, ◌≤◌, Bool, true, false, ◌&&◌, refl, sym, ap, ◌∙◌, arith, inl, inr}
+use Rattle.std.proofs.Common.{◌≡◌, ◌≢◌, ◌⊎◌, ℕ, ◌+◌, ◌<◌, ◌≤◌, List, map, Bool, true, false, ◌&&◌, refl, sym, ap, ◌∙◌, arith, inl, inr}
 use Rattle.std.specs.Prelude.{◌==◌, Option, Some, None, slice_get}
 use Rattle.std.proofs.lemmas.Bool.{cases_Bool, and_parts, eqb-true}
 use Rattle.std.proofs.lemmas.Bool.Decides.{eqb_tells}
@@ -14,13 +14,14 @@ use Rattle.deadpool.specs.HookLists.{HookLists}
 use Rattle.deadpool.specs.Pool.{Pool, Party, opened}
 use Rattle.deadpool.specs.Moves.{moved}
 use Rattle.deadpool.specs.Laws.{IsLawful, is_queued}
-use Rattle.deadpool.specs.RunLaws.{numbers, IsNumbered, IsWell, CountsOn, Succeeds, sets_limit, named, OthersStayQueued, OthersStand}
+use Rattle.deadpool.specs.RunLaws.{numbers, IsNumbered, IsWell, CountsOn, Succeeds, sets_limit, named, may_leave, OthersStayInPool, OthersStayQueued, OthersStand}
+use Rattle.deadpool.specs.declared.managed.slot.Slot.{Slot}
 use Rattle.deadpool.specs.declared.replay.moves.Move.{Move}
 use Rattle.deadpool.specs.declared.replay.moves.Reply.{Reply}
 use Rattle.deadpool.proofs.ListsLemmas.{one_if}
-use Rattle.deadpool.proofs.NumberCounts.{times, times-none, times-some, times-once, once-times}
+use Rattle.deadpool.proofs.NumberCounts.{times, times-none, times-some, times-once, once-times, held, times-map}
 use Rattle.deadpool.proofs.Lawful.{Always-more, Always-both, LawfulAfter, opened_lawful, moved_lawful}
-use Rattle.deadpool.proofs.Passes.{Passes, times-numbers}
+use Rattle.deadpool.proofs.Passes.{Passes, count, times-numbers}
 use Rattle.deadpool.proofs.PassesMoves.{moved_passes}
 
 -- a test that counts holds
@@ -28,7 +29,7 @@ one_true : (b : Bool) → 1 ≤ one_if b → b ≡ true
 one_true true h = refl
 one_true false h = absurd (omega arith)
 
-module _ {V C R S F A : Type 0} (sets : Bool) (name : Option ℕ) (p q : Pool V C R S F A) (k : IsNumbered p) (s : Passes sets name p q) where
+module _ {V C R S F A : Type 0} (sets : Bool) (name : Option ℕ) (leaving : List (Slot V)) (p q : Pool V C R S F A) (k : IsNumbered p) (s : Passes sets name leaving p q) where
   -- a number that comes is the next one
   new_is_next : (n : ℕ) → has_number n (numbers q) ≡ true → has_number n (numbers p) ≡ false → (n ≡ p.next) × (q.next ≡ p.next + 1)
   new_is_next n there before =
@@ -99,17 +100,32 @@ module _ {V C R S F A : Type 0} where
           let after : is_queued (slice_get q.parties n) ≡ false = sym (k.marks n) ∙ gone in
           let same : slice_get q.parties n ≡ slice_get p.parties n = others n party other e ∙ sym e in cc
 
+  -- where no more leave than some of these, another's number stays
+  others_stay : (leaving : List (Slot V)) (p q : Pool V C R S F A) → ((n : ℕ) → count n p ≤ count n q + held n leaving) → (n : ℕ) → has_number n (numbers p) ≡ true → has_number n (numbers q) ≡ false
+      → has_number n (map (λ slot. slot.number) leaving) ≡ true
+  others_stay leaving p q stay n there gone =
+      let some = times-some n (numbers p) there in
+      let none = times-none n (numbers q) gone in
+      let then = times-numbers n p in
+      let now = times-numbers n q in
+      let all = stay n in
+      let leave = times-map n leaving in
+      elim (cases_Bool (has_number n (map (λ slot. slot.number) leaving))) [
+        | inl this ↦ this
+        | inr other ↦ let zero = times-none n (map (λ slot. slot.number) leaving) other in absurd (omega (arith, some, none, then, now, all, leave, zero))
+      ]
+
   -- a step that has so much leads from a pool that is well to one that is well and succeeds it
-  passes_well : (sets : Bool) (name : Option ℕ) (p q : Pool V C R S F A) → IsWell p → IsLawful q → Passes sets name p q → IsWell q × Succeeds p q
-  passes_well sets name p q w l s =
+  passes_well : (sets : Bool) (name : Option ℕ) (leaving : List (Slot V)) (p q : Pool V C R S F A) → IsWell p → IsLawful q → Passes sets name leaving p q → IsWell q × Succeeds p q
+  passes_well sets name leaving p q w l s =
       let few = s.few_idle w.few_idle in (
         record {
           lawful = l;
           few_idle = few;
           closed = λ shut. let none : q.limit ≡ 0 = s.closed (λ before. (w.closed before).0) shut in (none, nil_from_length q.idle (omega (arith, few, none)));
-          numbered = numbered sets name p q w.numbered s;
+          numbered = numbered sets name leaving p q w.numbered s;
         },
-        record { counted = counts_on sets name p q w.numbered s; queued = s.order },
+        record { counted = counts_on sets name leaving p q w.numbered s; queued = s.order },
       )
 
   -- a new pool is well
@@ -129,18 +145,18 @@ module _ {V E C R S F A : Type 0} where
 
   -- the step of a move, to a lawful pool
   abbrev StepsTo : Move V → Pool V C R S F A → Reply V E × Pool V C R S F A → Type 0
-  StepsTo m p x = IsLawful x.1 × Passes (sets_limit m) (named m) p x.1
+  StepsTo m p x = IsLawful x.1 × Passes (sets_limit m) (named m) (may_leave m p) p x.1
 
   -- what follows for every move, whatever is answered
   follows_well : (P : Reply V E × Pool V C R S F A → Type 0) (m : Move V) (p : Pool V C R S F A) → IsLawful p → ((x : Reply V E × Pool V C R S F A) → StepsTo m p x → P x) → Always P (moved m p)
   follows_well P m p l implies =
       Always-more (StepsTo m p) P implies (moved m p)
-      (Always-both LawfulAfter (λ (x : Reply V E × Pool V C R S F A). Passes (sets_limit m) (named m) p x.1) (moved m p) (moved_lawful E m p l) (moved_passes E p m l.marks))
+      (Always-both LawfulAfter (λ (x : Reply V E × Pool V C R S F A). Passes (sets_limit m) (named m) (may_leave m p) p x.1) (moved m p) (moved_lawful E m p l) (moved_passes E p m l.marks))
 
 module _ {V C R S F A : Type 0} (E : Type 0) (m : Move V) (p : Pool V C R S F A) where
   -- every move
   pub moved_well : IsWell p → Always (WellAfter {E = E} p) (moved m p)
-  moved_well w = follows_well (WellAfter p) m p w.lawful (λ x h. passes_well (sets_limit m) (named m) p x.1 w h.0 h.1)
+  moved_well w = follows_well (WellAfter p) m p w.lawful (λ x h. passes_well (sets_limit m) (named m) (may_leave m p) p x.1 w h.0 h.1)
 
   -- the limit is as it was, unless the move may set one
   pub moved_limit : IsLawful p → sets_limit m ≡ false → Always (λ x. x.1.limit ≡ p.limit) (moved {E = E} m p)
@@ -153,3 +169,7 @@ module _ {V C R S F A : Type 0} (E : Type 0) (m : Move V) (p : Pool V C R S F A)
   -- and every other party is as it was
   pub moved_others : IsLawful p → Always (λ x. OthersStand m p x.1) (moved {E = E} m p)
   moved_others l = follows_well (λ (x : Reply V E × Pool V C R S F A). OthersStand m p x.1) m p l (λ x h. h.1.others)
+
+  -- the objects that stay are all but those that the move may take
+  pub moved_numbers : IsLawful p → Always (λ x. OthersStayInPool m p x.1) (moved {E = E} m p)
+  moved_numbers l = follows_well (λ (x : Reply V E × Pool V C R S F A). OthersStayInPool m p x.1) m p l (λ x h. others_stay (may_leave m p) p x.1 h.1.stay)

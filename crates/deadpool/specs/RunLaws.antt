@@ -1,6 +1,6 @@
 -- What is true of every state of every run, and of each two neighbours in it.
-use Rattle.std.specs.Prelude.{◌≡◌, ℕ, ◌+◌, ◌<◌, ◌≤◌, ◌≢◌, Bool, true, false, List, [], ◌∷◌, ◌++◌, length, map, ⊤, Option, Some, None, if◌then◌else◌, is_some, slice_get}
-use Rattle.std.specs.List.{filter}
+use Rattle.std.specs.Prelude.{◌≡◌, ℕ, ◌+◌, ◌-◌, not, ◌==◌, take, ◌<◌, ◌≤◌, ◌≢◌, Bool, true, false, List, [], ◌∷◌, ◌++◌, length, map, ⊤, Option, Some, None, if◌then◌else◌, is_some, slice_get}
+use Rattle.std.specs.List.{filter, filter_map}
 use Rattle.deadpool_parts.specs.Numbers.{has_number}
 use Rattle.deadpool_parts.specs.Runs.{all_states, Each, Neighbours}
 use Rattle.deadpool_parts.specs.declared.config.QueueMode.{QueueMode}
@@ -11,6 +11,7 @@ use Rattle.deadpool.specs.Outside.{May}
 use Rattle.deadpool.specs.Pool.{Pool, Party, opened, is_going, is_creating, prepared_by, preparing, size, reach}
 use Rattle.deadpool.specs.Moves.{Makes, PoolRuns}
 use Rattle.deadpool.specs.Laws.{IsOnce, IsLawful, queue}
+use Rattle.deadpool.specs.declared.managed.slot.Slot.{Slot}
 use Rattle.deadpool.specs.declared.replay.moves.Move.{Move}
 use Rattle.deadpool.specs.declared.replay.moves.Move.TheVariants as move
 use Rattle.deadpool.specs.declared.replay.moves.Reply.{Reply}
@@ -130,7 +131,34 @@ named move.DropHandle = None
 named move.Upgrade = None
 named move.Status = None
 
+module _ {V C R S : Type 0} where
+  -- the object that the party prepares, where it is there and prepares one
+  abbrev pub prepared_in : Option (Option (Party V C R S)) → List (Slot V)
+  prepared_in None = []
+  prepared_in (Some party) = filter_map prepared_by (party ∷ [])
+
 module _ {V C R S F A : Type 0} where
+  -- the objects that the move may take out of the pool
+  abbrev pub may_leave : Move V → Pool V C R S F A → List (Slot V)
+  may_leave (move.Start timeouts) p = []
+  may_leave (move.Advance n now) p = prepared_in (slice_get p.parties n)
+  may_leave (move.Poll n now) p = prepared_in (slice_get p.parties n)
+  may_leave (move.Cancel n) p = prepared_in (slice_get p.parties n)
+  may_leave (move.Put n v) p = []
+  may_leave (move.Back n) p = filter (λ slot. slot.number == n) p.out
+  may_leave (move.Take n) p = filter (λ slot. slot.number == n) p.out
+  may_leave (move.Resize n) p = take (size p - n) p.idle
+  may_leave (move.Retain kept) p = filter (λ slot. not (has_number slot.number kept.items)) p.idle
+  may_leave move.Close p = p.idle
+  may_leave move.Clone p = []
+  may_leave move.DropHandle p = if p.handles == 1 then p.idle else []
+  may_leave move.Upgrade p = []
+  may_leave move.Status p = []
+
+  -- whose number leaves the pool is one of them
+  abbrev pub OthersStayInPool : Move V → Pool V C R S F A → Pool V C R S F A → Type 0
+  OthersStayInPool m p q = (n : ℕ) → has_number n (numbers p) ≡ true → has_number n (numbers q) ≡ false → has_number n (map (λ slot. slot.number) (may_leave m p)) ≡ true
+
   -- who leaves the queue is the party that the move names
   abbrev pub OthersStayQueued : Move V → Pool V C R S F A → Pool V C R S F A → Type 0
   OthersStayQueued m p q = (n : ℕ) → has_number n (queue p) ≡ true → has_number n (queue q) ≡ false → named m ≡ Some n

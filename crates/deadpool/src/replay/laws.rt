@@ -1,8 +1,8 @@
-//! What is true of every state of every run from a pool that is well, and of each two neighbours in it, whatever the manager
-//! and the hooks answer. A function here does nothing: its contract is the law.
+//! What is true of every state of every run from a pool that is well, of each two neighbours in it, and of each move, whatever
+//! the manager and the hooks answer. A function here does nothing: its contract is the law.
 ghost use Rattle.deadpool.specs.Laws.{MarksQueued};
 ghost use Rattle.deadpool.specs.Outside.{may};
-ghost use Rattle.deadpool.specs.RunLaws.{OpensWell, EachState, EachStep, EachLater, EachMove, EndsWell, StaysWithin, HasFewIdle, IsEmptyIfClosed, IsNumbered, CountsOn, NoneReturns, KeepsQueue, OthersStayQueued, OthersStand, IsListedOnce};
+ghost use Rattle.deadpool.specs.RunLaws.{OpensWell, EachState, EachStep, EachLater, EachMove, EndsWell, StaysWithin, HasFewIdle, IsEmptyIfClosed, IsNumbered, CountsOn, NoneReturns, KeepsQueue, OthersStayInPool, OthersStayQueued, OthersStand, IsListedOnce};
 
 use crate::managed::{AsyncHook, Manager, SyncHook};
 
@@ -36,6 +36,13 @@ pub fn numbers_stand_once<M: Manager, F: SyncHook<M>, A: AsyncHook<M>>()
 pub fn new_object_has_next<M: Manager, F: SyncHook<M>, A: AsyncHook<M>>()
     ensures next { (manager : M) → EachStep (may M.Manager F.SyncHook A.AsyncHook manager) CountsOn }
     ensures gone { (manager : M) → EachLater (may M.Manager F.SyncHook A.AsyncHook manager) NoneReturns }
+{}
+
+/// An object leaves the pool only by a move that may take it: by an advance, a poll or a cancel of the party that prepares it,
+/// by its own return or take, by a smaller limit, a close or the drop of the last handle while it is idle, or by a retain
+/// that does not keep it. A poll is looked at advance by advance.
+pub fn no_object_is_lost<M: Manager, F: SyncHook<M>, A: AsyncHook<M>>()
+    ensures { (manager : M) → EachMove (may M.Manager F.SyncHook A.AsyncHook manager) OthersStayInPool }
 {}
 
 /// Those that were granted a place and those that wait are those that stand as queued: no get that waits drops out of the

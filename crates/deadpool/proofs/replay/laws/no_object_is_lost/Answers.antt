@@ -1,0 +1,8 @@
+use Rattle.deadpool.specs.Outside.{may}
+use Rattle.deadpool.specs.RunLaws.{OthersStayInPool}
+use Rattle.deadpool.proofs.RunsWell.{each_move}
+use Rattle.deadpool.proofs.Well.{moved_numbers}
+use Rattle.deadpool.proofs.replay.laws.no_object_is_lost.Goals as goal
+
+pub returns : goal.returns
+returns g c = λ manager. each_move (may g.M.Manager g.F.SyncHook g.A.AsyncHook manager) OthersStayInPool (λ n now q r h. h) (λ m p w. moved_numbers _ m p w.lawful)
