@@ -1,9 +1,7 @@
 -- The desk settles as the pool does.
-use Rattle.std.proofs.Common.{◌≡◌, ℕ, ◌+◌, List, ◌++◌, Bool, true, false, ◌==◌, ◌||◌, length, map, take, drop, refl, sym, ap, ◌∙◌, arith, Option}
+use Rattle.std.proofs.Common.{◌≡◌, ℕ, ◌+◌, List, ◌++◌, length, map, take, drop, refl, sym, ◌∙◌, arith, Option}
 use Rattle.std.specs.List.{filter, filter_map}
-use Rattle.std.proofs.lemmas.List.{take-map, drop-map, map-append, length-map, take-append-drop}
-use Rattle.std.proofs.lemmas.List.Folds.{list_any-append}
-use Rattle.deadpool_parts.specs.Numbers.{has_number}
+use Rattle.std.proofs.lemmas.List.{take-map, drop-map, map-append, length-map}
 use Rattle.deadpool_parts.specs.declared.moment.Runtime.{Runtime}
 use Rattle.deadpool_parts.specs.declared.config.Timeouts.{Timeouts}
 use Rattle.deadpool.specs.HookLists.{HookLists}

@@ -2,13 +2,13 @@
 use Rattle.std.proofs.Common.{◌≡◌, ℕ, ◌+◌, ◌-◌, ◌≤◌, List, [], ◌∷◌, ◌++◌, true, false, cond, length, set, take, drop, map, min, refl, sym, ap, ◌∙◌, arith, inl, inr, Option, Some, append-nil, if◌then◌else◌}
 use Rattle.std.specs.List.{slice_get}
 use Rattle.std.proofs.lemmas.Bool.{cases_Bool, cases_lt, or_left, or_right}
-use Rattle.std.proofs.lemmas.List.{map-set, map-append, take-map, drop-map, length-map, length-set}
+use Rattle.std.proofs.lemmas.List.{map-set, map-append, length-map, length-set}
 use Rattle.std.proofs.lemmas.Option.{slice_get-map}
 use Rattle.deadpool_parts.specs.Numbers.{has_number}
 use Rattle.deadpool_parts.specs.declared.moment.Runtime.{Runtime}
 use Rattle.deadpool_parts.specs.declared.config.Timeouts.{Timeouts}
 use Rattle.deadpool.specs.HookLists.{HookLists}
-use Rattle.deadpool.specs.DeskState.{DeskState, places, grants, settled}
+use Rattle.deadpool.specs.DeskState.{DeskState, places}
 use Rattle.deadpool.specs.DeskSteps.{is_listed, unqueued}
 use Rattle.deadpool.specs.Stages.{Getting}
 use Rattle.deadpool.specs.Pool.{Pool, Party, is_going, is_creating, prepared_by, places as pool_places, grants as pool_grants, settle}

@@ -5,11 +5,11 @@ use Rattle.std.proofs.lemmas.Bool.{cases_Bool, and_parts, not-true, or_cases, or
 use Rattle.std.proofs.lemmas.Bool.Decides.{eqb_tells, nat_tests}
 use Rattle.std.proofs.lemmas.List.Folds.{list_any-append}
 use Rattle.deadpool_parts.specs.Numbers.{has_number, without_number}
-use Rattle.deadpool.specs.DeskState.{DeskState, grants, settled}
+use Rattle.deadpool.specs.DeskState.{DeskState}
 use Rattle.deadpool.specs.DeskSteps.{is_listed, unqueued}
 use Rattle.deadpool.specs.Stages.{Getting}
 use Rattle.deadpool.specs.Image.{has_ticket, holds_ticket, owner, IsOwned}
-use Rattle.deadpool.proofs.Lists.{has_number-moved, map_same, Tells, without-map, absent-map}
+use Rattle.deadpool.proofs.Lists.{map_same, Tells, without-map, absent-map}
 use Rattle.deadpool.proofs.NumberLists.{has_number-without, without_number-same}
 use Rattle.deadpool.proofs.ListsLemmas.{get-set_same, get-set_other}
 
