@@ -14,6 +14,7 @@ pub mod FirstPollTakes
 pub mod Follows
 pub mod FollowsAdvance
 pub mod FollowsMoves
+pub mod Given
 pub mod Hooks
 pub mod Lawful
 pub mod Lists

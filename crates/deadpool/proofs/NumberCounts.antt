@@ -80,6 +80,14 @@ module _ {V : Type 0} where
   times-map n [] = refl
   times-map n (x ∷ xs) = elim (cases_Bool (x.number == n)) [ inl here ↦ rw here (ap suc (times-map n xs)) | inr other ↦ rw other (times-map n xs) ]
 
+  -- where one has the number, it is there
+  pub has_number-held : (n : ℕ) (xs : List (Slot V)) → 1 ≤ held n xs → has_number n (map (λ s. s.number) xs) ≡ true
+  has_number-held n xs some =
+      elim (cases_Bool (has_number n (map (λ s. s.number) xs))) [
+        | inl there ↦ there
+        | inr gone ↦ let none = times-none n (map (λ s. s.number) xs) gone in let same = times-map n xs in absurd (omega (arith, some, none, same))
+      ]
+
   -- by the first and the others
   pub held-cons : (n : ℕ) (x : Slot V) (xs : List (Slot V)) → held n (x ∷ xs) ≡ one_if (x.number == n) + held n xs
   held-cons n x xs = length-cond (x.number == n) x (filter (λ s. s.number == n) xs)
@@ -124,6 +132,15 @@ module _ {V : Type 0} where
             let rest = held-without_slot n k slot xs (rw other at h) in
             let later = held-cons n x (without_slot k xs) in
             rw other (omega (arith, old, later, rest))
+      ]
+
+  -- one that is found has the number
+  pub find_slot-number : (k : ℕ) (slot : Slot V) (xs : List (Slot V)) → find_slot k xs ≡ Some slot → (slot.number == k) ≡ true
+  find_slot-number k slot [] h = cc
+  find_slot-number k slot (x ∷ xs) h =
+      elim (cases_Bool (x.number == k)) [
+        | inl here ↦ let same : x ≡ slot = let found = rw here at h in cc in rw (← same) here
+        | inr other ↦ find_slot-number k slot xs (rw other at h)
       ]
 
   -- one that is found is one of those with its number

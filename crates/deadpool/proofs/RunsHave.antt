@@ -7,7 +7,7 @@ use Rattle.deadpool_parts.proofs.Programs.{Always-Gives}
 use Rattle.deadpool.specs.Outside.{May}
 use Rattle.deadpool.specs.Pool.{Pool}
 use Rattle.deadpool.specs.Moves.{moved, Polls, Makes, PoolRuns}
-use Rattle.deadpool.specs.RunLaws.{Later}
+use Rattle.deadpool.specs.RunLaws.{Later, EachReply}
 use Rattle.deadpool.specs.declared.replay.moves.Move.{Move}
 use Rattle.deadpool.specs.declared.replay.moves.Move.TheVariants as move
 use Rattle.deadpool.specs.declared.replay.moves.Reply.{Reply}
@@ -37,6 +37,46 @@ Later-of P leads (x ∷ y ∷ zs) h =
 pub Later-more : {X : Type 0} (P more : X → X → Type 0) → ((x y : X) → P x y → more x y) → (xs : List X) → Later P xs → Later more xs
 Later-more P more implies [] h = tt
 Later-more P more implies (x ∷ xs) h = (Each-more (P x) (more x) (implies x) xs h.0, Later-more P more implies xs h.1)
+
+module _ {V E C R S F A : Type 0} (may : May V E C R S F A) where
+  -- one step of the move, from some state that it passes or the first, gave its reply and its last state
+  Ended : Move V → Reply V E → Pool V C R S F A → Type 0
+  Ended m answer q = (p : Pool V C R S F A) × Gives may (moved m p) (answer, q)
+
+  -- of a poll
+  polls_end : (n : ℕ) (now : Moment) (p : Pool V C R S F A) (passed : List (Pool V C R S F A)) (answer : Reply V E) → Polls may n now p passed answer → Ended (move.Poll n now) answer (last_of p passed)
+  unfolding Ended
+  polls_end n now p [] answer ran = absurd ran
+  polls_end n now p (s ∷ []) answer ran = (p, ran.0)
+  polls_end n now p (s ∷ t ∷ ss) answer ran = polls_end n now s (t ∷ ss) answer ran.1
+
+  -- of another move
+  one_ends : (m : Move V) (p after : Pool V C R S F A) (passed : List (Pool V C R S F A)) (answer : Reply V E) → passed ≡ after ∷ [] → Gives may (moved m p) (answer, after) → Ended m answer (last_of p passed)
+  unfolding Ended
+  one_ends m p after passed answer e given = rw e (p, given)
+
+  makes_end : (m : Move V) (p : Pool V C R S F A) (passed : List (Pool V C R S F A)) (answer : Reply V E) → Makes may p m passed answer → Ended m answer (last_of p passed)
+  makes_end (move.Poll n now) p passed answer ran = polls_end n now p passed answer ran
+  makes_end (move.Start timeouts) p passed answer ran = one_ends (move.Start timeouts) p ran.0 passed answer ran.1 ran.2
+  makes_end (move.Advance n now) p passed answer ran = one_ends (move.Advance n now) p ran.0 passed answer ran.1 ran.2
+  makes_end (move.Cancel n) p passed answer ran = one_ends (move.Cancel n) p ran.0 passed answer ran.1 ran.2
+  makes_end (move.Put n v) p passed answer ran = one_ends (move.Put n v) p ran.0 passed answer ran.1 ran.2
+  makes_end (move.Back n) p passed answer ran = one_ends (move.Back n) p ran.0 passed answer ran.1 ran.2
+  makes_end (move.Take n) p passed answer ran = one_ends (move.Take n) p ran.0 passed answer ran.1 ran.2
+  makes_end (move.Resize n) p passed answer ran = one_ends (move.Resize n) p ran.0 passed answer ran.1 ran.2
+  makes_end (move.Retain kept) p passed answer ran = one_ends (move.Retain kept) p ran.0 passed answer ran.1 ran.2
+  makes_end move.Close p passed answer ran = one_ends move.Close p ran.0 passed answer ran.1 ran.2
+  makes_end move.Clone p passed answer ran = one_ends move.Clone p ran.0 passed answer ran.1 ran.2
+  makes_end move.DropHandle p passed answer ran = one_ends move.DropHandle p ran.0 passed answer ran.1 ran.2
+  makes_end move.Upgrade p passed answer ran = one_ends move.Upgrade p ran.0 passed answer ran.1 ran.2
+  makes_end move.Status p passed answer ran = one_ends move.Status p ran.0 passed answer ran.1 ran.2
+
+  -- what each move's step always has with its reply, the move has
+  pub each_reply : (P : Move V → Reply V E → Pool V C R S F A → Type 0) → ((m : Move V) (p : Pool V C R S F A) → Always (λ (x : Reply V E × Pool V C R S F A). P m x.0 x.1) (moved m p)) → EachReply may P
+  unfolding Ended
+  each_reply P always m p passed answer w made =
+      let end = makes_end m p passed answer made in
+      Always-Gives (λ (x : Reply V E × Pool V C R S F A). P m x.0 x.1) may (moved m end.0) (answer, last_of p passed) (always m end.0) end.1
 
 -- Some moves, a fact of a pool that they keep, and one of the pools before and after each
 module _ {V E C R S F A : Type 0} (may : May V E C R S F A) (IsMeant : Move V → Type 0) (Good : Pool V C R S F A → Type 0) (Next : Pool V C R S F A → Pool V C R S F A → Type 0)

@@ -19,7 +19,7 @@ use Rattle.deadpool.specs.declared.managed.slot.Slot.{Slot}
 use Rattle.deadpool.specs.declared.replay.moves.Move.{Move}
 use Rattle.deadpool.specs.declared.replay.moves.Reply.{Reply}
 use Rattle.deadpool.proofs.ListsLemmas.{one_if}
-use Rattle.deadpool.proofs.NumberCounts.{times, times-none, times-some, times-once, once-times, held, times-map}
+use Rattle.deadpool.proofs.NumberCounts.{times, times-none, times-some, times-once, once-times, held, has_number-held}
 use Rattle.deadpool.proofs.Lawful.{Always-more, Always-both, LawfulAfter, opened_lawful, moved_lawful}
 use Rattle.deadpool.proofs.Passes.{Passes, count, times-numbers}
 use Rattle.deadpool.proofs.PassesMoves.{moved_passes}
@@ -109,11 +109,7 @@ module _ {V C R S F A : Type 0} where
       let then = times-numbers n p in
       let now = times-numbers n q in
       let all = stay n in
-      let leave = times-map n leaving in
-      elim (cases_Bool (has_number n (map (λ slot. slot.number) leaving))) [
-        | inl this ↦ this
-        | inr other ↦ let zero = times-none n (map (λ slot. slot.number) leaving) other in absurd (omega (arith, some, none, then, now, all, leave, zero))
-      ]
+      has_number-held n leaving (omega (arith, some, none, then, now, all))
 
   -- a step that has so much leads from a pool that is well to one that is well and succeeds it
   passes_well : (sets : Bool) (name : Option ℕ) (leaving : List (Slot V)) (p q : Pool V C R S F A) → IsWell p → IsLawful q → Passes sets name leaving p q → IsWell q × Succeeds p q

@@ -2,7 +2,7 @@
 use Rattle.std.specs.Prelude.{◌≡◌, ℕ, ◌+◌, ◌-◌, not, ◌==◌, take, ◌<◌, ◌≤◌, ◌≢◌, Bool, true, false, List, [], ◌∷◌, ◌++◌, length, map, ⊤, Option, Some, None, if◌then◌else◌, is_some, slice_get}
 use Rattle.std.specs.List.{filter, filter_map}
 use Rattle.deadpool_parts.specs.Numbers.{has_number}
-use Rattle.deadpool_parts.specs.Runs.{all_states, Each, Neighbours}
+use Rattle.deadpool_parts.specs.Runs.{last_of, all_states, Each, Neighbours}
 use Rattle.deadpool_parts.specs.declared.config.QueueMode.{QueueMode}
 use Rattle.deadpool_parts.specs.declared.config.Timeouts.{Timeouts}
 use Rattle.deadpool_parts.specs.declared.moment.Runtime.{Runtime}
@@ -15,6 +15,7 @@ use Rattle.deadpool.specs.declared.managed.slot.Slot.{Slot}
 use Rattle.deadpool.specs.declared.replay.moves.Move.{Move}
 use Rattle.deadpool.specs.declared.replay.moves.Move.TheVariants as move
 use Rattle.deadpool.specs.declared.replay.moves.Reply.{Reply}
+use Rattle.deadpool.specs.declared.replay.moves.Reply.TheVariants as reply
 
 -- the places at which the test holds, where the first is so
 abbrev pub places_from : {X : Type 0} → ℕ → (X → Bool) → List X → List ℕ
@@ -167,6 +168,17 @@ module _ {V C R S F A : Type 0} where
   abbrev pub OthersStand : Move V → Pool V C R S F A → Pool V C R S F A → Type 0
   OthersStand m p q = (n : ℕ) (party : Option (Party V C R S)) → named m ≢ Some n → slice_get p.parties n ≡ Some party → slice_get q.parties n ≡ Some party
 
+module _ {V E C R S F A : Type 0} where
+  -- the object that is given is out
+  abbrev pub IsOutIfGiven : Move V → Reply V E → Pool V C R S F A → Type 0
+  IsOutIfGiven m (reply.Object n) q = has_number n (map (λ slot. slot.number) q.out) ≡ true
+  IsOutIfGiven m _ q = ⊤
+
+  -- the object that comes back and is kept is idle
+  abbrev pub IsIdleIfKept : Move V → Reply V E → Pool V C R S F A → Type 0
+  IsIdleIfKept (move.Back n) reply.Kept q = has_number n (map (λ slot. slot.number) q.idle) ≡ true
+  IsIdleIfKept _ answer q = ⊤
+
 module _ {V E C R S F A : Type 0} (may : May V E C R S F A) where
   -- P holds of every state of every run that begins well
   abbrev pub EachState : (Pool V C R S F A → Type 0) → Type 0
@@ -186,6 +198,10 @@ module _ {V E C R S F A : Type 0} (may : May V E C R S F A) where
   -- P holds of each two neighbours among a state that is well and those that one move passes from it
   abbrev pub EachMove : (Move V → Pool V C R S F A → Pool V C R S F A → Type 0) → Type 0
   EachMove P = (m : Move V) (p : Pool V C R S F A) (passed : List (Pool V C R S F A)) (answer : Reply V E) → IsWell p → Makes may p m passed answer → Neighbours (P m) (p ∷ passed)
+
+  -- P holds of each move, its reply and the last state that it passes, from a state that is well
+  abbrev pub EachReply : (Move V → Reply V E → Pool V C R S F A → Type 0) → Type 0
+  EachReply P = (m : Move V) (p : Pool V C R S F A) (passed : List (Pool V C R S F A)) (answer : Reply V E) → IsWell p → Makes may p m passed answer → P m answer (last_of p passed)
 
   -- every such run ends well
   abbrev pub EndsWell : Type 0

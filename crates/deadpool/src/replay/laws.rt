@@ -2,7 +2,7 @@
 //! the manager and the hooks answer. A function here does nothing: its contract is the law.
 ghost use Rattle.deadpool.specs.Laws.{MarksQueued};
 ghost use Rattle.deadpool.specs.Outside.{may};
-ghost use Rattle.deadpool.specs.RunLaws.{OpensWell, EachState, EachStep, EachLater, EachMove, EndsWell, StaysWithin, HasFewIdle, IsEmptyIfClosed, IsNumbered, CountsOn, NoneReturns, KeepsQueue, OthersStayInPool, OthersStayQueued, OthersStand, IsListedOnce};
+ghost use Rattle.deadpool.specs.RunLaws.{OpensWell, EachState, EachStep, EachLater, EachMove, EachReply, EndsWell, StaysWithin, HasFewIdle, IsEmptyIfClosed, IsNumbered, CountsOn, NoneReturns, KeepsQueue, OthersStayInPool, OthersStayQueued, OthersStand, IsOutIfGiven, IsIdleIfKept, IsListedOnce};
 
 use crate::managed::{AsyncHook, Manager, SyncHook};
 
@@ -43,6 +43,12 @@ pub fn new_object_has_next<M: Manager, F: SyncHook<M>, A: AsyncHook<M>>()
 /// that does not keep it. A poll is looked at advance by advance.
 pub fn no_object_is_lost<M: Manager, F: SyncHook<M>, A: AsyncHook<M>>()
     ensures { (manager : M) → EachMove (may M.Manager F.SyncHook A.AsyncHook manager) OthersStayInPool }
+{}
+
+/// After a move that gives an object it is out, and after a return that keeps its object it is idle.
+pub fn object_is_where_said<M: Manager, F: SyncHook<M>, A: AsyncHook<M>>()
+    ensures given { (manager : M) → EachReply (may M.Manager F.SyncHook A.AsyncHook manager) IsOutIfGiven }
+    ensures kept { (manager : M) → EachReply (may M.Manager F.SyncHook A.AsyncHook manager) IsIdleIfKept }
 {}
 
 /// Those that were granted a place and those that wait are those that stand as queued: no get that waits drops out of the
