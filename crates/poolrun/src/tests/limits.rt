@@ -1,7 +1,7 @@
 //! Scripts at the ends of the language: the greatest numbers, waits of zero, refused pools.
 use super::Lines;
 
-pub const SCRIPTS: [(&'static str, Lines); 6] = [
+pub const SCRIPTS: [(&'static str, Lines); 7] = [
     (
         "greatest-numbers",
         &[
@@ -98,6 +98,20 @@ pub const SCRIPTS: [(&'static str, Lines); 6] = [
             ("start", "party 2"),
             ("poll 2 0", "pending"),
             ("poll 2 0", "object 1 value 2"),
+        ],
+    ),
+    (
+        "answers-join-those-that-are-left",
+        &[
+            ("pool 1 fifo none 0", "ok"),
+            ("answer create pending", "ok"),
+            ("answer create refuse", "ok"),
+            ("start", "party 0"),
+            ("poll 0 0", "pending"),
+            (
+                "poll 0 0",
+                "error Error occurred while creating a new object: refused",
+            ),
         ],
     ),
 ];
