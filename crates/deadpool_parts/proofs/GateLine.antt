@@ -1,20 +1,10 @@
 -- What every step of a gate keeps of its line: each kind of step is a waiter that leaves, one that is changed in its
 -- place, or one that comes last.
-use Rattle.std.proofs.Common.{◌≡◌, ℕ, Bool, true, false, not, ◌||◌, eqb, List, [], ◌∷◌, ◌++◌, Some, None, refl, sym, inl, inr}
+use Rattle.std.proofs.Common.{◌≡◌, ℕ, Bool, true, false, not, ◌||◌, ◌&&◌, eqb, List, [], ◌∷◌, ◌++◌, None, refl, sym, ◌∙◌, inl, inr}
 use Rattle.std.specs.List.{find}
-use Rattle.std.proofs.lemmas.Bool.{cases_Bool, both_ways, ne_eqb, eqb-false}
-use Rattle.deadpool_parts.specs.Gate.{Waiter, arrived, find_waiter, remove_first, change_first, without_waiter, with_place, grant_next, IsApart, NonePass, IsFront, ToldAreDone, IsLine}
-
--- where nothing is found, neither the first nor any later one passes
-pub find_none-head : (test : Waiter → Bool) (x : Waiter) (xs : List Waiter) → find test (x ∷ xs) ≡ None → test x ≡ false
-find_none-head test x xs none =
-    elim (cases_Bool (test x)) [
-      | inl passes ↦ absurd (let found : Some x ≡ None = rw passes at none in cc)
-      | inr fails ↦ fails
-    ]
-
-pub find_none-tail : (test : Waiter → Bool) (x : Waiter) (xs : List Waiter) → find test (x ∷ xs) ≡ None → find test xs ≡ None
-find_none-tail test x xs none = let fails = find_none-head test x xs none in rw fails at none
+use Rattle.std.proofs.lemmas.Bool.{cases_Bool, both_ways, ne_eqb, eqb-false, and_parts}
+use Rattle.deadpool_parts.specs.Gate.{Waiter, arrived, find_waiter, remove_first, change_first, without_waiter, with_place, with_word, grant_next, is_due, tell_next, IsApart, NonePass, IsFront, ToldAreDone, IsLine}
+use Rattle.deadpool_parts.proofs.GateListed.{find_none-head, find_none-tail, find_none-none_pass, change_first_none}
 
 module _ (test : Waiter → Bool) where
   -- a waiter leaves
@@ -60,48 +50,52 @@ module _ (test : Waiter → Bool) where
         | inr later ↦ rw later (done.0, ToldAreDone-remove_first c ws done.1)
       ]
 
-  -- a waiter gets a place, in its place in the line
+  -- a waiter is changed in its place in the line, and keeps its ticket
 
-  find_none-granted : (key : ℕ) (ws : List Waiter) → find_waiter key ws ≡ None → find_waiter key (change_first test with_place ws) ≡ None
-  find_none-granted key [] none = refl
-  find_none-granted key (w ∷ ws) none =
-      let fails = find_none-head (λ v. eqb v.ticket key) w ws none in
-      let rest = find_none-tail (λ v. eqb v.ticket key) w ws none in
-      elim (cases_Bool (test w)) [
-        | inl here ↦ rw (here, fails) rest
-        | inr later ↦ rw (later, fails) (find_none-granted key ws rest)
-      ]
+  module _ (change : Waiter → Waiter) (same : (w : Waiter) → (change w).ticket ≡ w.ticket) where
+    find_none-changed : (key : ℕ) (ws : List Waiter) → find_waiter key ws ≡ None → find_waiter key (change_first test change ws) ≡ None
+    find_none-changed key [] none = refl
+    find_none-changed key (w ∷ ws) none =
+        let fails = find_none-head (λ v. eqb v.ticket key) w ws none in
+        let rest = find_none-tail (λ v. eqb v.ticket key) w ws none in
+        elim (cases_Bool (test w)) [
+          | inl here ↦ rw (here, same w, fails) rest
+          | inr later ↦ rw (later, fails) (find_none-changed key ws rest)
+        ]
 
-  IsApart-granted : (ws : List Waiter) → IsApart ws → IsApart (change_first test with_place ws)
-  IsApart-granted [] apart = tt
-  IsApart-granted (w ∷ ws) apart =
-      elim (cases_Bool (test w)) [
-        | inl here ↦ rw here apart
-        | inr later ↦ rw later (find_none-granted w.ticket ws apart.0, IsApart-granted ws apart.1)
-      ]
+    IsApart-changed : (ws : List Waiter) → IsApart ws → IsApart (change_first test change ws)
+    IsApart-changed [] apart = tt
+    IsApart-changed (w ∷ ws) apart =
+        elim (cases_Bool (test w)) [
+          | inl here ↦ rw (here, same w) apart
+          | inr later ↦ rw later (find_none-changed w.ticket ws apart.0, IsApart-changed ws apart.1)
+        ]
 
-  none_told-granted : (ws : List Waiter) → NonePass (λ w. w.told) ws → NonePass (λ w. w.told) (change_first test with_place ws)
-  none_told-granted [] none = tt
-  none_told-granted (w ∷ ws) none =
-      elim (cases_Bool (test w)) [
-        | inl here ↦ rw here none
-        | inr later ↦ rw later (none.0, none_told-granted ws none.1)
-      ]
+  -- and passes another test as it did before
+  module _ (change : Waiter → Waiter) (p : Waiter → Bool) (same : (w : Waiter) → p (change w) ≡ p w) where
+    NonePass-changed : (ws : List Waiter) → NonePass p ws → NonePass p (change_first test change ws)
+    NonePass-changed [] none = tt
+    NonePass-changed (w ∷ ws) none =
+        elim (cases_Bool (test w)) [
+          | inl here ↦ rw here (same w ∙ none.0, none.1)
+          | inr later ↦ rw later (none.0, NonePass-changed ws none.1)
+        ]
 
-  told_front-granted : (ws : List Waiter) → IsFront (λ w. w.told) ws → IsFront (λ w. w.told) (change_first test with_place ws)
-  told_front-granted [] front = tt
-  told_front-granted (w ∷ ws) front =
-      elim (cases_Bool (test w)) [
-        | inl here ↦ rw here front
-        | inr later ↦ rw later (λ fails. none_told-granted ws (front.0 fails), told_front-granted ws front.1)
-      ]
+    IsFront-changed : (ws : List Waiter) → IsFront p ws → IsFront p (change_first test change ws)
+    IsFront-changed [] front = tt
+    IsFront-changed (w ∷ ws) front =
+        elim (cases_Bool (test w)) [
+          | inl here ↦ rw here (λ fails. front.0 (sym (same w) ∙ fails), front.1)
+          | inr later ↦ rw later (λ fails. NonePass-changed ws (front.0 fails), IsFront-changed ws front.1)
+        ]
 
-  ToldAreDone-granted : (is_closed : Bool) (ws : List Waiter) → ToldAreDone is_closed ws → ToldAreDone is_closed (change_first test with_place ws)
-  ToldAreDone-granted c [] done = tt
-  ToldAreDone-granted c (w ∷ ws) done =
+  -- who is told of what has happened is done; so is who was told and gets a place
+  ToldAreDone-changed : (is_closed : Bool) (change : Waiter → Waiter) → ((w : Waiter) → test w ≡ true → ((change w).granted || is_closed) ≡ true) → (ws : List Waiter) → ToldAreDone is_closed ws → ToldAreDone is_closed (change_first test change ws)
+  ToldAreDone-changed c change ends [] done = tt
+  ToldAreDone-changed c change ends (w ∷ ws) done =
       elim (cases_Bool (test w)) [
-        | inl here ↦ rw here (λ _. refl, done.1)
-        | inr later ↦ rw later (done.0, ToldAreDone-granted c ws done.1)
+        | inl here ↦ rw here (λ _. ends w here, done.1)
+        | inr later ↦ rw later (done.0, ToldAreDone-changed c change ends ws done.1)
       ]
 
 -- the first without a place gets one, so those with a place are still the front
@@ -112,6 +106,47 @@ granted_front-grant_next (w ∷ ws) front =
       | inl has ↦ rw has (λ fails. absurd (both_ways _ fails refl), granted_front-grant_next ws front.1)
       | inr lacks ↦ rw lacks (λ fails. absurd (both_ways _ fails refl), front.1)
     ]
+
+-- in an open line nobody behind one that waits is due
+waits_behind : (is_closed granted told : Bool) → ((granted || is_closed) && not told) ≡ false → told ≡ false → (is_closed ≡ false) × (granted ≡ false)
+waits_behind c g told fails lacks = let open_or : (g || c) ≡ false = and_true (g || c) (rw lacks at fails) in neither g c open_or
+  where
+    and_true : (b : Bool) → (b && true) ≡ false → b ≡ false
+    and_true true h = h
+    and_true false h = refl
+
+    neither : (g c : Bool) → (g || c) ≡ false → (c ≡ false) × (g ≡ false)
+    neither true c h = absurd (both_ways _ h refl)
+    neither false c h = (h, refl)
+
+is_due-granted : (w : Waiter) → is_due false w ≡ true → w.granted ≡ true
+is_due-granted w due = has w.granted (and_parts (w.granted || false) (not w.told) due).0
+  where
+    has : (b : Bool) → (b || false) ≡ true → b ≡ true
+    has true h = refl
+    has false h = h
+
+-- where nobody has a place in an open line, nobody is due
+pub none_due-open : (is_closed : Bool) (ws : List Waiter) → is_closed ≡ false → NonePass (λ w. w.granted) ws → find (is_due is_closed) ws ≡ None
+none_due-open c ws is none = rw is (find_none-none_pass (is_due false) (λ w. w.granted) is_due-granted ws none)
+
+-- so the earliest that is due is the earliest that was not told, and those that were told are still the front
+told_front-tell_next : (is_closed : Bool) (ws : List Waiter) → IsFront (λ w. w.granted) ws → IsFront (λ w. w.told) ws → IsFront (λ w. w.told) (tell_next is_closed ws)
+told_front-tell_next c [] granted told = tt
+told_front-tell_next c (w ∷ ws) granted told =
+    elim (cases_Bool (is_due c w)) [
+      | inl due ↦ rw due (λ fails. absurd (both_ways _ fails refl), told.1)
+      | inr later ↦
+          rw later (
+            λ fails.
+                let waits = waits_behind c w.granted w.told later fails in
+                rw (change_first_none (is_due c) with_word ws (none_due-open c ws waits.0 (granted.0 waits.1))) (told.0 fails),
+            told_front-tell_next c ws granted.1 told.1,
+          )
+    ]
+
+is_due-done : (is_closed : Bool) (w : Waiter) → is_due is_closed w ≡ true → (w.granted || is_closed) ≡ true
+is_due-done c w due = (and_parts (w.granted || c) (not w.told) due).0
 
 module _ (key : ℕ) where
   -- a waiter comes last
@@ -161,10 +196,19 @@ IsLine-without_waiter c key ws line =
 pub IsLine-grant_next : (is_closed : Bool) (ws : List Waiter) → IsLine is_closed ws → IsLine is_closed (grant_next ws)
 IsLine-grant_next c ws line =
     record {
-      apart = IsApart-granted (λ v. not v.granted) ws line.apart;
+      apart = IsApart-changed (λ v. not v.granted) with_place (λ _. refl) ws line.apart;
       granted_front = granted_front-grant_next ws line.granted_front;
-      told_front = told_front-granted (λ v. not v.granted) ws line.told_front;
-      told_done = ToldAreDone-granted (λ v. not v.granted) c ws line.told_done;
+      told_front = IsFront-changed (λ v. not v.granted) with_place (λ v. v.told) (λ _. refl) ws line.told_front;
+      told_done = ToldAreDone-changed (λ v. not v.granted) c with_place (λ _ _. refl) ws line.told_done;
+    }
+
+pub IsLine-tell_next : (is_closed : Bool) (ws : List Waiter) → IsLine is_closed ws → IsLine is_closed (tell_next is_closed ws)
+IsLine-tell_next c ws line =
+    record {
+      apart = IsApart-changed (is_due c) with_word (λ _. refl) ws line.apart;
+      granted_front = IsFront-changed (is_due c) with_word (λ v. v.granted) (λ _. refl) ws line.granted_front;
+      told_front = told_front-tell_next c ws line.granted_front line.told_front;
+      told_done = ToldAreDone-changed (is_due c) c with_word (is_due-done c) ws line.told_done;
     }
 
 pub IsLine-arrived : (is_closed : Bool) (key : ℕ) (ws : List Waiter) → find_waiter key ws ≡ None → IsLine is_closed ws → IsLine is_closed (ws ++ arrived key ∷ [])

@@ -1,74 +1,67 @@
--- A search in the vector, and a change where it led, in the words of the line.
-use Rattle.std.proofs.Common.{◌≡◌, ◌≢◌, ℕ, zero, suc, ◌<◌, ◌+◌, ◌≤◌, Bool, true, false, not, ltb, List, [], ◌∷◌, length, get_or, set, Option, Some, None, is_some, refl, sym, ap, inl, inr, arith}
-use Rattle.std.specs.List.{find, position, position_or_len, prefix_len, remove}
-use Rattle.std.proofs.lemmas.Bool.{cases_Bool, ltb-false}
-use Rattle.std.proofs.lemmas.List.{get_or_default}
-use Rattle.std.proofs.lemmas.List.Quantifiers.{position-Some}
-use Rattle.deadpool_parts.specs.declared.gate.Listed.{Listed}
-use Rattle.deadpool_parts.specs.Gate.{Waiter, remove_first, change_first}
-use Rattle.deadpool_parts.specs.GateListed.{waiter_of, waiters_of}
-use Rattle.deadpool_parts.proofs.GateLine.{find_none-head, find_none-tail}
+-- A search in the line: what stands before the waiter that it finds, and behind it.
+use Rattle.std.proofs.Common.{◌≡◌, Bool, true, false, List, [], ◌∷◌, ◌++◌, Some, None, refl, ap, inl, inr}
+use Rattle.std.specs.List.{find}
+use Rattle.std.proofs.lemmas.Bool.{cases_Bool, both_ways}
+use Rattle.deadpool_parts.specs.Gate.{Waiter, remove_first, change_first, NonePass, IsFront}
+
+-- where nothing is found, neither the first nor any later one passes
+pub find_none-head : (test : Waiter → Bool) (x : Waiter) (xs : List Waiter) → find test (x ∷ xs) ≡ None → test x ≡ false
+find_none-head test x xs none =
+    elim (cases_Bool (test x)) [
+      | inl passes ↦ absurd (let found : Some x ≡ None = rw passes at none in cc)
+      | inr fails ↦ fails
+    ]
+
+pub find_none-tail : (test : Waiter → Bool) (x : Waiter) (xs : List Waiter) → find test (x ∷ xs) ≡ None → find test xs ≡ None
+find_none-tail test x xs none = let fails = find_none-head test x xs none in rw fails at none
+
+-- a waiter that is found, between those before it, none of which passes, and those behind it
+pub record FoundBetween (test : Waiter → Bool) (ws : List Waiter) (w : Waiter) : Type 0 where
+  pub front : List Waiter
+  pub back : List Waiter
+  pub is : ws ≡ front ++ w ∷ back
+  pub passes : test w ≡ true
+  pub before : find test front ≡ None
 
 module _ (test : Waiter → Bool) where
-  -- at this index stands this entry, which passes, and those before it fail
-  abbrev IsFirst : List Listed → ℕ → Listed → Type 0
-  IsFirst [] i entry = ⊥
-  IsFirst (x ∷ xs) zero entry = (x ≡ entry) × (test (waiter_of entry) ≡ true)
-  IsFirst (x ∷ xs) (suc i) entry = (test (waiter_of x) ≡ false) × IsFirst xs i entry
-
-  first_by_index : (xs : List Listed) (i : ℕ) (entry : Listed) → i < length xs → get_or xs i entry ≡ entry → test (waiter_of entry) ≡ true → ((k : ℕ) → k < i → test (waiter_of (get_or xs k entry)) ≡ false) → IsFirst xs i entry
-  first_by_index [] i entry within there passes before = omega arith
-  first_by_index (x ∷ xs) zero entry within there passes before = (there, passes)
-  first_by_index (x ∷ xs) (suc i) entry within there passes before =
-      (before 0 (omega arith), first_by_index xs i entry (omega arith) there passes (λ k lt. before (suc k) (omega arith)))
-
-  find_first : (xs : List Listed) (i : ℕ) (entry : Listed) → IsFirst xs i entry → find test (waiters_of xs) ≡ Some (waiter_of entry)
-  find_first [] i entry first = absurd first
-  find_first (x ∷ xs) zero entry first = rw (first.0, first.1) refl
-  find_first (x ∷ xs) (suc i) entry first = rw first.0 (find_first xs i entry first.1)
-
-  removed_first : (xs : List Listed) (i : ℕ) (entry : Listed) → IsFirst xs i entry → waiters_of (remove xs i) ≡ remove_first test (waiters_of xs)
-  removed_first [] i entry first = absurd first
-  removed_first (x ∷ xs) zero entry first = rw (first.0, first.1) refl
-  removed_first (x ∷ xs) (suc i) entry first = rw first.0 (ap (λ ws. waiter_of x ∷ ws) (removed_first xs i entry first.1))
-
-  changed_first : (change : Waiter → Waiter) (xs : List Listed) (i : ℕ) (entry changed : Listed) → waiter_of changed ≡ change (waiter_of entry) → IsFirst xs i entry → waiters_of (set xs i changed) ≡ change_first test change (waiters_of xs)
-  changed_first change [] i entry changed is first = absurd first
-  changed_first change (x ∷ xs) zero entry changed is first = rw (first.0, first.1) (ap (λ w. w ∷ waiters_of xs) is)
-  changed_first change (x ∷ xs) (suc i) entry changed is first =
-      rw first.0 (ap (λ ws. waiter_of x ∷ ws) (changed_first change xs i entry changed is first.1))
-
-  -- what a search that succeeds has found, by the entry that is read there
-  module _ (xs : List Listed) (i : ℕ) (entry : Listed) (found : Some i ≡ position (λ x. test (waiter_of x)) xs) (read : entry ≡ get_or xs i entry) where
-    first : IsFirst xs i entry
-    first =
-        let p = position-Some (λ (x : Listed). test (waiter_of x)) xs i entry (sym found) in
-        first_by_index xs i entry p.0 (sym read) (rw (← read) at p.1) p.2
-
-    pub find-waiters_of : find test (waiters_of xs) ≡ Some (waiter_of entry)
-    find-waiters_of = find_first xs i entry first
-
-    pub waiters_of-remove : waiters_of (remove xs i) ≡ remove_first test (waiters_of xs)
-    waiters_of-remove = removed_first xs i entry first
-
-    pub waiters_of-set : (change : Waiter → Waiter) (changed : Listed) → waiter_of changed ≡ change (waiter_of entry) → waiters_of (set xs i changed) ≡ change_first test change (waiters_of xs)
-    waiters_of-set change changed is = changed_first change xs i entry changed is first
-
-  none_by_prefix : (xs : List Listed) → length xs ≤ position_or_len (λ x. test (waiter_of x)) xs → find test (waiters_of xs) ≡ None
-  none_by_prefix [] long = refl
-  none_by_prefix (x ∷ xs) long =
-      elim (cases_Bool (test (waiter_of x))) [
-        | inl passes ↦ absurd (let short : suc (length xs) ≤ 0 = rw passes at long in omega arith)
-        | inr fails ↦ rw fails (none_by_prefix xs (let more : suc (length xs) ≤ 1 + prefix_len (λ y. not (test (waiter_of y))) xs = rw fails at long in omega arith))
+  pub found_between : (ws : List Waiter) (w : Waiter) → find test ws ≡ Some w → FoundBetween test ws w
+  found_between [] w found = cc
+  found_between (x ∷ xs) w found =
+      elim (cases_Bool (test x)) [
+        | inl passes ↦
+            let same : x ≡ w = let first : Some x ≡ Some w = rw passes at found in cc in
+            record { front = []; back = xs; is = ap (λ v. v ∷ xs) same; passes = rw (← same) passes; before = refl }
+        | inr fails ↦
+            let rest : FoundBetween test xs w = found_between xs w (rw fails at found) in
+            record { front = x ∷ rest.front; back = rest.back; is = ap (λ ys. x ∷ ys) rest.is; passes = rest.passes; before = rw fails rest.before }
       ]
 
-  -- a search that fails
-  pub find-waiters_of_none : (xs : List Listed) → None ≡ position (λ x. test (waiter_of x)) xs → find test (waiters_of xs) ≡ None
-  find-waiters_of_none xs none =
-      elim (cases_Bool (ltb (position_or_len (λ (x : Listed). test (waiter_of x)) xs) (length xs))) [
-        | inl within ↦ absurd (let found : None ≡ Some (position_or_len (λ (x : Listed). test (waiter_of x)) xs) = rw within at none in cc)
-        | inr past ↦ none_by_prefix xs (ltb-false _ _ past)
-      ]
+  -- a search of two lists, one after the other
+
+  pub find_none-front : (xs ys : List Waiter) → find test (xs ++ ys) ≡ None → find test xs ≡ None
+  find_none-front [] ys none = refl
+  find_none-front (x ∷ xs) ys none =
+      rw (find_none-head test x (xs ++ ys) none) (find_none-front xs ys (find_none-tail test x (xs ++ ys) none))
+
+  pub find_none-back : (xs ys : List Waiter) → find test (xs ++ ys) ≡ None → find test ys ≡ None
+  find_none-back [] ys none = none
+  find_none-back (x ∷ xs) ys none = find_none-back xs ys (find_none-tail test x (xs ++ ys) none)
+
+  pub find-behind : (xs ys : List Waiter) → find test xs ≡ None → find test (xs ++ ys) ≡ find test ys
+  find-behind [] ys none = refl
+  find-behind (x ∷ xs) ys none = rw (find_none-head test x xs none) (find-behind xs ys (find_none-tail test x xs none))
+
+  -- what is done to the waiter that is found is done to the one between
+
+  pub change_first-between : (change : Waiter → Waiter) (xs : List Waiter) (w : Waiter) (ys : List Waiter) → find test xs ≡ None → test w ≡ true → change_first test change (xs ++ w ∷ ys) ≡ xs ++ change w ∷ ys
+  change_first-between change [] w ys none passes = rw passes
+  change_first-between change (x ∷ xs) w ys none passes =
+      rw (find_none-head test x xs none, change_first-between change xs w ys (find_none-tail test x xs none) passes)
+
+  pub remove_first-between : (xs : List Waiter) (w : Waiter) (ys : List Waiter) → find test xs ≡ None → test w ≡ true → remove_first test (xs ++ w ∷ ys) ≡ xs ++ ys
+  remove_first-between [] w ys none passes = rw passes
+  remove_first-between (x ∷ xs) w ys none passes =
+      rw (find_none-head test x xs none, remove_first-between xs w ys (find_none-tail test x xs none) passes)
 
   pub remove_first_none : (ws : List Waiter) → find test ws ≡ None → remove_first test ws ≡ ws
   remove_first_none [] none = refl
@@ -82,12 +75,25 @@ module _ (test : Waiter → Bool) where
       let fails = find_none-head test w ws none in
       rw fails (ap (λ vs. w ∷ vs) (change_first_none change ws (find_none-tail test w ws none)))
 
-  -- a search that succeeds, by its answer alone
-  pub find-waiters_of_some : (xs : List Listed) (o : Option ℕ) → is_some o ≡ true → o ≡ position (λ x. test (waiter_of x)) xs → find test (waiters_of xs) ≢ None
-  find-waiters_of_some xs None is_there found none = cc
-  find-waiters_of_some [] (Some i) is_there found none = cc
-  find-waiters_of_some (x ∷ xs) (Some i) is_there found none =
-      let within : i < length (x ∷ xs) = (position-Some (λ (y : Listed). test (waiter_of y)) (x ∷ xs) i x (sym found)).0 in
-      let entry = get_or (x ∷ xs) i x in
-      let there = find-waiters_of (x ∷ xs) i entry found (get_or_default (x ∷ xs) i x entry within) in
-      cc
+  -- who passes this test passes another, which nobody passes
+  module _ (other : Waiter → Bool) (implies : (w : Waiter) → test w ≡ true → other w ≡ true) where
+    pub find_none-stronger : (ws : List Waiter) → find other ws ≡ None → find test ws ≡ None
+    find_none-stronger [] none = refl
+    find_none-stronger (x ∷ xs) none =
+        elim (cases_Bool (test x)) [
+          | inl passes ↦ absurd (both_ways _ (find_none-head other x xs none) (implies x passes))
+          | inr fails ↦ rw fails (find_none-stronger xs (find_none-tail other x xs none))
+        ]
+
+    pub find_none-none_pass : (ws : List Waiter) → NonePass other ws → find test ws ≡ None
+    find_none-none_pass [] none = refl
+    find_none-none_pass (x ∷ xs) none =
+        elim (cases_Bool (test x)) [
+          | inl passes ↦ absurd (both_ways _ none.0 (implies x passes))
+          | inr fails ↦ rw fails (find_none-none_pass xs none.1)
+        ]
+
+  -- behind one that fails nobody passes, where those that pass are the front
+  pub none_pass-behind : (xs : List Waiter) (w : Waiter) (ys : List Waiter) → test w ≡ false → IsFront test (xs ++ w ∷ ys) → NonePass test ys
+  none_pass-behind [] w ys fails front = front.0 fails
+  none_pass-behind (x ∷ xs) w ys fails front = none_pass-behind xs w ys fails front.1

@@ -8,7 +8,7 @@ use Rattle.std.proofs.lemmas.List.Sums.{length-filter}
 use Rattle.std.proofs.lemmas.List.Filters.{length-filter_both}
 use Rattle.deadpool_parts.specs.Gate.{Waiter, arrived, find_waiter, without_waiter, granted_count, waiting_count, granted_tickets, waiting_tickets, IsApart}
 use Rattle.deadpool_parts.specs.Numbers.{without_number, has_number}
-use Rattle.deadpool_parts.proofs.GateLine.{find_none-head, find_none-tail}
+use Rattle.deadpool_parts.proofs.GateListed.{find_none-head, find_none-tail}
 
 module _ (test : Waiter → Bool) where
   -- the tickets of the waiters that pass: both lists are such a one

@@ -1,7 +1,9 @@
+pub mod GateApart
 pub mod GateAsked
+pub mod GateFields
 pub mod GateLine
+pub mod GateLinks
 pub mod GateListed
-pub mod GateNumbers
 pub mod GatePlaces
 pub mod GateTickets
 pub mod Programs

@@ -1,7 +1,7 @@
 -- A `Gate` as its callers see it: one list of waiters, the earliest first, and whether it is closed.
-use Rattle.std.specs.Prelude.{◌≡◌, ℕ, zero, suc, Bool, true, false, not, ◌==◌, ◌||◌, List, [], ◌∷◌, ◌++◌, Option, Some, None, if◌then◌else◌, nat_lt, min, count_by, map, filter}
+use Rattle.std.specs.Prelude.{◌≡◌, ℕ, zero, suc, Bool, true, false, not, ◌==◌, ◌||◌, ◌&&◌, ◌+◌, ◌-◌, ◌≤◌, List, [], ◌∷◌, ◌++◌, Option, Some, None, if◌then◌else◌, nat_lt, min, count_by, map, filter}
 use Rattle.std.specs.List.{find}
-use Rattle.std.specs.Option.{option_map_or}
+use Rattle.std.specs.Option.{option_map, option_map_or}
 use Rattle.deadpool_parts.specs.declared.gate.Ask.{Ask}
 use Rattle.deadpool_parts.specs.declared.gate.Ask.TheVariants as ask
 use Rattle.deadpool_parts.specs.declared.gate.Entry.{Entry}
@@ -15,11 +15,14 @@ pub record Waiter : Type 0 where
   pub granted : Bool
   pub told : Bool
 
--- a gate: its waiters, and how many it can list before it has to find memory
+-- a gate: its waiters, and how many it can list before it has to find memory; how many accesses to waiters it has made
+-- so far, and where that count stood when its last call began
 pub record Line : Type 0 where
   pub waiters : List Waiter
   pub is_closed : Bool
   pub capacity : ℕ
+  pub accesses : ℕ
+  pub mark : ℕ
 
 -- who has just come holds a ticket and nothing else
 abbrev pub arrived : ℕ → Waiter
@@ -98,6 +101,29 @@ asked is_closed ticket ws =
 abbrev pub standing_of : Option Waiter → Withdrawn
 standing_of None = withdrawn.Unknown
 standing_of (Some w) = if w.granted then withdrawn.Granted else withdrawn.Waiting
+
+-- the wait of this waiter has ended, and it was not told so
+abbrev pub is_due : Bool → Waiter → Bool
+is_due is_closed w = (w.granted || is_closed) && not w.told
+
+abbrev pub with_word : Waiter → Waiter
+with_word w = record w { told = true }
+
+-- the earliest of them is told
+abbrev pub tell_next : Bool → List Waiter → List Waiter
+tell_next is_closed ws = change_first (is_due is_closed) with_word ws
+
+-- its ticket
+abbrev pub due_ticket : Bool → List Waiter → Option ℕ
+due_ticket is_closed ws = option_map (λ w. w.ticket) (find (is_due is_closed) ws)
+
+-- a count has risen, by at most so much
+abbrev pub RisesAtMost : ℕ → ℕ → ℕ → Type 0
+RisesAtMost most old new = (old ≤ new) × (new ≤ old + most)
+
+-- how many accesses the last call made
+abbrev pub touched : Line → ℕ
+touched line = line.accesses - line.mark
 
 -- each waiter has a ticket of its own
 abbrev pub IsApart : List Waiter → Type 0

@@ -1,6 +1,7 @@
 pub mod Gate
 pub mod GateFields
-pub mod GateListed
+pub mod GateLinks
+pub mod GateNodes
 pub mod Moments
 pub mod Numbers
 pub mod PoolConfig

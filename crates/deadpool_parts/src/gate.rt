@@ -1,15 +1,19 @@
 //! The line at a pool: those that found no place, in order of arrival, and what each of them was answered.
 
-ghost use Rattle.std.specs.Prelude.{◌≡◌, ◌<◌, ◌≤◌, ◌^◌, ◌++◌, [], ◌==◌, true, false, not, Some, None, IfSome, IfNone, length, take, drop, position};
+ghost use Rattle.std.specs.Prelude.{◌≡◌, ◌<◌, ◌≤◌, ◌^◌, ◌*◌, ◌++◌, [], true, false, IfSome, IfNone, length, take, drop};
 ghost use Rattle.std.specs.Option.{option_map};
-ghost use Rattle.deadpool_parts.specs.Gate.{find_waiter, without_waiter, grant_next, grant, granted_count, waiting_count, granted_tickets, waiting_tickets, grant_count, entry_at_once, Joins, answer_of, asked, standing_of, IsLine};
-ghost use Rattle.deadpool_parts.specs.GateListed.{waiters_of};
+ghost use Rattle.deadpool_parts.specs.Gate.{find_waiter, without_waiter, grant_next, grant, granted_count, waiting_count, granted_tickets, waiting_tickets, grant_count, entry_at_once, Joins, answer_of, asked, standing_of, tell_next, due_ticket, RisesAtMost, touched, IsLine};
+ghost use Rattle.deadpool_parts.specs.GateLinks.{moved_on, ChangesAt};
+ghost use Rattle.deadpool_parts.specs.GateNodes.{changed};
+ghost use Rattle.slab.specs.Slab.{slab_len};
 
+mod store;
 #[cfg(test)]
 mod tests;
 
 use std::alloc::Global;
 use std::marker::Model;
+use store::{Change, Node, NodeStore};
 
 /// Stands for one waiter while it is listed. Its number says nothing of the order, and a later waiter may get it again
 /// once this one has left.
@@ -67,19 +71,22 @@ pub enum Withdrawn {
     Granted,
 }
 
-// One waiter in the list.
-#[derive(Drop)]
-struct Listed {
-    ticket: usize,
-    granted: bool,
-    told: bool,
-}
-
 /// Those that wait for a place, in order of arrival. Places go to the first of them, so the ones that have a place are
 /// the front of the list. How many places there are, and who has the others, is for the caller to know.
+///
+/// A waiter is a node that names its neighbours by key, and its ticket is its own key. So whoever leaves is found at
+/// once, wherever it stands; `touched` says how many accesses to nodes a call made.
 #[derive(Drop)]
 pub struct Gate {
-    listed: Vec<Listed>,
+    store: NodeStore,
+    // The accesses that the store had counted when the last call on `&mut self` began.
+    mark: u128,
+    first: Option<usize>,
+    last: Option<usize>,
+    first_waiting: Option<usize>,
+    first_untold: Option<usize>,
+    granted: usize,
+    waiting: usize,
     is_closed: bool,
 }
 
@@ -95,30 +102,25 @@ impl Model for Gate {
     ghost invariant = { IsHeld };
 }
 
-// Where the waiter with this ticket stands.
-fn index_of(listed: &[Listed], ticket: usize) -> Option<usize>
-    ensures { result ≡ position (λ entry. entry.ticket == ticket) listed.now }
+// Where a pointer points once the node under `key` has gone, behind which stands `behind`.
+fn move_on(pointer: Option<usize>, key: usize, behind: Option<usize>) -> Option<usize>
+    ensures { result ≡ moved_on pointer key behind }
 {
-    listed.iter().position(|entry| entry.ticket == ticket)
-}
-
-// Where the earliest waiter without a place stands.
-fn next_index(listed: &[Listed]) -> Option<usize>
-    ensures { result ≡ position (λ entry. not entry.granted) listed.now }
-{
-    listed.iter().position(|entry| !entry.granted)
-}
-
-// The smallest number that is nobody's ticket. A counter would come to its end one day; this does not.
-fn unlisted_number(listed: &[Listed]) -> usize
-    ensures { find_waiter result (waiters_of listed.now) ≡ None }
-{
-    for number in 0..listed.len() {
-        if index_of(listed, number).is_none() {
-            return number;
-        }
+    match pointer {
+        Some(at) => if at == key { behind } else { Some(at) },
+        None => None,
     }
-    listed.len()
+}
+
+// Changes the node under `key`, if there is a key.
+fn link(store: &mut NodeStore, key: Option<usize>, change: Change)
+    ensures changes { ChangesAt key (changed change) store.old.nodes store.new.nodes }
+    ensures len { slab_len store.new.nodes ≡ slab_len store.old.nodes }
+    ensures accesses { RisesAtMost 1 store.old.accesses store.new.accesses }
+{
+    if let Some(key) = key {
+        store.write(key, change);
+    }
 }
 
 impl Gate {
@@ -128,7 +130,14 @@ impl Gate {
         ensures open { result.is_closed ≡ false }
     {
         Gate {
-            listed: Vec::new(alloc),
+            store: NodeStore::new(alloc),
+            mark: 0,
+            first: None,
+            last: None,
+            first_waiting: None,
+            first_untold: None,
+            granted: 0,
+            waiting: 0,
             is_closed: false,
         }
     }
@@ -142,7 +151,10 @@ impl Gate {
         ensures joins { IfNone (entry_at_once self.old.is_closed room wait) (Joins self.old.waiters result self.new.waiters) }
         ensures memory { result ≡ Entry.OutOfMemory → self.old.capacity ≤ length self.old.waiters }
         ensures closed { self.new.is_closed ≡ self.old.is_closed }
+        ensures accesses { RisesAtMost 2 self.old.accesses self.new.accesses }
+        ensures mark { self.new.mark ≡ self.old.accesses }
     {
+        self.mark = self.store.accesses();
         if self.is_closed {
             return Entry::Closed;
         }
@@ -152,26 +164,41 @@ impl Gate {
         if !wait {
             return Entry::Full;
         }
-        let number = unlisted_number(self.listed.as_slice());
-        let last = Listed {
-            ticket: number,
+        let node = Node {
+            previous: self.last,
+            next: None,
             granted: false,
             told: false,
         };
-        if self.listed.push(last).is_err() {
+        let Ok(key) = self.store.put(node) else {
             return Entry::OutOfMemory;
-        }
-        Entry::Waiting(Ticket { number })
+        };
+        link(&mut self.store, self.last, Change::Next(Some(key)));
+        self.last = Some(key);
+        self.first = Some(self.first.unwrap_or(key));
+        self.first_waiting = Some(self.first_waiting.unwrap_or(key));
+        self.first_untold = Some(self.first_untold.unwrap_or(key));
+        self.waiting += 1;
+        Entry::Waiting(Ticket { number: key })
     }
 
     // Gives a place to the earliest waiter without one.
     fn grant_one(&mut self)
         ensures waiters { self.new.waiters ≡ grant_next self.old.waiters }
         ensures closed { self.new.is_closed ≡ self.old.is_closed }
+        ensures accesses { RisesAtMost 2 self.old.accesses self.new.accesses }
+        ensures mark { self.new.mark ≡ self.old.mark }
     {
-        if let Some(index) = next_index(self.listed.as_slice()) {
-            self.listed[index].granted = true;
-        }
+        let Some(key) = self.first_waiting else {
+            return;
+        };
+        let Some(node) = self.store.read(key) else {
+            return;
+        };
+        self.store.write(key, Change::Granted);
+        self.first_waiting = node.next;
+        self.granted += 1;
+        self.waiting -= 1;
     }
 
     /// Gives at most `room` free places to waiters, the earliest first. It answers to how many it gave one: so many
@@ -182,7 +209,10 @@ impl Gate {
         ensures places { granted_tickets self.new.waiters ≡ granted_tickets self.old.waiters ++ take result (waiting_tickets self.old.waiters) }
         ensures left { waiting_tickets self.new.waiters ≡ drop result (waiting_tickets self.old.waiters) }
         ensures closed { self.new.is_closed ≡ self.old.is_closed }
+        ensures accesses { RisesAtMost (2 * result) self.old.accesses self.new.accesses }
+        ensures mark { self.new.mark ≡ self.old.accesses }
     {
+        self.mark = self.store.accesses();
         let count = if self.is_closed {
             0
         } else {
@@ -195,23 +225,36 @@ impl Gate {
     }
 
     // Takes a waiter out of the list, and says whether it had a place.
-    fn remove(&mut self, ticket: usize) -> Option<bool>
-        ensures was { result ≡ option_map (λ w. w.granted) (find_waiter ticket self.old.waiters) }
-        ensures waiters { self.new.waiters ≡ without_waiter ticket self.old.waiters }
+    fn remove(&mut self, key: usize) -> Option<bool>
+        ensures was { result ≡ option_map (λ w. w.granted) (find_waiter key self.old.waiters) }
+        ensures waiters { self.new.waiters ≡ without_waiter key self.old.waiters }
         ensures closed { self.new.is_closed ≡ self.old.is_closed }
         ensures line { IsLine self.old.is_closed self.old.waiters }
+        ensures accesses { RisesAtMost 3 self.old.accesses self.new.accesses }
+        ensures mark { self.new.mark ≡ self.old.mark }
     {
-        let index = index_of(self.listed.as_slice(), ticket)?;
-        let entry = self.listed.remove(index);
-        Some(entry.granted)
+        let node = self.store.take(key)?;
+        link(&mut self.store, node.previous, Change::Next(node.next));
+        link(&mut self.store, node.next, Change::Previous(node.previous));
+        self.first = move_on(self.first, key, node.next);
+        self.last = move_on(self.last, key, node.previous);
+        self.first_waiting = move_on(self.first_waiting, key, node.next);
+        self.first_untold = move_on(self.first_untold, key, node.next);
+        self.granted -= usize::from(node.granted);
+        self.waiting -= usize::from(!node.granted);
+        Some(node.granted)
     }
 
     // Whether a listed waiter has a place.
-    fn is_granted(&self, ticket: usize) -> Option<bool>
-        ensures { result ≡ option_map (λ w. w.granted) (find_waiter ticket self.now.waiters) }
+    fn is_granted(&mut self, key: usize) -> Option<bool>
+        ensures value { result ≡ option_map (λ w. w.granted) (find_waiter key self.old.waiters) }
+        ensures waiters { self.new.waiters ≡ self.old.waiters }
+        ensures closed { self.new.is_closed ≡ self.old.is_closed }
+        ensures accesses { RisesAtMost 1 self.old.accesses self.new.accesses }
+        ensures mark { self.new.mark ≡ self.old.mark }
     {
-        let index = index_of(self.listed.as_slice(), ticket)?;
-        Some(self.listed[index].granted)
+        let node = self.store.read(key)?;
+        Some(node.granted)
     }
 
     /// Says how a waiter stands. After `Closed` or `Granted` it has left the list, and its ticket is void. After
@@ -221,7 +264,10 @@ impl Gate {
         ensures waiters { self.new.waiters ≡ asked self.old.is_closed ticket self.old.waiters }
         ensures closed { self.new.is_closed ≡ self.old.is_closed }
         ensures line { IsLine self.old.is_closed self.old.waiters }
+        ensures accesses { RisesAtMost 4 self.old.accesses self.new.accesses }
+        ensures mark { self.new.mark ≡ self.old.accesses }
     {
+        self.mark = self.store.accesses();
         if self.is_closed {
             return match self.remove(ticket.number) {
                 Some(_) => Ask::Closed,
@@ -245,7 +291,10 @@ impl Gate {
         ensures waiters { self.new.waiters ≡ without_waiter ticket self.old.waiters }
         ensures closed { self.new.is_closed ≡ self.old.is_closed }
         ensures line { IsLine self.old.is_closed self.old.waiters }
+        ensures accesses { RisesAtMost 3 self.old.accesses self.new.accesses }
+        ensures mark { self.new.mark ≡ self.old.accesses }
     {
+        self.mark = self.store.accesses();
         match self.remove(ticket.number) {
             Some(true) => Withdrawn::Granted,
             Some(false) => Withdrawn::Waiting,
@@ -258,8 +307,31 @@ impl Gate {
     pub fn close(&mut self)
         ensures waiters { self.new.waiters ≡ self.old.waiters }
         ensures closed { self.new.is_closed ≡ true }
+        ensures accesses { self.new.accesses ≡ self.old.accesses }
+        ensures mark { self.new.mark ≡ self.old.accesses }
     {
+        self.mark = self.store.accesses();
         self.is_closed = true;
+    }
+
+    /// The earliest listed waiter whose wait has ended, by a place or by the closing, and who was not told so. With this
+    /// answer it counts as told. It stays in the list until it asks or withdraws.
+    pub fn take_wake(&mut self) -> Option<Ticket>
+        ensures ticket { result ≡ due_ticket self.old.is_closed self.old.waiters }
+        ensures waiters { self.new.waiters ≡ tell_next self.old.is_closed self.old.waiters }
+        ensures closed { self.new.is_closed ≡ self.old.is_closed }
+        ensures accesses { RisesAtMost 2 self.old.accesses self.new.accesses }
+        ensures mark { self.new.mark ≡ self.old.accesses }
+    {
+        self.mark = self.store.accesses();
+        let key = self.first_untold?;
+        if !self.is_closed && self.first_waiting == Some(key) {
+            return None;
+        }
+        let node = self.store.read(key)?;
+        self.store.write(key, Change::Told);
+        self.first_untold = node.next;
+        Some(Ticket { number: key })
     }
 
     /// Whether the gate was closed.
@@ -275,7 +347,7 @@ impl Gate {
         ensures line { IsLine self.now.is_closed self.now.waiters }
         ensures within { length self.now.waiters < 2 ^ 63 }
     {
-        self.listed.iter().filter(|entry| entry.granted).count()
+        self.granted
     }
 
     /// How many of the listed have none.
@@ -284,6 +356,14 @@ impl Gate {
         ensures line { IsLine self.now.is_closed self.now.waiters }
         ensures within { length self.now.waiters < 2 ^ 63 }
     {
-        self.listed.iter().filter(|entry| !entry.granted).count()
+        self.waiting
+    }
+
+    /// How many accesses to nodes the last call on `&mut self` made: reads, writes of one field, nodes put in and nodes
+    /// taken out. Calls on `&self` make none, and leave this as it is.
+    pub fn touched(&self) -> u128
+        ensures { result ≡ touched self.now }
+    {
+        self.store.accesses().saturating_sub(self.mark)
     }
 }

@@ -1,14 +1,13 @@
-use Rattle.std.proofs.Common.{◌≡◌, ap, rules}
+use Rattle.std.proofs.Common.{◌≡◌, rules}
 use Rattle.deadpool_parts.specs.Gate.{grant}
-use Rattle.deadpool_parts.specs.GateListed.{waiters_of}
+use Rattle.deadpool_parts.proofs.GateFields.{Shows-seen}
 use Rattle.deadpool_parts.proofs.GatePlaces.{granted_tickets-grant, waiting_tickets-grant}
 use Rattle.deadpool_parts.proofs.gate.Gate.settle.Goals as goal
 
 pub returns-clause-places : goal.returns-clause-places
 returns-clause-places c =
     let after : c.loop-given.self.waiters ≡ grant c.if-self.count c.args.self.now.waiters = search rules in
-    let seen : waiters_of c.self.inside.listed.items ≡ c.args.self.now.waiters = ap (λ l. l.waiters) c.self.view_is in
-    rw after (granted_tickets-grant c.if-self.count c.args.self.now.waiters (rw seen at c.self.invariant.granted_front))
+    rw after (granted_tickets-grant c.if-self.count c.args.self.now.waiters (Shows-seen _ _ c.self.view_is c.self.invariant).line.granted_front)
 
 pub returns-clause-left : goal.returns-clause-left
 returns-clause-left c =

@@ -1,0 +1,101 @@
+use Rattle.std.proofs.Common.{◌≡◌, ◌≢◌, ℕ, Option, Some, None, eqb, false, true, refl, ap, sym, ◌∙◌}
+use Rattle.std.specs.List.{find}
+use Rattle.std.specs.Option.{option_map, option_eq}
+use Rattle.std.proofs.lemmas.Bool.{both_ways, eq-eqb, eqb-true, false≢true}
+use Rattle.deadpool_parts.specs.declared.gate.Gate.TheInside.{Inside}
+use Rattle.deadpool_parts.specs.declared.gate.store.Change.TheVariants as change
+use Rattle.deadpool_parts.specs.Gate.{Waiter, Line, tell_next, due_ticket, is_due, with_word}
+use Rattle.deadpool_parts.specs.GateFields.{line_of, waiters_of}
+use Rattle.deadpool_parts.specs.GateNodes.{changed}
+use Rattle.deadpool_parts.proofs.GateFields.{Changing, Telling, TellsNext, IsHeld-shows, Shows-is, Shows-seen, Shows-told, Shows-all_told, Shows-none_due, Shows-first_untold}
+use Rattle.deadpool_parts.proofs.GateListed.{change_first_none}
+use Rattle.deadpool_parts.proofs.gate.Gate.take_wake.Goals as goal
+use Rattle.deadpool_parts.proofs.gate.Gate.take_wake.Goals.{else-not-self-via-then-not-self+else-eq, else-not-self-via-else-not-self}
+
+points_there : (pointer : Option ℕ) (key : ℕ) → option_eq eqb pointer (Some key) ≡ true → pointer ≡ Some key
+points_there None key same = absurd (false≢true same)
+points_there (Some at) key same = ap Some (eqb-true at key same)
+
+points_elsewhere : (pointer : Option ℕ) (key : ℕ) → option_eq eqb pointer (Some key) ≡ false → pointer ≢ Some key
+points_elsewhere pointer key differs is =
+    let here : eqb key key ≡ false = rw is at differs in both_ways _ here (eq-eqb key key refl)
+
+-- a call at these fields, seen as this line, where nobody is due
+module _ (g : Inside) (line : Line) (seen : line_of g ≡ line) (none : find (is_due g.is_closed) line.waiters ≡ None) where
+  nobody : find (is_due line.is_closed) line.waiters ≡ None
+  nobody = let same : g.is_closed ≡ line.is_closed = ap (λ (l : Line). l.is_closed) seen in rw same at none
+
+  no_ticket : None ≡ due_ticket line.is_closed line.waiters
+  no_ticket = sym (ap (option_map (λ (w : Waiter). w.ticket)) nobody)
+
+  same_waiters : waiters_of g ≡ tell_next line.is_closed line.waiters
+  same_waiters = ap (λ (l : Line). l.waiters) seen ∙ sym (change_first_none (is_due line.is_closed) with_word line.waiters nobody)
+
+pub returns-in_err-key-clause-ticket : goal.returns-in_err-key-clause-ticket
+returns-in_err-key-clause-ticket c =
+    let none = Shows-all_told c.self.inside c.args.self.now.waiters (Shows-seen _ _ c.self.view_is c.self.invariant) c.in_err-key.was in
+    c.from_residual.ensures ∙ no_ticket c.self.inside c.args.self.now c.self.view_is none
+
+pub returns-in_err-key-clause-waiters : goal.returns-in_err-key-clause-waiters
+returns-in_err-key-clause-waiters c =
+    let none = Shows-all_told c.self.inside c.args.self.now.waiters (Shows-seen _ _ c.self.view_is c.self.invariant) c.in_err-key.was in
+    same_waiters c.self.inside c.args.self.now c.self.view_is none
+
+pub returns-then-eq-clause-ticket : goal.returns-then-eq-clause-ticket
+returns-then-eq-clause-ticket c =
+    let none = Shows-none_due c.self.inside c.args.self.now.waiters c.in_ok-key.key (Shows-seen _ _ c.self.view_is c.self.invariant) c.if-not-self.true c.in_ok-key.was (points_there _ _ (sym c.if-eq.ensures)) in
+    no_ticket c.self.inside c.args.self.now c.self.view_is none
+
+pub returns-then-eq-clause-waiters : goal.returns-then-eq-clause-waiters
+returns-then-eq-clause-waiters c =
+    let none = Shows-none_due c.self.inside c.args.self.now.waiters c.in_ok-key.key (Shows-seen _ _ c.self.view_is c.self.invariant) c.if-not-self.true c.in_ok-key.was (points_there _ _ (sym c.if-eq.ensures)) in
+    same_waiters c.self.inside c.args.self.now c.self.view_is none
+
+has_node : (c : goal.After-from_residual-in_err-node) → ⊥
+has_node c =
+    Shows-first_untold c.self.inside c.args.self.now.waiters c.in_ok-key.key (Shows-seen _ _ c.self.view_is c.self.invariant) c.in_ok-key.was (sym c.in_err-node.ensures.node)
+
+pub returns-in_err-node-clause-ticket : goal.returns-in_err-node-clause-ticket
+returns-in_err-node-clause-ticket c = absurd (has_node c)
+
+pub returns-in_err-node-clause-waiters : goal.returns-in_err-node-clause-waiters
+returns-in_err-node-clause-waiters c = absurd (has_node c)
+
+-- the fields with the waiter told
+abbrev after : goal.After-self-2-1 → Inside
+after c = record c.self.inside {
+  store = c.write.new.self;
+  mark = c.accesses-self-inside.result;
+  first_untold = c.in_ok-node.node.next;
+}
+
+tells : (c : goal.After-self-2-1) → TellsNext c.self.inside (after c) c.args.self.now.waiters c.in_ok-key.key
+tells c =
+    let same : c.read.new.self.nodes ≡ c.self.inside.store.nodes = c.read.ensures.nodes in
+    let changing : Changing c.self.inside (after c) (changed change.Told) c.in_ok-key.key = record {
+      updates = rw same at c.write.ensures.updates;
+      same = rw same at c.write.ensures.len;
+      is_closed = refl;
+      first = refl;
+      last = refl;
+    } in
+    let telling : Telling c.self.inside (after c) c.in_ok-node.node.next = record { first_waiting = refl; first_untold = refl; granted = refl; waiting = refl } in
+    let differs : c.self.inside.is_closed ≡ false → c.self.inside.first_waiting ≢ Some c.in_ok-key.key =
+    λ is_open. elim c.else-not-self.branch [
+      | else-not-self-via-then-not-self+else-eq w ↦ points_elsewhere _ _ (sym w.if-eq.ensures)
+      | else-not-self-via-else-not-self w ↦ absurd (both_ways _ is_open w.if-not-self.false)
+    ] in
+    Shows-told c.self.inside (after c) c.args.self.now.waiters c.in_ok-key.key c.in_ok-node.node c.in_ok-key.was differs c.in_ok-node.ensures.node changing telling (Shows-seen _ _ c.self.view_is c.self.invariant)
+
+pub invariant_of-self-2 : goal.invariant_of-self-2
+invariant_of-self-2 c = IsHeld-shows (after c) _ (tells c).shows
+
+pub returns-clause-ticket : goal.returns-clause-ticket
+returns-clause-ticket c =
+    let closed : c.self.inside.is_closed ≡ c.args.self.now.is_closed = ap (λ (l : Line). l.is_closed) c.self.view_is in
+    sym (rw closed at (tells c).ticket)
+
+pub returns-clause-waiters : goal.returns-clause-waiters
+returns-clause-waiters c =
+    let closed : c.self.inside.is_closed ≡ c.args.self.now.is_closed = ap (λ (l : Line). l.is_closed) c.self.view_is in
+    rw (← closed) (Shows-is (after c) _ (tells c).shows)
