@@ -107,8 +107,8 @@ fn move_on(pointer: Option<usize>, key: usize, behind: Option<usize>) -> Option<
     ensures { result ≡ moved_on pointer key behind }
 {
     match pointer {
-        Some(at) => if at == key { behind } else { Some(at) },
-        None => None,
+        Some(at) if at == key => behind,
+        _ => pointer,
     }
 }
 
