@@ -15,7 +15,7 @@ use Rattle.deadpool_parts.specs.GateNodes.{changed}
 use Rattle.deadpool_parts.specs.GateFields.{Shows, waiters_of, line_of, IsHeld}
 use Rattle.deadpool_parts.proofs.GateListed.{FoundBetween, found_between, find_none-head, find_none-tail, find-behind, change_first-between, change_first_none, remove_first-between, find_none-stronger, none_pass-behind}
 use Rattle.deadpool_parts.proofs.GateApart.{other_ticket, unlisted-tail, IsApart-back, unlisted-before, find_waiter-between}
-use Rattle.deadpool_parts.proofs.GateLine.{IsLine-without_waiter, IsLine-grant_next, IsLine-tell_next, IsLine-arrived, none_due-open}
+use Rattle.deadpool_parts.proofs.GateLine.{IsLine-without_waiter, IsLine-grant_next, IsLine-tell_next, IsLine-arrived, has_place, none_due-open}
 use Rattle.deadpool_parts.proofs.GateLinks.{last_ticket-append, last_ticket-other, follow-linked, Stores-node, Stores-find, Stores-unlisted, Stores-same, Stores-without, Stores-replaced, Stores-last}
 use Rattle.deadpool_parts.proofs.GateTickets.{granted_count-length, waiting_count-length, length-both_tickets}
 
@@ -436,10 +436,6 @@ first_due g xs w ys shows told differs =
           ]
     ]
   where
-    has_place : (b : Bool) → (b || false) ≡ true → b ≡ true
-    has_place true h = refl
-    has_place false h = h
-
     told_granted : (vs : List Waiter) → ToldAreDone false (vs ++ w ∷ ys) → find (λ v. not v.told) vs ≡ None → find (λ v. not v.granted) vs ≡ None
     told_granted [] done told = refl
     told_granted (v ∷ vs) done told =

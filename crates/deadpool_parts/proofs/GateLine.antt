@@ -1,8 +1,8 @@
 -- What every step of a gate keeps of its line: each kind of step is a waiter that leaves, one that is changed in its
 -- place, or one that comes last.
-use Rattle.std.proofs.Common.{◌≡◌, ℕ, Bool, true, false, not, ◌||◌, ◌&&◌, eqb, List, [], ◌∷◌, ◌++◌, None, refl, sym, ◌∙◌, inl, inr}
+use Rattle.std.proofs.Common.{◌≡◌, ℕ, Bool, true, false, not, ◌||◌, eqb, List, [], ◌∷◌, ◌++◌, None, refl, sym, ◌∙◌, inl, inr}
 use Rattle.std.specs.List.{find}
-use Rattle.std.proofs.lemmas.Bool.{cases_Bool, both_ways, ne_eqb, eqb-false, and_parts}
+use Rattle.std.proofs.lemmas.Bool.{cases_Bool, both_ways, ne_eqb, eqb-false, not_from_false, and_cases, and_parts, or_parts}
 use Rattle.deadpool_parts.specs.Gate.{Waiter, arrived, find_waiter, remove_first, change_first, without_waiter, with_place, with_word, grant_next, is_due, tell_next, IsApart, NonePass, IsFront, ToldAreDone, IsLine}
 use Rattle.deadpool_parts.proofs.GateListed.{find_none-head, find_none-tail, find_none-none_pass, change_first_none}
 
@@ -107,24 +107,21 @@ granted_front-grant_next (w ∷ ws) front =
       | inr lacks ↦ rw lacks (λ fails. absurd (both_ways _ fails refl), front.1)
     ]
 
--- in an open line nobody behind one that waits is due
-waits_behind : (is_closed granted told : Bool) → ((granted || is_closed) && not told) ≡ false → told ≡ false → (is_closed ≡ false) × (granted ≡ false)
-waits_behind c g told fails lacks = let open_or : (g || c) ≡ false = and_true (g || c) (rw lacks at fails) in neither g c open_or
-  where
-    and_true : (b : Bool) → (b && true) ≡ false → b ≡ false
-    and_true true h = h
-    and_true false h = refl
+-- who was not told and is not due has no place, in an open line
+waits : (is_closed : Bool) (w : Waiter) → is_due is_closed w ≡ false → w.told ≡ false → (w.granted ≡ false) × (is_closed ≡ false)
+waits c w later fails =
+    elim (and_cases (w.granted || c) (not w.told) later) [
+      | inl lacks ↦ or_parts w.granted c lacks
+      | inr told ↦ absurd (both_ways _ told (not_from_false w.told fails))
+    ]
 
-    neither : (g c : Bool) → (g || c) ≡ false → (c ≡ false) × (g ≡ false)
-    neither true c h = absurd (both_ways _ h refl)
-    neither false c h = (h, refl)
+-- an open line ends the wait of those with a place alone
+pub has_place : (granted : Bool) → (granted || false) ≡ true → granted ≡ true
+has_place true ended = refl
+has_place false ended = ended
 
 is_due-granted : (w : Waiter) → is_due false w ≡ true → w.granted ≡ true
-is_due-granted w due = has w.granted (and_parts (w.granted || false) (not w.told) due).0
-  where
-    has : (b : Bool) → (b || false) ≡ true → b ≡ true
-    has true h = refl
-    has false h = h
+is_due-granted w due = has_place w.granted (and_parts (w.granted || false) (not w.told) due).0
 
 -- where nobody has a place in an open line, nobody is due
 pub none_due-open : (is_closed : Bool) (ws : List Waiter) → is_closed ≡ false → NonePass (λ w. w.granted) ws → find (is_due is_closed) ws ≡ None
@@ -139,8 +136,8 @@ told_front-tell_next c (w ∷ ws) granted told =
       | inr later ↦
           rw later (
             λ fails.
-                let waits = waits_behind c w.granted w.told later fails in
-                rw (change_first_none (is_due c) with_word ws (none_due-open c ws waits.0 (granted.0 waits.1))) (told.0 fails),
+                let lacks = waits c w later fails in
+                rw (change_first_none (is_due c) with_word ws (none_due-open c ws lacks.1 (granted.0 lacks.0))) (told.0 fails),
             told_front-tell_next c ws granted.1 told.1,
           )
     ]
