@@ -75,7 +75,7 @@ pub enum Withdrawn {
 /// the front of the list. How many places there are, and who has the others, is for the caller to know.
 ///
 /// A waiter is a node that names its neighbours by key, and its ticket is its own key. So whoever leaves is found at
-/// once, wherever it stands; `touched` says how many accesses to nodes a call made.
+/// once, wherever it stands; `touched` says how many accesses to nodes a call made. Only `enter` takes memory.
 #[derive(Drop)]
 pub struct Gate {
     store: NodeStore,
