@@ -1,3 +1,4 @@
+pub mod GateAnswers
 pub mod GateApart
 pub mod GateAsked
 pub mod GateFields
@@ -6,5 +7,6 @@ pub mod GateLinks
 pub mod GateListed
 pub mod GatePlaces
 pub mod GateTickets
+pub mod Numbers
 pub mod Programs
 pub mod ReadsBack

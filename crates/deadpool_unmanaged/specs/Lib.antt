@@ -1,7 +1,10 @@
+pub mod CoreFields
 pub mod Moves
 pub mod Pool
 pub mod Queue
 pub mod Script
 pub mod Scripts
+pub mod State
+pub mod StateSteps
 pub mod Steps
 pub mod Texts

@@ -3,6 +3,13 @@
 
 mod error;
 pub mod replay;
+mod state;
+mod steps;
 
-pub use deadpool_parts::{Clock, Moment, Runtime, Status};
+pub use deadpool_parts::{Clock, Moment, Runtime, Status, gate};
 pub use error::PoolError;
+pub use state::Core;
+pub use steps::{
+    AddAskReply, AddEnterReply, BackReply, GetAskReply, GetEnterReply, HandleReply, StepReply,
+    TakeReply,
+};

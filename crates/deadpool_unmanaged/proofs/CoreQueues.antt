@@ -1,0 +1,104 @@
+-- What the steps of a gate do to the queue that its waiters are.
+use Rattle.std.proofs.Common.{◌≡◌, ℕ, ◌+◌, ◌<◌, ◌≤◌, Bool, not, List, [], ◌∷◌, ◌++◌, length, min, cond, take, drop, refl, ◌∙◌, arith, true, false, None, zero, suc, ◌-◌}
+use Rattle.std.specs.List.{slice_get}
+use Rattle.deadpool_parts.specs.Gate.{Waiter, Line, arrived, without_waiter, granted_tickets, waiting_tickets, grant_count, IsApart}
+use Rattle.deadpool_parts.specs.Numbers.{has_number}
+use Rattle.deadpool_parts.proofs.GateAnswers.{grant_count-length}
+use Rattle.deadpool_parts.proofs.GateTickets.{granted_tickets-arrived, waiting_tickets-arrived, granted_tickets-without_waiter, waiting_tickets-without_waiter}
+use Rattle.deadpool_parts.proofs.Numbers.{without_number-shorter, without_number-fewer}
+use Rattle.deadpool_unmanaged.specs.CoreFields.{queue_of, state_of, IsSound}
+use Rattle.deadpool_unmanaged.specs.Queue.{joined, without, served}
+use Rattle.deadpool_unmanaged.specs.State.{free_objects, free_room, settled}
+use Rattle.deadpool_unmanaged.specs.StateSteps.{without_get, without_add}
+use Rattle.deadpool_unmanaged.specs.Steps.{last_idle}
+use Rattle.deadpool_unmanaged.specs.declared.state.Core.TheInside.{Inside}
+
+-- one leaves
+pub queue-without : (t : ℕ) (ws : List Waiter) → IsApart ws → queue_of (without_waiter t ws) ≡ without t (queue_of ws)
+queue-without t ws apart = rw (granted_tickets-without_waiter t ws apart, waiting_tickets-without_waiter t ws apart) refl
+
+-- one comes
+pub queue-joined : (t : ℕ) (ws : List Waiter) → queue_of (ws ++ arrived t ∷ []) ≡ joined t (queue_of ws)
+queue-joined t ws = rw (granted_tickets-arrived t ws, waiting_tickets-arrived t ws) refl
+
+-- nothing stands past the end
+past_end : {T : Type 0} (xs : List T) (n : ℕ) → slice_get xs n ≡ None → length xs ≤ n
+past_end [] n none = omega arith
+past_end (x ∷ xs) zero none = cc
+past_end (x ∷ xs) (suc n) none = let rest = past_end xs n none in omega (arith, rest)
+
+-- so nothing goes out only where nothing is idle
+pub none_idle : {T : Type 0} (idle : List T) → last_idle idle ≡ None → idle ≡ []
+none_idle [] none = refl
+none_idle (x ∷ xs) none = let past = past_end (x ∷ xs) (length (x ∷ xs) - 1) none in absurd (let least : length xs + 1 ≤ length xs = omega (arith, past) in omega arith)
+
+-- a closed line is not open
+pub closed_or_open : (c : Bool) → c ≡ true → not c ≡ true → ⊥
+closed_or_open true closed is_open = cc
+closed_or_open false closed is_open = cc
+
+-- what is free goes to those that wait
+queue-served : (c : Bool) (room n : ℕ) (ws after : List Waiter) → n ≡ grant_count c room ws
+    → granted_tickets after ≡ granted_tickets ws ++ take n (waiting_tickets ws) → waiting_tickets after ≡ drop n (waiting_tickets ws)
+    → queue_of after ≡ served (not c) room (queue_of ws)
+queue-served c room n ws after count granted waiting =
+    let as_many : n ≡ cond (not c) (min (length (waiting_tickets ws)) room) 0 = count ∙ grant_count-length c room ws in
+    rw (granted, waiting, as_many) refl
+
+module _ {T : Type 0} (core : Inside T) where
+  -- both lines were served
+  pub state_of-settled : (gets adds : Line) (objects room n m : ℕ) → IsSound core → objects ≡ free_objects (state_of core) → room ≡ free_room (state_of core)
+      → n ≡ grant_count core.gets.is_closed objects core.gets.waiters → m ≡ grant_count core.adds.is_closed room core.adds.waiters
+      → granted_tickets gets.waiters ≡ granted_tickets core.gets.waiters ++ take n (waiting_tickets core.gets.waiters) → waiting_tickets gets.waiters ≡ drop n (waiting_tickets core.gets.waiters)
+      → granted_tickets adds.waiters ≡ granted_tickets core.adds.waiters ++ take m (waiting_tickets core.adds.waiters) → waiting_tickets adds.waiters ≡ drop m (waiting_tickets core.adds.waiters)
+      → gets.is_closed ≡ core.gets.is_closed → state_of (record core { gets = gets; adds = adds }) ≡ settled (state_of core)
+  state_of-settled gets adds objects room n m sound free_gets free_adds count_gets count_adds granted_gets waiting_gets granted_adds waiting_adds closed =
+      rw (queue-served core.gets.is_closed objects n core.gets.waiters gets.waiters count_gets granted_gets waiting_gets)
+      (rw (queue-served core.adds.is_closed room m core.adds.waiters adds.waiters count_adds granted_adds waiting_adds)
+      (rw (closed, free_gets, free_adds, sound.together) refl))
+
+module _ {T : Type 0} (core : Inside T) (gate : Line) where
+  abbrev with_gets : Inside T
+  with_gets = record core { gets = gate }
+
+  abbrev with_adds : Inside T
+  with_adds = record core { adds = gate }
+
+  -- the line of the gets is as it was, or a get has left it, or has joined it
+  pub gets-same : gate.waiters ≡ core.gets.waiters → gate.is_closed ≡ core.gets.is_closed → state_of with_gets ≡ state_of core
+  gets-same same closed = rw (same, closed) refl
+
+  pub gets-without : (t : ℕ) → IsApart core.gets.waiters → gate.waiters ≡ without_waiter t core.gets.waiters → gate.is_closed ≡ core.gets.is_closed
+      → state_of with_gets ≡ without_get t (state_of core)
+  gets-without t apart gone closed = rw (gone, closed, queue-without t core.gets.waiters apart) refl
+
+  pub gets-joined : (t : ℕ) → gate.waiters ≡ core.gets.waiters ++ arrived t ∷ [] → gate.is_closed ≡ core.gets.is_closed
+      → state_of with_gets ≡ record (state_of core) { gets = joined t (queue_of core.gets.waiters) }
+  gets-joined t longer closed = rw (longer, closed, queue-joined t core.gets.waiters) refl
+
+  -- the same of the adds
+  pub adds-same : gate.waiters ≡ core.adds.waiters → state_of with_adds ≡ state_of core
+  adds-same same = rw same refl
+
+  pub adds-without : (t : ℕ) → IsApart core.adds.waiters → gate.waiters ≡ without_waiter t core.adds.waiters → state_of with_adds ≡ without_add t (state_of core)
+  adds-without t apart gone = rw (gone, queue-without t core.adds.waiters apart) refl
+
+  pub adds-joined : (t : ℕ) → gate.waiters ≡ core.adds.waiters ++ arrived t ∷ [] → state_of with_adds ≡ record (state_of core) { adds = joined t (queue_of core.adds.waiters) }
+  adds-joined t longer = rw (longer, queue-joined t core.adds.waiters) refl
+
+  -- where an add leaves, a core keeps what it has to
+  pub IsSound-adds : (t : ℕ) → IsSound core → IsApart core.adds.waiters → gate.waiters ≡ without_waiter t core.adds.waiters → gate.is_closed ≡ core.adds.is_closed → IsSound with_adds
+  IsSound-adds t sound apart gone closed =
+      let fewer = without_number-shorter t (granted_tickets core.adds.waiters) in
+      record {
+        together = closed ∙ sound.together;
+        held = rw (gone, granted_tickets-without_waiter t core.adds.waiters apart) (omega (arith, fewer, sound.held));
+        reserve = sound.reserve;
+      }
+
+  -- and where it had room, that is free
+  pub room-left : (t : ℕ) → IsSound core → IsApart core.adds.waiters → has_number t (granted_tickets core.adds.waiters) ≡ true → gate.waiters ≡ without_waiter t core.adds.waiters
+      → 0 < free_room (state_of with_adds)
+  room-left t sound apart has gone =
+      let fewer = without_number-fewer t (granted_tickets core.adds.waiters) has in
+      rw (gone, granted_tickets-without_waiter t core.adds.waiters apart) (omega (arith, fewer, sound.held))

@@ -1,0 +1,27 @@
+-- The state that the fields of a `Core` are, and what they keep.
+use Rattle.std.specs.Prelude.{◌≡◌, ◌+◌, ◌≤◌, not, List, length, vec_capacity}
+use Rattle.deadpool_parts.specs.Gate.{Waiter, granted_tickets, waiting_tickets}
+use Rattle.deadpool_unmanaged.specs.Queue.{Queue}
+use Rattle.deadpool_unmanaged.specs.State.{State}
+use Rattle.deadpool_unmanaged.specs.declared.state.Core.TheInside.{Inside}
+
+abbrev pub queue_of : List Waiter → Queue
+queue_of ws = record { granted = granted_tickets ws; waiting = waiting_tickets ws }
+
+module _ {T : Type 0} where
+  abbrev pub state_of : Inside T → State T
+  state_of c = record {
+    limit = c.limit;
+    is_open = not c.gets.is_closed;
+    handles = c.handles;
+    idle = c.idle.items;
+    outside = c.outside;
+    gets = queue_of c.gets.waiters;
+    adds = queue_of c.adds.waiters;
+  }
+
+  -- the two lines close together, and there is room for each object and for each that may come
+  pub record IsSound (c : Inside T) : Type 0 where
+    pub together : c.adds.is_closed ≡ c.gets.is_closed
+    pub held : length c.idle.items + c.outside + length (granted_tickets c.adds.waiters) ≤ c.limit
+    pub reserve : c.limit ≤ vec_capacity c.idle

@@ -1,0 +1,85 @@
+//! The replies to a pool's steps. A step that lowers a count, or names a ticket, answers `Unknown` where there is nothing
+//! to lower or nobody under the ticket, and changes nothing.
+use deadpool_parts::gate::Ticket;
+
+/// The reply to a new get.
+#[derive(Drop)]
+pub enum GetEnterReply<T> {
+    /// The object is out.
+    Object(T),
+    Closed,
+    /// No object is free, and the get does not wait.
+    Full,
+    /// The get waits, under this ticket.
+    Waiting(Ticket),
+    /// The entry in the queue found no memory.
+    OutOfMemory,
+}
+
+/// The reply to a get in the queue.
+#[derive(Drop)]
+pub enum GetAskReply<T> {
+    /// The object is out.
+    Object(T),
+    /// The pool is closed, or the object that the get was granted went with the last handle. The get has left the queue.
+    Closed,
+    /// The get has waited long enough, and left the queue.
+    Expired,
+    Waiting,
+    Unknown,
+}
+
+/// The reply to a new add. Where it is not stored, the object comes back.
+#[derive(Drop)]
+pub enum AddEnterReply<T> {
+    Stored,
+    Closed(T),
+    /// There is no room, and the add does not wait.
+    Full(T),
+    /// The add waits, under this ticket.
+    Waiting(Ticket, T),
+    /// The entry in the queue found no memory.
+    OutOfMemory(T),
+}
+
+/// The reply to an add in the queue. Where it is not stored, the object comes back.
+#[derive(Drop)]
+pub enum AddAskReply<T> {
+    Stored,
+    /// The pool is closed, and the add has left the queue.
+    Closed(T),
+    Waiting(T),
+    Unknown(T),
+}
+
+/// The reply to a step that gives something back.
+#[derive(Clone, Copy, Debug, PartialEq, Eq)]
+pub enum StepReply {
+    Done,
+    Unknown,
+}
+
+/// What becomes of an object that comes back.
+#[derive(Drop)]
+pub enum BackReply<T> {
+    /// The pool keeps it.
+    Kept,
+    /// The pool is closed or has no handle left, and has no use for it.
+    Dropped(T),
+    Unknown(T),
+}
+
+/// The reply to an object that leaves the pool for good.
+#[derive(Clone, Copy, Debug, PartialEq, Eq)]
+pub enum TakeReply {
+    Taken,
+    Unknown,
+}
+
+/// The reply to a step on the count of handles.
+#[derive(Clone, Copy, Debug, PartialEq, Eq)]
+pub enum HandleReply {
+    Done,
+    /// The pool has no handle left, and nothing has changed.
+    NoHandle,
+}
