@@ -18,7 +18,7 @@ pub read_limits-written_limits : (l : Limits) → FitsTimeouts l → read_limits
 read_limits-written_limits l fits =
     rw (read_timeout-written_timeout l.wait fits.wait, read_timeout-written_timeout l.create fits.create, read_timeout-written_timeout l.recycle fits.recycle)
 
-read_size-written : (n : ℕ) → n < 2 ^ 64 → read_size (Some (number (unsigned n))) ≡ Ok n
+pub read_size-written : (n : ℕ) → n < 2 ^ 64 → read_size (Some (number (unsigned n))) ≡ Ok n
 read_size-written n fits = search rules
 
 read_queue_mode-mode_name : (mode : QueueMode) → read_queue_mode (Some (string (mode_name mode))) ≡ Ok mode

@@ -1,1 +1,2 @@
+pub mod ConfigReadsBack
 pub mod CoreQueues

@@ -1,4 +1,7 @@
+pub mod Adds
+pub mod Config
 pub mod CoreFields
+pub mod Gets
 pub mod Moves
 pub mod Pool
 pub mod Queue

@@ -1,13 +1,20 @@
 //! A pool of objects that its user adds.
 #![tactic(auto)]
 
+mod add;
+mod config;
 mod error;
+mod get;
 pub mod replay;
 mod state;
 mod steps;
 
+pub use add::{AddStage, AddState};
+pub use config::PoolConfig;
+pub use deadpool_parts::errors::ConfigError;
 pub use deadpool_parts::{Clock, Moment, Runtime, Status, gate};
 pub use error::PoolError;
+pub use get::{GetStage, GetState};
 pub use state::Core;
 pub use steps::{
     AddAskReply, AddEnterReply, BackReply, GetAskReply, GetEnterReply, HandleReply, StepReply,

@@ -1,0 +1,126 @@
+//! An add, as a state that its owner polls.
+ghost use Rattle.std.specs.Prelude.{◌≡◌, option_map};
+ghost use Rattle.deadpool_unmanaged.specs.Adds.{PollsAdd, CancelsAdd, held_by, stage_entered, turn_entered, stage_asked, turn_asked};
+
+use crate::PoolError;
+use crate::state::Core;
+use crate::steps::{AddAskReply, AddEnterReply};
+use deadpool_parts::gate::Ticket;
+use futures::task::Poll;
+use std::marker::Model;
+use std::mem;
+
+/// How far an add is. It has its object until it ends.
+#[derive(Drop)]
+pub enum AddStage<T> {
+    Unpolled(T),
+    /// In the queue.
+    Queued(Ticket, T),
+    Finished,
+}
+
+/// An add, as a state that its owner polls. Dropping it drops its object and gives nothing back: `cancel` does that.
+#[derive(Drop)]
+pub struct AddState<T> {
+    stage: AddStage<T>,
+}
+
+impl<T> Model for AddState<T> {
+    ghost use Rattle.deadpool_unmanaged.specs.declared.add.AddStage.{AddStage};
+
+    ghost Value = { AddStage T };
+
+    ghost view = { λ s. s.stage };
+
+    ghost inverse = { λ stage. record { stage = stage } };
+}
+
+impl<T: Drop> AddState<T> {
+    /// An add that was not polled yet, with its object. Nothing happens before its first poll.
+    pub fn new(value: T) -> Self
+        ensures { result ≡ AddStage.Unpolled value }
+    {
+        AddState {
+            stage: AddStage::Unpolled(value),
+        }
+    }
+
+    /// The object, until the add ends.
+    pub fn value(&self) -> Option<&T>
+        ensures { option_map (λ v. v.now) result ≡ held_by self.now }
+    {
+        match &self.stage {
+            AddStage::Unpolled(value) | AddStage::Queued(_, value) => Some(value),
+            AddStage::Finished => None,
+        }
+    }
+
+    /// Brings the object to the pool, with at most one step. Where the add is refused, the object comes back with the
+    /// cause. An add that has ended stays pending.
+    pub fn poll(&mut self, core: &mut Core<T>) -> Poll<Result<(), (T, PoolError)>>
+        ensures { PollsAdd self.old core.old result self.new core.new }
+    {
+        match mem::replace(&mut self.stage, AddStage::Finished) {
+            AddStage::Unpolled(value) => {
+                let reply = core.add_enter(value, true);
+                self.after_entered(reply)
+            }
+            AddStage::Queued(ticket, value) => {
+                let reply = core.add_ask(ticket, value);
+                self.after_asked(ticket, reply)
+            }
+            AddStage::Finished => Poll::Pending,
+        }
+    }
+
+    fn after_entered(&mut self, reply: AddEnterReply<T>) -> Poll<Result<(), (T, PoolError)>>
+        requires { self.old ≡ AddStage.Finished }
+        ensures stage { self.new ≡ stage_entered reply }
+        ensures turn { result ≡ turn_entered reply }
+    {
+        match reply {
+            AddEnterReply::Stored => Poll::Ready(Ok(())),
+            AddEnterReply::Closed(value) => Poll::Ready(Err((value, PoolError::Closed))),
+            AddEnterReply::Full(value) => Poll::Ready(Err((value, PoolError::Timeout))),
+            AddEnterReply::Waiting(ticket, value) => {
+                self.stage = AddStage::Queued(ticket, value);
+                Poll::Pending
+            }
+            AddEnterReply::OutOfMemory(value) => Poll::Ready(Err((value, PoolError::OutOfMemory))),
+        }
+    }
+
+    fn after_asked(
+        &mut self,
+        ticket: Ticket,
+        reply: AddAskReply<T>,
+    ) -> Poll<Result<(), (T, PoolError)>>
+        requires { self.old ≡ AddStage.Finished }
+        ensures stage { self.new ≡ stage_asked ticket reply }
+        ensures turn { result ≡ turn_asked reply }
+    {
+        match reply {
+            AddAskReply::Stored => Poll::Ready(Ok(())),
+            AddAskReply::Closed(value) | AddAskReply::Unknown(value) => {
+                Poll::Ready(Err((value, PoolError::Closed)))
+            }
+            AddAskReply::Waiting(value) => {
+                self.stage = AddStage::Queued(ticket, value);
+                Poll::Pending
+            }
+        }
+    }
+
+    /// Gives the add up, and drops its object. The room that it was granted is free again.
+    pub fn cancel(self, core: &mut Core<T>)
+        ensures { CancelsAdd self core.old core.new }
+    {
+        let AddState { stage } = self;
+        match stage {
+            AddStage::Queued(ticket, _) => {
+                core.add_cancel(ticket);
+            }
+            AddStage::Unpolled(_) | AddStage::Finished => {}
+        }
+    }
+}

@@ -1,0 +1,141 @@
+//! A get, as a state that its owner polls.
+ghost use Rattle.std.specs.Prelude.{◌≡◌};
+ghost use Rattle.deadpool_unmanaged.specs.Gets.{PollsGet, CancelsGet, stage_entered, turn_entered, stage_asked, turn_asked};
+ghost use Rattle.deadpool_unmanaged.specs.Steps.{lacks_runtime};
+
+use crate::state::Core;
+use crate::steps::{GetAskReply, GetEnterReply};
+use crate::{Moment, PoolError, Runtime};
+use deadpool_parts::deadline::{deadline_after, is_positive, is_reached};
+use deadpool_parts::gate::Ticket;
+use futures::task::Poll;
+use std::marker::Model;
+use std::mem;
+use std::time::Duration;
+
+/// How far a get is.
+#[derive(Drop)]
+pub enum GetStage {
+    /// It may wait so long; none set is without an end.
+    Unpolled(Option<Duration>),
+    /// In the queue, until a deadline if there is one.
+    Queued(Ticket, Option<Moment>),
+    Finished,
+}
+
+/// A get, as a state that its owner polls. Dropping it gives nothing back: `cancel` does.
+#[derive(Drop)]
+pub struct GetState {
+    stage: GetStage,
+}
+
+impl Model for GetState {
+    ghost use Rattle.deadpool_unmanaged.specs.declared.get.GetStage.{GetStage};
+
+    ghost Value = { GetStage };
+
+    ghost view = { λ s. s.stage };
+
+    ghost inverse = { λ stage. record { stage = stage } };
+}
+
+// Whether a wait has to be ended by a runtime, and none is there.
+fn lacks_runtime(runtime: Option<Runtime>, wait: Option<Duration>) -> bool
+    ensures { result ≡ lacks_runtime runtime wait }
+{
+    is_positive(wait) && runtime.is_none()
+}
+
+impl GetState {
+    /// A get that was not polled yet, which may wait so long; none set is without an end. Nothing happens before its first
+    /// poll.
+    pub fn new(wait: Option<Duration>) -> Self
+        ensures { result ≡ GetStage.Unpolled wait }
+    {
+        GetState {
+            stage: GetStage::Unpolled(wait),
+        }
+    }
+
+    /// Asks the pool for an object, with at most one step. A wait above zero needs a runtime, which is looked for before the
+    /// pool is asked. A get that has ended stays pending.
+    pub fn poll<T: Drop>(
+        &mut self,
+        core: &mut Core<T>,
+        runtime: Option<Runtime>,
+        now: Moment,
+    ) -> Poll<Result<T, PoolError>>
+        ensures { PollsGet runtime now self.old core.old result self.new core.new }
+    {
+        match mem::replace(&mut self.stage, GetStage::Finished) {
+            GetStage::Unpolled(wait) => {
+                if lacks_runtime(runtime, wait) {
+                    return Poll::Ready(Err(PoolError::NoRuntimeSpecified));
+                }
+                let deadline = deadline_after(now, wait);
+                let reply = core.get_enter(!is_reached(deadline, now));
+                self.after_entered(deadline, reply)
+            }
+            GetStage::Queued(ticket, deadline) => {
+                let reply = core.get_ask(ticket, is_reached(deadline, now));
+                self.after_asked(ticket, deadline, reply)
+            }
+            GetStage::Finished => Poll::Pending,
+        }
+    }
+
+    fn after_entered<T: Drop>(
+        &mut self,
+        deadline: Option<Moment>,
+        reply: GetEnterReply<T>,
+    ) -> Poll<Result<T, PoolError>>
+        requires { self.old ≡ GetStage.Finished }
+        ensures stage { self.new ≡ stage_entered deadline reply }
+        ensures turn { result ≡ turn_entered reply }
+    {
+        match reply {
+            GetEnterReply::Object(value) => Poll::Ready(Ok(value)),
+            GetEnterReply::Closed => Poll::Ready(Err(PoolError::Closed)),
+            GetEnterReply::Full => Poll::Ready(Err(PoolError::Timeout)),
+            GetEnterReply::Waiting(ticket) => {
+                self.stage = GetStage::Queued(ticket, deadline);
+                Poll::Pending
+            }
+            GetEnterReply::OutOfMemory => Poll::Ready(Err(PoolError::OutOfMemory)),
+        }
+    }
+
+    fn after_asked<T: Drop>(
+        &mut self,
+        ticket: Ticket,
+        deadline: Option<Moment>,
+        reply: GetAskReply<T>,
+    ) -> Poll<Result<T, PoolError>>
+        requires { self.old ≡ GetStage.Finished }
+        ensures stage { self.new ≡ stage_asked ticket deadline reply }
+        ensures turn { result ≡ turn_asked reply }
+    {
+        match reply {
+            GetAskReply::Object(value) => Poll::Ready(Ok(value)),
+            GetAskReply::Closed | GetAskReply::Unknown => Poll::Ready(Err(PoolError::Closed)),
+            GetAskReply::Expired => Poll::Ready(Err(PoolError::Timeout)),
+            GetAskReply::Waiting => {
+                self.stage = GetStage::Queued(ticket, deadline);
+                Poll::Pending
+            }
+        }
+    }
+
+    /// Gives the get up. What it was granted is free again.
+    pub fn cancel<T: Drop>(self, core: &mut Core<T>)
+        ensures { CancelsGet self core.old core.new }
+    {
+        let GetState { stage } = self;
+        match stage {
+            GetStage::Queued(ticket, _) => {
+                core.get_cancel(ticket);
+            }
+            GetStage::Unpolled(_) | GetStage::Finished => {}
+        }
+    }
+}
