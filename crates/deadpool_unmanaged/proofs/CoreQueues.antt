@@ -22,7 +22,7 @@ pub queue-joined : (t : ℕ) (ws : List Waiter) → queue_of (ws ++ arrived t �
 queue-joined t ws = rw (granted_tickets-arrived t ws, waiting_tickets-arrived t ws) refl
 
 -- nothing stands past the end
-past_end : {T : Type 0} (xs : List T) (n : ℕ) → slice_get xs n ≡ None → length xs ≤ n
+pub past_end : {T : Type 0} (xs : List T) (n : ℕ) → slice_get xs n ≡ None → length xs ≤ n
 past_end [] n none = omega arith
 past_end (x ∷ xs) zero none = cc
 past_end (x ∷ xs) (suc n) none = let rest = past_end xs n none in omega (arith, rest)

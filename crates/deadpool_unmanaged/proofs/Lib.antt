@@ -1,2 +1,15 @@
+pub mod AddPolls
 pub mod ConfigReadsBack
 pub mod CoreQueues
+pub mod Follows
+pub mod GetPolls
+pub mod Items
+pub mod Lawful
+pub mod Lists
+pub mod OtherMoves
+pub mod Owners
+pub mod Parties
+pub mod Polls
+pub mod Runs
+pub mod Seats
+pub mod Settling

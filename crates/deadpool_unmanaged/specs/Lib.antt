@@ -2,6 +2,8 @@ pub mod Adds
 pub mod Config
 pub mod CoreFields
 pub mod Gets
+pub mod Image
+pub mod Laws
 pub mod Moves
 pub mod Pool
 pub mod Queue
@@ -11,3 +13,4 @@ pub mod State
 pub mod StateSteps
 pub mod Steps
 pub mod Texts
+pub mod TrialFields

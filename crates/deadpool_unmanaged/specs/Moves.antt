@@ -57,20 +57,23 @@ module _ {V : Type 0} where
   abbrev pub moved : Bool → Move V → Pool V → Reply V × Pool V
   moved found m p = let (answer, q) = unsettled found m p in (answer, settle q)
 
-  -- one move, with the one state that it passes, and its reply: memory was found, or it was not
+  -- a move may be answered so and leave that pool, memory found or not
+  abbrev pub Gives : Move V → Pool V → Reply V → Pool V → Type 0
+  Gives m p answer q = (found : Bool) × (moved found m p ≡ (answer, q))
+
+  -- one move, with the one state that it passes, and its reply
   abbrev pub Makes : Pool V → Move V → List (Pool V) → Reply V → Type 0
-  Makes p m passed answer = (found : Bool) × (passed ≡ (moved found m p).1 ∷ []) × (answer ≡ (moved found m p).0)
+  Makes p m passed answer = (q : Pool V) × ((passed ≡ q ∷ []) × Gives m p answer q)
 
   -- a list of moves, with the state that each passes, the replies, and the state after them
   abbrev pub PoolRuns : Pool V → List (Move V) → List (List (Pool V)) → List (Reply V) → Pool V → Type 0
   PoolRuns = Runs Makes
 
   -- no get waits for an object, and no add for room, that is free
-  abbrev pub NobodyWaits : Pool V → Type 0
-  NobodyWaits p =
-      (p.is_open ≡ true → 0 < free_objects p → p.gets.waiting ≡ [])
-      × (p.is_open ≡ true → 0 < free_room p → p.adds.waiting ≡ [])
+  pub record NobodyWaits (p : Pool V) : Type 0 where
+    pub objects : p.is_open ≡ true → 0 < free_objects p → p.gets.waiting ≡ []
+    pub room : p.is_open ≡ true → 0 < free_room p → p.adds.waiting ≡ []
 
-  -- the objects, and the room that was granted, stay within the limit
+  -- there are no more objects than the limit
   abbrev pub IsWithinLimit : Pool V → Type 0
-  IsWithinLimit p = size p + length p.adds.granted ≤ p.limit
+  IsWithinLimit p = size p ≤ p.limit

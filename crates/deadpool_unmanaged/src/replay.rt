@@ -1,5 +1,7 @@
 //! Runs of moves over an unmanaged pool on one thread, by any number of parties.
 
 mod moves;
+pub(crate) mod trial;
 
 pub use moves::{Item, Move, Reply};
+pub use trial::Trial;

@@ -1,0 +1,81 @@
+-- The pool in lists that a core, its parties and the objects out stand for.
+use Rattle.std.specs.Prelude.{◌≡◌, ℕ, ◌+◌, Bool, true, false, ◌==◌, List, [], ◌∷◌, length, map, slice_get, Option, Some, None, if◌then◌else◌}
+use Rattle.deadpool_parts.specs.declared.moment.Runtime.{Runtime}
+use Rattle.deadpool_unmanaged.specs.Pool.{Pool, Party, new_get, queued_get, new_add, queued_add, finished}
+use Rattle.deadpool_unmanaged.specs.Queue.{Queue, is_listed, renamed}
+use Rattle.deadpool_unmanaged.specs.State.{State}
+use Rattle.deadpool_unmanaged.specs.declared.add.AddStage.{AddStage}
+use Rattle.deadpool_unmanaged.specs.declared.add.AddStage.TheVariants as add
+use Rattle.deadpool_unmanaged.specs.declared.get.GetStage.{GetStage}
+use Rattle.deadpool_unmanaged.specs.declared.get.GetStage.TheVariants as get
+use Rattle.deadpool_unmanaged.specs.declared.replay.moves.Item.{Item}
+use Rattle.deadpool_unmanaged.specs.declared.replay.trial.Seat.{Seat}
+use Rattle.deadpool_unmanaged.specs.declared.replay.trial.Seat.TheVariants as seat
+
+-- tickets of a queue, and a table of those who may have one
+module _ {X : Type 0} (has : ℕ → X → Bool) where
+  -- the first that has the ticket, by number
+  abbrev pub owner : List X → ℕ → ℕ
+  owner [] t = 0
+  owner (x ∷ xs) t = if has t x then 0 else (owner xs t + 1)
+
+  -- the tickets of the queue are those of the table, one each
+  pub record IsOwned (q : Queue) (xs : List X) : Type 0 where
+    pub owned : (t : ℕ) → is_listed t q ≡ true → (x : X) × ((slice_get xs (owner xs t) ≡ Some x) × (has t x ≡ true))
+    pub listed : (n t : ℕ) (x : X) → slice_get xs n ≡ Some x → has t x ≡ true → (is_listed t q ≡ true) × (owner xs t ≡ n)
+
+-- the ticket is a queued get's
+abbrev pub holds_get : ℕ → GetStage → Bool
+holds_get t (get.Queued ticket deadline) = ticket == t
+holds_get t _ = false
+
+module _ {V : Type 0} where
+  -- a ticket's number means nothing in the lists
+  abbrev pub getting : GetStage → Party V
+  getting (get.Unpolled wait) = new_get wait
+  getting (get.Queued ticket deadline) = queued_get deadline
+  getting get.Finished = finished
+
+  abbrev pub adding : AddStage (Item V) → Party V
+  adding (add.Unpolled item) = new_add item
+  adding (add.Queued ticket item) = queued_add item
+  adding add.Finished = finished
+
+  abbrev pub party_of : Option (Seat V) → Option (Party V)
+  party_of None = None
+  party_of (Some (seat.Get stage)) = Some (getting stage)
+  party_of (Some (seat.Add stage)) = Some (adding stage)
+
+  abbrev pub has_get : ℕ → Option (Seat V) → Bool
+  has_get t (Some (seat.Get stage)) = holds_get t stage
+  has_get t _ = false
+
+  -- the ticket is a queued add's
+  abbrev pub holds_add : ℕ → AddStage (Item V) → Bool
+  holds_add t (add.Queued ticket item) = ticket == t
+  holds_add t _ = false
+
+  abbrev pub has_add : ℕ → Option (Seat V) → Bool
+  has_add t (Some (seat.Add stage)) = holds_add t stage
+  has_add t _ = false
+
+  -- the queues are those of the seats, and as many objects are out as the core counts
+  pub record IsCounted (d : State (Item V)) (seats : List (Option (Seat V))) (out : List (Item V)) : Type 0 where
+    pub gets : IsOwned has_get d.gets seats
+    pub adds : IsOwned has_add d.adds seats
+    pub outside : d.outside ≡ length out
+
+  abbrev pub image : Option Runtime → ℕ → ℕ → State (Item V) → List (Option (Seat V)) → List (Item V) → Pool V
+  image runtime most next d seats out = record {
+    limit = d.limit;
+    is_open = d.is_open;
+    handles = d.handles;
+    runtime = runtime;
+    next = next;
+    most_parties = most;
+    parties = map party_of seats;
+    idle = d.idle;
+    out = out;
+    gets = renamed (owner has_get seats) d.gets;
+    adds = renamed (owner has_add seats) d.adds;
+  }
