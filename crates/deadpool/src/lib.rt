@@ -1,8 +1,9 @@
-//! Object and connection pools: the pool's state, gets over it, and trials, which play moves and lose no place, no object
-//! and no get that waits.
+//! Object and connection pools: the managed and the unmanaged pool's state, gets over it, and trials, which play moves and
+//! lose no place, no object and no get that waits.
 #![tactic(auto)]
 
 pub mod managed;
 pub mod replay;
+pub mod unmanaged;
 
 pub use deadpool_parts::{Clock, Moment, Runtime, Status, gate};

@@ -1,8 +1,9 @@
-//! Runs of moves over a managed pool on one thread, by any number of parties.
+//! Runs of moves over a managed pool on one thread, by any number of parties; `unmanaged` has those over an unmanaged one.
 
 pub mod laws;
 mod moves;
 mod trial;
+pub mod unmanaged;
 
 pub use moves::{Move, Reply};
 pub use trial::Trial;
