@@ -1,11 +1,11 @@
 //! Runs a script from any reader to any writer.
 use crate::fault::Fault;
-use crate::manager::Answers;
-use crate::opening::{Refusal, ScriptTrial, open_trial};
+use crate::manager::{Answer, Answers, Kind};
+use crate::opening::{ManagedTrial, Refusal, ScriptPool, UnmanagedTrial, open_pool};
 use crate::script;
-use crate::script::{Line, LineError, PoolLine};
-use crate::texts::{end_line, write_reply};
-use deadpool::replay::Move;
+use crate::script::{LineError, ManagedLine, PoolLine};
+use crate::texts::{end_line, write_managed, write_unmanaged};
+use deadpool::replay::{Move, unmanaged};
 use futures::task::{Context, Doorbell, Solo};
 use std::alloc::Global;
 use std::io::{BufRead, Write};
@@ -91,7 +91,7 @@ fn write_out<W: Write>(writer: &mut W, reply: &str) -> Result<(), Fault> {
 struct Engine<'a> {
     alloc: Global,
     answers: &'a Answers,
-    trial: Option<ScriptTrial<'a>>,
+    pool: Option<ScriptPool<'a>>,
     reply: String,
 }
 
@@ -100,58 +100,105 @@ impl<'a> Engine<'a> {
         Engine {
             alloc,
             answers,
-            trial: None,
+            pool: None,
             reply: String::new(alloc),
         }
     }
 
-    // Does what a line says, and keeps the reply, which is empty where the line has none.
+    // Does what a line says, and keeps the reply, which is empty where the line has none. Before there is a pool, only the
+    // lines that make one are in the language; after that, only those of its kind.
     fn play_line(&mut self, line: &[u8], cx: &mut Context<'_>) -> Result<(), LineError> {
         self.reply.clear();
-        match script::parse(self.alloc, line)? {
-            Line::Skipped => Ok(()),
-            Line::Pool(pool) => self.open(pool),
-            Line::Answer(kind, answers) => {
-                if self.trial.is_none() {
-                    return Err(LineError::NotAMove);
-                }
-                self.answers.append(kind, answers)?;
-                self.reply.push_str("ok\n")?;
+        if script::is_skipped(line) {
+            return Ok(());
+        }
+        let Engine {
+            alloc,
+            answers,
+            pool,
+            reply,
+        } = self;
+        match pool {
+            None => {
+                *pool = open(*alloc, answers, script::parse_pool(*alloc, line)?, reply)?;
                 Ok(())
             }
-            Line::Move(next) => self.make(next, cx),
-        }
-    }
-
-    // Makes the pool, if there is none yet. One that is refused leaves the script without a pool.
-    fn open(&mut self, pool: PoolLine) -> Result<(), LineError> {
-        if self.trial.is_some() {
-            return Err(LineError::NotAMove);
-        }
-        match open_trial(self.alloc, self.answers, pool) {
-            Ok(trial) => {
-                self.trial = Some(trial);
-                self.reply.push_str("ok")?;
+            Some(ScriptPool::Managed(trial)) => match script::parse_managed(*alloc, line)? {
+                ManagedLine::Answer(kind, words) => answer(answers, kind, words, reply),
+                ManagedLine::Move(next) => make_managed(*alloc, trial, next, cx, reply),
+            },
+            Some(ScriptPool::Unmanaged(trial)) => {
+                make_unmanaged(*alloc, trial, script::parse_unmanaged(line)?, reply)
             }
-            Err(Refusal::OutOfMemory) => return Err(LineError::OutOfMemory),
-            Err(cause) => write!(self.reply, "error {cause}")?,
         }
-        end_line(&mut self.reply)?;
-        Ok(())
     }
+}
 
-    // Makes a move over the pool.
-    fn make(&mut self, next: Move<u64>, cx: &mut Context<'_>) -> Result<(), LineError> {
-        let Some(trial) = &mut self.trial else {
-            return Err(LineError::NotAMove);
-        };
-        let moves = vec![in self.alloc; next]?;
-        let Ok(replies) = trial.run(moves, cx) else {
-            return Err(LineError::OutOfMemory);
-        };
-        for reply in replies {
-            write_reply(&mut self.reply, reply, trial)?;
+// Makes the pool. One that is refused leaves the script without a pool.
+fn open<'a>(
+    alloc: Global,
+    answers: &'a Answers,
+    line: PoolLine,
+    reply: &mut String,
+) -> Result<Option<ScriptPool<'a>>, LineError> {
+    let pool = match open_pool(alloc, answers, line) {
+        Ok(pool) => {
+            reply.push_str("ok")?;
+            Some(pool)
         }
-        Ok(())
+        Err(Refusal::Unread) => return Err(LineError::OutOfMemory),
+        Err(cause) => {
+            write!(reply, "error {cause}")?;
+            None
+        }
+    };
+    end_line(reply)?;
+    Ok(pool)
+}
+
+// The next polls of this kind are to be answered so.
+fn answer(
+    answers: &Answers,
+    kind: Kind,
+    words: Vec<Answer>,
+    reply: &mut String,
+) -> Result<(), LineError> {
+    answers.append(kind, words)?;
+    reply.push_str("ok\n")?;
+    Ok(())
+}
+
+// Makes a move over a managed pool.
+fn make_managed(
+    alloc: Global,
+    trial: &mut ManagedTrial<'_>,
+    next: Move<u64>,
+    cx: &mut Context<'_>,
+    text: &mut String,
+) -> Result<(), LineError> {
+    let moves = vec![in alloc; next]?;
+    let Ok(replies) = trial.run(moves, cx) else {
+        return Err(LineError::OutOfMemory);
+    };
+    for reply in replies {
+        write_managed(text, reply, trial)?;
     }
+    Ok(())
+}
+
+// Makes a move over an unmanaged pool.
+fn make_unmanaged(
+    alloc: Global,
+    trial: &mut UnmanagedTrial,
+    next: unmanaged::Move<u64>,
+    text: &mut String,
+) -> Result<(), LineError> {
+    let moves = vec![in alloc; next]?;
+    let Ok(replies) = trial.run(moves) else {
+        return Err(LineError::OutOfMemory);
+    };
+    for reply in replies {
+        write_unmanaged(text, reply, trial)?;
+    }
+    Ok(())
 }

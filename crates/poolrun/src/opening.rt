@@ -1,15 +1,25 @@
 //! Makes a script's pool.
 use crate::manager::{Answers, Kind, ScriptHook, ScriptManager};
-use crate::script::{PoolLine, Settings};
+use crate::script::{ManagedPool, PoolLine, Settings, UnmanagedPool};
 use deadpool::managed::{BuildError, ConfigError, Hook, NoHook, PoolBuilder, PoolConfig};
-use deadpool::replay::Trial;
-use std::alloc::Global;
+use deadpool::replay::{Trial, unmanaged};
+use std::alloc::{AllocError, Global};
 use std::fmt;
 
-/// A script's pool.
-pub type ScriptTrial<'a> = Trial<ScriptManager<'a>, NoHook, ScriptHook<'a>, ()>;
+/// A script's managed pool.
+pub type ManagedTrial<'a> = Trial<ScriptManager<'a>, NoHook, ScriptHook<'a>, ()>;
 
-/// How many gets a script may start.
+/// A script's unmanaged pool.
+pub type UnmanagedTrial = unmanaged::Trial<u64>;
+
+/// A script's pool.
+#[derive(Drop)]
+pub enum ScriptPool<'a> {
+    Managed(ManagedTrial<'a>),
+    Unmanaged(UnmanagedTrial),
+}
+
+/// How many gets and adds a script may start.
 const PARTIES: usize = 1024;
 
 /// Why a script has no pool.
@@ -18,11 +28,13 @@ pub enum Refusal {
     /// The text of its configuration is not JSON.
     NotJson,
     /// There was no memory to read that text.
-    OutOfMemory,
+    Unread,
     /// Its configuration has a fault.
     Config(ConfigError),
     /// The builder gave none.
     Build(BuildError),
+    /// There was no memory for an unmanaged pool.
+    OutOfMemory,
 }
 
 impl From<ConfigError> for Refusal {
@@ -37,24 +49,47 @@ impl From<BuildError> for Refusal {
     }
 }
 
+impl From<AllocError> for Refusal {
+    fn from(_refused: AllocError) -> Refusal {
+        Refusal::OutOfMemory
+    }
+}
+
 impl fmt::Display for Refusal {
     fn fmt<W: fmt::Write>(&self, f: &mut fmt::Formatter<W>) -> fmt::Result {
         match self {
             Refusal::NotJson => f.write_str("Configuration is not JSON"),
-            Refusal::OutOfMemory => f.write_str("Out of memory"),
+            Refusal::Unread | Refusal::OutOfMemory => f.write_str("Out of memory"),
             Refusal::Config(cause) => write!(f, "{cause}"),
             Refusal::Build(cause) => write!(f, "{cause}"),
         }
     }
 }
 
-/// A pool with one hook in each of its lists.
-pub fn open_trial(
+/// The pool that a line asks for.
+pub fn open_pool(
     alloc: Global,
     answers: &Answers,
-    pool: PoolLine,
-) -> Result<ScriptTrial<'_>, Refusal> {
-    let PoolLine {
+    line: PoolLine,
+) -> Result<ScriptPool<'_>, Refusal> {
+    match line {
+        PoolLine::Managed(pool) => Ok(ScriptPool::Managed(open_managed(alloc, answers, pool)?)),
+        PoolLine::Unmanaged(pool) => Ok(ScriptPool::Unmanaged(open_unmanaged(alloc, pool)?)),
+    }
+}
+
+fn open_unmanaged(alloc: Global, pool: UnmanagedPool) -> Result<UnmanagedTrial, AllocError> {
+    let UnmanagedPool { max_size, runtime } = pool;
+    UnmanagedTrial::new(alloc, max_size, runtime, PARTIES)
+}
+
+// A pool with one hook in each of its lists.
+fn open_managed(
+    alloc: Global,
+    answers: &Answers,
+    pool: ManagedPool,
+) -> Result<ManagedTrial<'_>, Refusal> {
+    let ManagedPool {
         settings,
         runtime,
         first_number,
@@ -84,7 +119,7 @@ fn config_of(alloc: Global, settings: Settings) -> Result<PoolConfig, Refusal> {
 fn read_config(alloc: Global, json: &[u8]) -> Result<PoolConfig, Refusal> {
     match serde_json::from_slice(alloc, json) {
         Ok(value) => Ok(PoolConfig::from_json(&value)?),
-        Err(cause) if cause.is_memory() => Err(Refusal::OutOfMemory),
+        Err(cause) if cause.is_memory() => Err(Refusal::Unread),
         Err(_) => Err(Refusal::NotJson),
     }
 }

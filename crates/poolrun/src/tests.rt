@@ -7,6 +7,7 @@ mod preparation;
 mod refused;
 mod streams;
 mod timeouts;
+mod unmanaged;
 
 use crate::engine;
 use crate::fault::Fault;
@@ -71,5 +72,6 @@ fn scripts_have_their_replies(rt: HostRuntime) -> Result<(), Fail> {
     replies_as_written(&rt, &cancelled::SCRIPTS)?;
     replies_as_written(&rt, &limits::SCRIPTS)?;
     replies_as_written(&rt, &own_steps::SCRIPTS)?;
-    replies_as_written(&rt, &configuration::SCRIPTS)
+    replies_as_written(&rt, &configuration::SCRIPTS)?;
+    replies_as_written(&rt, &unmanaged::SCRIPTS)
 }

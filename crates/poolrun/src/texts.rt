@@ -1,16 +1,16 @@
 //! The replies to the lines of a script.
 use crate::manager::Refused;
-use crate::opening::ScriptTrial;
+use crate::opening::{ManagedTrial, UnmanagedTrial};
 use deadpool::Status;
 use deadpool::managed::RetainResult;
-use deadpool::replay::Reply;
+use deadpool::replay::{Reply, unmanaged};
 use std::alloc::AllocError;
 
-/// Appends the reply to a move, and ends its line.
-pub fn write_reply(
+/// Appends the reply to a move over a managed pool, and ends its line.
+pub fn write_managed(
     text: &mut String,
     reply: Reply<u64, Refused>,
-    trial: &ScriptTrial<'_>,
+    trial: &ManagedTrial<'_>,
 ) -> Result<(), AllocError> {
     match reply {
         Reply::Started(party) => write!(text, "party {party}")?,
@@ -19,7 +19,7 @@ pub fn write_reply(
         Reply::NoHandle => text.push_str("no handle")?,
         Reply::More => text.push_str("more")?,
         Reply::Pending => text.push_str("pending")?,
-        Reply::Object(number) => write_object(text, number, trial)?,
+        Reply::Object(number) => write_object(text, number, trial.value(number))?,
         Reply::Failed(cause) => write!(text, "error {cause}")?,
         Reply::Cancelled => text.push_str("cancelled")?,
         Reply::Done => text.push_str("ok")?,
@@ -36,12 +36,39 @@ pub fn write_reply(
     end_line(text)
 }
 
-fn write_object(
+/// Appends the reply to a move over an unmanaged pool, and ends its line.
+pub fn write_unmanaged(
     text: &mut String,
-    number: usize,
-    trial: &ScriptTrial<'_>,
+    reply: unmanaged::Reply<u64>,
+    trial: &UnmanagedTrial,
 ) -> Result<(), AllocError> {
-    match trial.value(number) {
+    use unmanaged::Reply;
+    match reply {
+        Reply::Started(party) => write!(text, "party {party}")?,
+        Reply::NoRoom => text.push_str("no room")?,
+        Reply::NoSuch => text.push_str("no such")?,
+        Reply::NoHandle => text.push_str("no handle")?,
+        Reply::Exhausted(value) => write!(text, "exhausted value {value}")?,
+        Reply::Pending => text.push_str("pending")?,
+        Reply::Object(number) => write_object(text, number, trial.value(number))?,
+        Reply::Added(number) => write!(text, "added {number}")?,
+        Reply::Failed(cause) => write!(text, "error {cause}")?,
+        Reply::Refused(cause, value) => write!(text, "error {cause} value {value}")?,
+        Reply::Cancelled => text.push_str("cancelled")?,
+        Reply::Kept => text.push_str("kept")?,
+        Reply::Dropped => text.push_str("dropped")?,
+        Reply::Taken(value) => write!(text, "taken {value}")?,
+        Reply::Done => text.push_str("ok")?,
+        Reply::Stands(status) => write_status(text, status)?,
+        Reply::Upgraded(true) => text.push_str("ok")?,
+        Reply::Upgraded(false) => text.push_str("none")?,
+    }
+    end_line(text)
+}
+
+// An object that a move has handed out.
+fn write_object(text: &mut String, number: usize, value: Option<&u64>) -> Result<(), AllocError> {
+    match value {
         Some(value) => write!(text, "object {number} value {value}"),
         None => text.push_str("no such"),
     }

@@ -2,10 +2,12 @@
 use super::play;
 use crate::engine;
 use crate::fault::Fault;
+use std::process::Abort;
+use std::random::RandomSource;
 use std::test::Fail;
 
-// Each as the second line, after a pool.
-const BAD_LINES: [&[u8]; 57] = [
+// Each as the second line, after a managed pool.
+const BAD_LINES: [&[u8]; 64] = [
     b"poll 0",
     b"poll 0 -1",
     b"poll 0 +1",
@@ -63,10 +65,80 @@ const BAD_LINES: [&[u8]; 57] = [
     b"config none 0 {\"max_size\":1}",
     b"config",
     b"\xff",
+    // The lines over an unmanaged pool.
+    b"unmanaged 1 none",
+    b"get",
+    b"get -",
+    b"get 0",
+    b"add 1",
+    b"tryget",
+    b"tryadd 1",
+];
+
+// Each as the second line, after an unmanaged pool.
+const BAD_UNMANAGED_LINES: [&[u8]; 57] = [
+    b"get ",
+    b"get  -",
+    b"get x",
+    b"get --",
+    b"get -1",
+    b"get +1",
+    b"get 0 0",
+    b"get - -",
+    b"get 18446744073709551616",
+    b"Get",
+    b"gets",
+    b"add",
+    b"add ",
+    b"add -",
+    b"add -1",
+    b"add 1 2",
+    b"add  1",
+    b"add 18446744073709551616",
+    b"tryget ",
+    b"tryget 0",
+    b"tryget -",
+    b"try get",
+    b"tryadd",
+    b"tryadd ",
+    b"tryadd x",
+    b"tryadd 1 2",
+    b"tryadd 18446744073709551616",
+    b"poll",
+    b"poll 0",
+    b"poll 0 -1",
+    b"poll 0 0 0",
+    b"poll 18446744073709551616 0",
+    b"poll 0 340282366920938463463374607431768211456",
+    b"cancel",
+    b"cancel 0 0",
+    b"back",
+    b"back 0 0",
+    b"take",
+    b"take -",
+    b"close 0",
+    b"status\r",
+    b"clone 1",
+    b"drop 0",
+    b"upgrade ",
+    b" ",
+    b"\xff",
+    // A second pool, and the lines over a managed one.
+    b"unmanaged 1 none",
+    b"pool 1 fifo none 0",
+    b"config none 0 {\"max_size\":1}",
+    b"answer create ok",
+    b"start",
+    b"start - - -",
+    b"advance 0 0",
+    b"put 0 0",
+    b"resize 1",
+    b"retain",
+    b"retain 0",
 ];
 
 // Each as the first line.
-const BAD_FIRST_LINES: [&[u8]; 24] = [
+const BAD_FIRST_LINES: [&[u8]; 36] = [
     b"start",
     b"advance 0 0",
     b"poll 0 0",
@@ -91,16 +163,38 @@ const BAD_FIRST_LINES: [&[u8]; 24] = [
     b"config none  0 []",
     b"config \xff 0 []",
     b"get",
+    b"add 1",
+    b"tryget",
+    b"tryadd 1",
+    b"unmanaged",
+    b"unmanaged 1",
+    b"unmanaged 1 ",
+    b"unmanaged 1 none 0",
+    b"unmanaged 1 NONE",
+    b"unmanaged 1 fifo",
+    b"unmanaged none 1",
+    b"unmanaged -1 none",
+    b"unmanaged 18446744073709551616 none",
 ];
 
-#[test]
-fn a_line_that_is_no_move_ends_the_run(rt: HostRuntime) -> Result<(), Fail> {
-    for line in BAD_LINES {
-        let script = [b"pool 1 fifo none 0\n", line, b"\nstatus\n"].concat(rt.alloc())?;
-        let (written, ending) = play(&rt, &script)?;
+fn second_lines_end_the_run<R: RandomSource + AllocGlobal + Abort>(
+    rt: &R,
+    pool: &[u8],
+    lines: &[&[u8]],
+) -> Result<(), Fail> {
+    for line in lines {
+        let script = [pool, *line, b"\nstatus\n"].concat(rt.alloc())?;
+        let (written, ending) = play(rt, &script)?;
         assert_eq!(rt; written.as_str(), "ok\n", "at {line:?}");
         assert_eq!(rt; ending, Err(Fault::NotAMove(2)), "at {line:?}");
     }
+    Ok(())
+}
+
+#[test]
+fn a_line_that_is_no_move_ends_the_run(rt: HostRuntime) -> Result<(), Fail> {
+    second_lines_end_the_run(&rt, b"pool 1 fifo none 0\n", &BAD_LINES)?;
+    second_lines_end_the_run(&rt, b"unmanaged 1 none\n", &BAD_UNMANAGED_LINES)?;
     for line in BAD_FIRST_LINES {
         let (written, ending) = play(&rt, line)?;
         assert_eq!(rt; written.as_str(), "", "at {line:?}");
@@ -110,7 +204,7 @@ fn a_line_that_is_no_move_ends_the_run(rt: HostRuntime) -> Result<(), Fail> {
 }
 
 // Scripts, what they write, and how they end.
-const ODD_SCRIPTS: [(&[u8], &str, Result<(), Fault>); 5] = [
+const ODD_SCRIPTS: [(&[u8], &str, Result<(), Fault>); 7] = [
     (b"", "", Ok(())),
     (b"\n\n# nothing\n", "", Ok(())),
     // Skipped lines are counted, and may hold any bytes.
@@ -126,6 +220,17 @@ const ODD_SCRIPTS: [(&[u8], &str, Result<(), Fault>); 5] = [
         b"pool 18446744073709551615 fifo none 0\nstatus",
         "error Error occurred while building the pool: Out of memory\n",
         Err(Fault::NotAMove(2)),
+    ),
+    (
+        b"unmanaged 18446744073709551615 none\nstatus",
+        "error Out of memory\n",
+        Err(Fault::NotAMove(2)),
+    ),
+    // Comments and empty lines are skipped over an unmanaged pool too.
+    (
+        b"#\nunmanaged 1 none\n\n# get\ntryadd 3",
+        "ok\nadded 0\n",
+        Ok(()),
     ),
 ];
 
@@ -151,6 +256,25 @@ fn no_more_parties_than_there_is_room_for(rt: HostRuntime) -> Result<(), Fail> {
         written
             .as_str()
             .ends_with("party 1022\nparty 1023\nno room\n")
+    );
+    assert_eq!(rt; ending, Ok(()));
+    Ok(())
+}
+
+// Gets and adds count alike. An add that finds no room draws no number.
+#[test]
+fn no_more_gets_and_adds_than_there_is_room_for(rt: HostRuntime) -> Result<(), Fail> {
+    let mut script = Vec::new(rt.alloc());
+    script.extend_from_slice(b"unmanaged 1 none\n")?;
+    for _pair in 0..512 {
+        script.extend_from_slice(b"get\nadd 7\n")?;
+    }
+    script.extend_from_slice(b"get\nadd 7\ntryadd 8\n")?;
+    let (written, ending) = play(&rt, &script)?;
+    assert!(rt;
+        written
+            .as_str()
+            .ends_with("party 1022\nparty 1023\nno room\nno room\nadded 512\n")
     );
     assert_eq!(rt; ending, Ok(()));
     Ok(())

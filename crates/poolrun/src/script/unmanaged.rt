@@ -1,0 +1,40 @@
+//! The lines over an unmanaged pool.
+use super::LineError;
+use super::words::{Words, end, next_moment, next_number, next_word, parse_timeout, words_of};
+use deadpool::replay::unmanaged::Move;
+use std::time::Duration;
+
+/// The move that a line says over an unmanaged pool.
+pub fn parse_unmanaged(line: &[u8]) -> Result<Move<u64>, LineError> {
+    let mut words = words_of(line)?;
+    let next = parse_move(&mut words)?;
+    end(&mut words)?;
+    Ok(next)
+}
+
+fn parse_move(words: &mut Words<'_>) -> Result<Move<u64>, LineError> {
+    Ok(match next_word(words)? {
+        "get" => Move::Get(parse_wait(words)?),
+        "add" => Move::Add(next_number(words)?),
+        "poll" => Move::Poll(next_number(words)?, next_moment(words)?),
+        "tryget" => Move::TryGet,
+        "tryadd" => Move::TryAdd(next_number(words)?),
+        "cancel" => Move::Cancel(next_number(words)?),
+        "back" => Move::Back(next_number(words)?),
+        "take" => Move::Take(next_number(words)?),
+        "close" => Move::Close,
+        "status" => Move::Status,
+        "clone" => Move::Clone,
+        "drop" => Move::DropHandle,
+        "upgrade" => Move::Upgrade,
+        _ => return Err(LineError::NotAMove),
+    })
+}
+
+// How long a get may wait. With no word it waits without an end, as the pool has no timeout of its own.
+fn parse_wait(words: &mut Words<'_>) -> Result<Option<Duration>, LineError> {
+    match words.next() {
+        None => Ok(None),
+        Some(wait) => parse_timeout(wait),
+    }
+}
