@@ -1,4 +1,4 @@
-//! Managed pools on one thread, by the moves of a trial.
+//! Pools on one thread, by the moves of a trial.
 mod calls;
 mod gets;
 mod hooks;
@@ -7,6 +7,7 @@ mod metrics;
 mod object_ids;
 mod retain;
 mod timeouts;
+mod unmanaged;
 mod watched;
 
 use deadpool::managed::{AsyncHook, Manager, PoolBuilder, PoolError, SyncHook};
