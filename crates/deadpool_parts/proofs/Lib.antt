@@ -8,5 +8,6 @@ pub mod GateListed
 pub mod GatePlaces
 pub mod GateTickets
 pub mod Numbers
+pub mod Orders
 pub mod Programs
 pub mod ReadsBack

@@ -4,6 +4,7 @@ pub mod GateLinks
 pub mod GateNodes
 pub mod Moments
 pub mod Numbers
+pub mod Orders
 pub mod PoolConfig
 pub mod Program
 pub mod Result

@@ -35,7 +35,7 @@ nobody_left true total q is some =
     ]
 
 -- and no more is granted than there is
-served_within : (is_open : Bool) (total : ℕ) (q : Queue) → length q.granted ≤ total → length (served is_open (total - length q.granted) q).granted ≤ total
+pub served_within : (is_open : Bool) (total : ℕ) (q : Queue) → length q.granted ≤ total → length (served is_open (total - length q.granted) q).granted ≤ total
 served_within is_open total q within =
     let k = cond is_open (min (length q.waiting) (total - length q.granted)) 0 in
     let all : length (q.granted ++ take k q.waiting) ≡ length q.granted + length (take k q.waiting) = length-append q.granted (take k q.waiting) in

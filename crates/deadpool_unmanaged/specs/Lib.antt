@@ -7,6 +7,7 @@ pub mod Laws
 pub mod Moves
 pub mod Pool
 pub mod Queue
+pub mod RunLaws
 pub mod Script
 pub mod Scripts
 pub mod State

@@ -10,6 +10,10 @@ pub record Queue : Type 0 where
 abbrev pub nobody : Queue
 nobody = record { granted = []; waiting = [] }
 
+-- all of them, in order of arrival
+abbrev pub members : Queue → List ℕ
+members q = q.granted ++ q.waiting
+
 abbrev pub is_listed : ℕ → Queue → Bool
 is_listed n q = has_number n q.granted || has_number n q.waiting
 

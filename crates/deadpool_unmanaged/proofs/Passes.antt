@@ -1,0 +1,181 @@
+-- What steps of gets and adds keep of numbers, promises and queues.
+use Rattle.std.proofs.Common.{◌≡◌, ℕ, ◌+◌, ◌-◌, ◌<◌, ◌≤◌, nat_lt, List, [], ◌∷◌, Bool, true, false, not, length, set, refl, ap, arith, inl, inr, Option, Some, None, length-append, length-take}
+use Rattle.std.specs.List.{slice_get}
+use Rattle.std.specs.declared.time.Duration.{Duration}
+use Rattle.std.proofs.lemmas.Bool.{cond_both, ltb-true}
+use Rattle.deadpool_parts.specs.Moments.{deadline_after, is_reached}
+use Rattle.deadpool_parts.specs.Numbers.{has_number}
+use Rattle.deadpool_parts.specs.declared.moment.Moment.{Moment}
+use Rattle.deadpool_parts.proofs.Numbers.{without_number-shorter, without_number-fewer}
+use Rattle.deadpool_unmanaged.specs.Pool.{Pool, Party, new_get, queued_get, new_add, queued_add, finished, free_objects, free_room}
+use Rattle.deadpool_unmanaged.specs.RunLaws.{IsWell, CountsOn, KeepsPromises, IsEmptyIfClosed, brings, brought_by, asks_for_object, asks_for_room, copies}
+use Rattle.deadpool_unmanaged.specs.Steps.{lacks_runtime, last_idle, other_idle, left, handed, hand_out, store, ended, enter_get, inquire_get, enter_add, inquire_add, poll, cancelled}
+use Rattle.deadpool_unmanaged.specs.declared.replay.moves.Item.{Item}
+use Rattle.deadpool_unmanaged.specs.declared.replay.moves.Reply.{Reply}
+use Rattle.deadpool_unmanaged.proofs.Copies.{so_many-push, so_many-with, so_many-last, so_many-set}
+use Rattle.deadpool_unmanaged.proofs.Lined.{QueueMoves, set_others, set_quiet}
+use Rattle.deadpool_unmanaged.proofs.Lists.{get-set_same}
+
+module _ {V : Type 0} where
+  -- from a pool that is well a step leads to this one, before anybody is granted anything
+  pub record Passes (p q : Pool V) : Type 0 where
+    pub counts : CountsOn p q
+    pub promises : KeepsPromises q
+    pub closed : IsEmptyIfClosed q
+    pub gets : QueueMoves asks_for_object p.gets p.parties q.gets q.parties
+    pub adds : QueueMoves asks_for_room p.adds p.parties q.adds q.parties
+
+  -- no number is drawn, and none has more objects than before
+  pub none_drawn : (p q : Pool V) → q.next ≡ p.next → ((n : ℕ) → copies n q ≤ copies n p) → CountsOn p q
+  none_drawn p q same fewer = record {
+    rising = omega (arith, same);
+    next = omega (arith, fewer p.next);
+    step = omega (arith, same);
+    others = λ n other. fewer n;
+  }
+
+  -- one that is not idle with nothing idle
+  fewer_idle : (xs ys : List (Item V)) → length ys ≤ length xs → length xs ≡ 0 → length ys ≡ 0
+  fewer_idle xs ys fewer none = omega (arith, fewer, none)
+
+  pub same_passes : (p : Pool V) → IsWell p → Passes p p
+  same_passes p well = record {
+    counts = none_drawn p p refl (λ n. omega arith);
+    promises = well.promises;
+    closed = well.closed;
+    gets = inl (refl, λ m is. is);
+    adds = inl (refl, λ m is. is);
+  }
+
+  module _ (n : ℕ) (party : Party V) (p : Pool V) (well : IsWell p) (here : slice_get p.parties n ≡ Some (Some party)) where
+    -- the party leaves, and what it brought with it
+    abbrev gone : Option (Party V) → Pool V
+    gone x = let q = left n p in record q { parties = set p.parties n x }
+
+    pub gone_passes : (x : Option (Party V)) → brings x ≡ None → Passes p (gone x)
+    gone_passes x nothing =
+        let shorter = without_number-shorter n p.gets.granted in
+        record {
+          counts = none_drawn p (gone x) refl (λ m.
+              let less = so_many-set m brings p.parties n (Some party) x here in
+              let fewer = rw nothing at less in
+              omega (arith, fewer));
+          promises = λ is some. omega (arith, shorter, well.promises is some);
+          closed = well.closed;
+          gets = inr (inl (n, (refl, set_others asks_for_object p.parties n x)));
+          adds = inr (inl (n, (refl, set_others asks_for_room p.parties n x)));
+        }
+
+    pub ended_passes : Passes p (ended n p)
+    ended_passes = gone_passes (Some finished) refl
+
+    pub cancelled_passes : Passes p (cancelled n p)
+    cancelled_passes = gone_passes None refl
+
+    -- it brings in what it has
+    pub store_passes : (item : Item V) → brought_by party ≡ Some item → not p.is_open ≡ false → Passes p (store item (ended n p)).1
+    store_passes item brought open_ =
+        let all = ended_passes in
+        let more = length-append p.idle (item ∷ []) in
+        record {
+          counts = none_drawn p (store item (ended n p)).1 refl (λ m.
+              let less = so_many-set m brings p.parties n (Some party) (Some finished) here in
+              let fewer = rw brought at less in
+              let longer = so_many-push m p.idle item in
+              omega (arith, fewer, longer));
+          promises = λ is some. omega (arith, all.promises is some, more);
+          closed = λ shut. absurd (let differ : true ≡ false = rw shut at open_ in cc);
+          gets = all.gets;
+          adds = all.adds;
+        }
+
+  -- an object goes out, which leaves enough for those that were promised one
+  pub hand_out_passes : (p q : Pool V) → Passes p q → (q.is_open ≡ true → 0 < q.handles → length q.gets.granted + 1 ≤ length q.idle) → Passes p (hand_out q).1
+  hand_out_passes p q pass enough = by_cases (last_idle q.idle) refl
+    where
+      by_cases : (o : Option (Item V)) → last_idle q.idle ≡ o → Passes p (handed o q).1
+      by_cases None none = pass
+      by_cases (Some item) is =
+          let fewer = length-take (length q.idle - 1) q.idle in
+          let k = pass.counts in
+          let same : (n : ℕ) → copies n (handed (Some item) q).1 ≡ copies n q = λ n.
+          let less = so_many-last n q.idle item is in
+          let more = so_many-with n item q.out in
+          omega (arith, less, more) in
+          record {
+            counts = record {
+              rising = k.rising;
+              next = let e = same p.next in omega (arith, e, k.next);
+              step = k.step;
+              others = λ n other. let e = same n in omega (arith, e, k.others n other);
+            };
+            promises = λ is_open some. omega (arith, enough is_open some, fewer);
+            closed = λ shut. fewer_idle q.idle (other_idle q.idle) (omega (arith, fewer)) (pass.closed shut);
+            gets = pass.gets;
+            adds = pass.adds;
+          }
+
+  module _ (found : Bool) (n : ℕ) (now : Moment) (p : Pool V) (well : IsWell p) where
+    P : Reply V × Pool V → Type 0
+    P = λ x. Passes p x.1
+
+    enter_get_passes : (wait : Option Duration) → slice_get p.parties n ≡ Some (Some (new_get wait)) → Passes p (enter_get found n wait now p).1
+    unfolding P
+    enter_get_passes wait here =
+        let ends = ended_passes n (new_get wait) p well here in
+        let shorter = without_number-shorter n p.gets.granted in
+        cond_both (lacks_runtime p.runtime wait) _ _ P (λ _. ends)
+        (λ _. cond_both (not p.is_open) _ _ P (λ _. ends)
+        (λ _. cond_both (nat_lt 0 (free_objects p)) _ _ P (λ free. hand_out_passes p (ended n p) ends (λ is some. omega (arith, shorter, ltb-true 0 (free_objects p) free)))
+        (λ _. cond_both (is_reached (deadline_after now wait) now) _ _ P (λ _. ends)
+        (λ _. cond_both found _ _ P
+        (λ _.
+        let after : Option (Party V) = Some (queued_get (deadline_after now wait)) in
+        record {
+          counts = none_drawn p _ refl (λ m. let same = so_many-set m brings p.parties n (Some (new_get wait)) after here in omega (arith, same));
+          promises = well.promises;
+          closed = well.closed;
+          gets = inr (inr (n, (refl, ap asks_for_object here, ap asks_for_object (get-set_same p.parties n (Some (new_get wait)) after here), set_others asks_for_object p.parties n after)));
+          adds = inl (refl, set_quiet asks_for_room p.parties n after (ap asks_for_room here));
+        })
+        (λ _. ends)))))
+
+    inquire_get_passes : (deadline : Option Moment) → slice_get p.parties n ≡ Some (Some (queued_get deadline)) → Passes p (inquire_get n deadline now p).1
+    unfolding P
+    inquire_get_passes deadline here =
+        let ends = ended_passes n (queued_get deadline) p well here in
+        cond_both (not p.is_open) _ _ P (λ _. ends)
+        (λ _. cond_both (has_number n p.gets.granted) _ _ P
+        (λ has. let fewer = without_number-fewer n p.gets.granted has in hand_out_passes p (ended n p) ends (λ is some. omega (arith, fewer, well.promises is some)))
+        (λ _. cond_both (is_reached deadline now) _ _ P (λ _. ends) (λ _. same_passes p well)))
+
+    enter_add_passes : (item : Item V) → slice_get p.parties n ≡ Some (Some (new_add item)) → Passes p (enter_add found n item p).1
+    unfolding P
+    enter_add_passes item here =
+        let ends = ended_passes n (new_add item) p well here in
+        cond_both (not p.is_open) _ _ P (λ _. ends)
+        (λ open_. cond_both (nat_lt 0 (free_room p)) _ _ P (λ _. store_passes n (new_add item) p well here item refl open_)
+        (λ _. cond_both found _ _ P
+        (λ _.
+        let after : Option (Party V) = Some (queued_add item) in
+        record {
+          counts = none_drawn p _ refl (λ m. let same = so_many-set m brings p.parties n (Some (new_add item)) after here in omega (arith, same));
+          promises = well.promises;
+          closed = well.closed;
+          gets = inl (refl, set_quiet asks_for_object p.parties n after (ap asks_for_object here));
+          adds = inr (inr (n, (refl, ap asks_for_room here, ap asks_for_room (get-set_same p.parties n (Some (new_add item)) after here), set_others asks_for_room p.parties n after)));
+        })
+        (λ _. ends)))
+
+    inquire_add_passes : (item : Item V) → slice_get p.parties n ≡ Some (Some (queued_add item)) → Passes p (inquire_add n item p).1
+    unfolding P
+    inquire_add_passes item here =
+        cond_both (not p.is_open) _ _ P (λ _. ended_passes n (queued_add item) p well here)
+        (λ open_. cond_both (has_number n p.adds.granted) _ _ P (λ _. store_passes n (queued_add item) p well here item refl open_) (λ _. same_passes p well))
+
+    pub poll_passes : (party : Party V) → slice_get p.parties n ≡ Some (Some party) → Passes p (poll found n now party p).1
+    poll_passes (new_get wait) here = enter_get_passes wait here
+    poll_passes (queued_get deadline) here = inquire_get_passes deadline here
+    poll_passes (new_add item) here = enter_add_passes item here
+    poll_passes (queued_add item) here = inquire_add_passes item here
+    poll_passes finished here = same_passes p well

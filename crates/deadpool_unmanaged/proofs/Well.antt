@@ -1,0 +1,104 @@
+-- Each move leads from a pool that is well to one, so the laws hold of every run.
+use Rattle.std.proofs.Common.{◌≡◌, ℕ, ◌+◌, ◌-◌, ◌≤◌, List, [], ◌∷◌, Bool, true, false, length, refl, sym, ap, ◌∙◌, arith, inl, inr, Option, Some, None}
+use Rattle.std.specs.List.{slice_get}
+use Rattle.std.proofs.lemmas.Bool.{cases_Bool}
+use Rattle.std.proofs.lemmas.Bool.Decides.{eqb_tells}
+use Rattle.deadpool_parts.specs.Numbers.{has_number}
+use Rattle.deadpool_parts.specs.Runs.{all_states, Neighbours}
+use Rattle.deadpool_parts.proofs.Orders.{IsOnce-append}
+use Rattle.deadpool_unmanaged.specs.Moves.{unsettled, moved}
+use Rattle.deadpool_unmanaged.specs.Pool.{Pool, Party, new_get, queued_get, new_add, queued_add, finished}
+use Rattle.deadpool_unmanaged.specs.Queue.{Queue, members, served}
+use Rattle.deadpool_unmanaged.specs.RunLaws.{IsWell, IsNumbered, CountsOn, IsLined, HasRoomForAll, IsListedOnce, Succeeds, EachState, EachStep, EndsWell, asks_for_object, asks_for_room}
+use Rattle.deadpool_unmanaged.specs.declared.replay.moves.Move.{Move}
+use Rattle.deadpool_unmanaged.proofs.Lawful.{moved_lawful, served_within}
+use Rattle.deadpool_unmanaged.proofs.Lined.{members-served, moves_lined}
+use Rattle.deadpool_unmanaged.proofs.PassesMoves.{unsettled_passes}
+use Rattle.deadpool_unmanaged.proofs.Runs.{runs_have, Each-more}
+
+module _ {V : Type 0} where
+  -- who asks for an object does not ask for room
+  asks_once : (o : Option (Option (Party V))) → asks_for_object o ≡ true → asks_for_room o ≡ false
+  asks_once None is = cc
+  asks_once (Some None) is = cc
+  asks_once (Some (Some (new_get wait))) is = cc
+  asks_once (Some (Some (queued_get deadline))) is = refl
+  asks_once (Some (Some (new_add item))) is = cc
+  asks_once (Some (Some (queued_add item))) is = cc
+  asks_once (Some (Some finished)) is = cc
+
+  -- the numbers stay once where they are drawn one by one
+  numbered_after : (p q : Pool V) → IsNumbered p → CountsOn p q → IsNumbered q
+  numbered_after p q numbered counts = record {
+    once = λ n.
+        elim (eqb_tells n p.next) [
+          | inl same ↦ let fresh = numbered.drawn p.next (omega arith) in rw same.1 (omega (arith, fresh, counts.next, counts.step))
+          | inr other ↦ omega (arith, counts.others n other.0, numbered.once n)
+        ];
+    drawn = λ n past.
+        elim (eqb_tells n p.next) [
+          | inl same ↦
+              let fresh = numbered.drawn p.next (omega arith) in
+              let at_next : q.next ≤ p.next = rw same.1 at past in
+              rw same.1 (omega (arith, fresh, counts.next, at_next))
+          | inr other ↦ let gone = numbered.drawn n (omega (arith, counts.rising, past)) in omega (arith, counts.others n other.0, gone)
+        ];
+  }
+
+  -- a queue that is served has the same members
+  lined_served : (asks : Option (Option (Party V)) → Bool) (is_open : Bool) (free : ℕ) (q : Queue) (parties : List (Option (Party V))) → IsLined asks q parties → IsLined asks (served is_open free q) parties
+  lined_served asks is_open free q parties lined =
+      let same = members-served is_open free q in
+      record { once = rw same lined.once; marks = λ n h. lined.marks n (ap (has_number n) (sym same) ∙ h) }
+
+  pub moved_well : (found : Bool) (m : Move V) (p : Pool V) → IsWell p → IsWell (moved found m p).1 × Succeeds p (moved found m p).1
+  moved_well found m p well =
+      let q = (unsettled found m p).1 in
+      let pass = unsettled_passes p well found m in
+      let gets = moves_lined asks_for_object p.gets q.gets p.parties q.parties well.gets pass.gets in
+      let adds = moves_lined asks_for_room p.adds q.adds p.parties q.parties well.adds pass.adds in
+      let k = pass.counts in (
+        record {
+          lawful = (moved_lawful found m p well.lawful).0;
+          numbered = let after = numbered_after p q well.numbered k in record { once = after.once; drawn = after.drawn };
+          promises = λ is some. served_within q.is_open (length q.idle) q.gets (pass.promises is some);
+          closed = pass.closed;
+          gets = lined_served asks_for_object q.is_open _ q.gets q.parties gets.0;
+          adds = lined_served asks_for_room q.is_open _ q.adds q.parties adds.0;
+        },
+        record {
+          counts = record { rising = k.rising; next = k.next; step = k.step; others = k.others };
+          queues = record { gets = rw (members-served q.is_open (length q.idle - length q.gets.granted) q.gets) gets.1; adds = rw (members-served q.is_open (q.limit - (length q.idle + length q.out) - length q.adds.granted) q.adds) adds.1 };
+        },
+      )
+
+  -- what is true of every pool that is well is true of every state of a run
+  pub each_state : (P : Pool V → Type 0) → ((p : Pool V) → IsWell p → P p) → EachState P
+  each_state P implies moves p after passed answers well ran =
+      let have = runs_have IsWell Succeeds moved_well moves p after passed answers well ran in
+      Each-more IsWell P implies (all_states p passed) have.0
+
+  Neighbours-more : (P more : Pool V → Pool V → Type 0) → ((p q : Pool V) → P p q → more p q) → (ps : List (Pool V)) → Neighbours P ps → Neighbours more ps
+  Neighbours-more P more implies [] all = tt
+  Neighbours-more P more implies (p ∷ []) all = tt
+  Neighbours-more P more implies (p ∷ q ∷ ps) all = (implies p q all.0, Neighbours-more P more implies (q ∷ ps) all.1)
+
+  pub each_step : (P : Pool V → Pool V → Type 0) → ((p q : Pool V) → Succeeds p q → P p q) → EachStep P
+  each_step P implies moves p after passed answers well ran =
+      let have = runs_have IsWell Succeeds moved_well moves p after passed answers well ran in
+      Neighbours-more Succeeds P implies (all_states p passed) have.1
+
+  pub ends_well : EndsWell V
+  ends_well moves p after passed answers well ran = let have = runs_have IsWell Succeeds moved_well moves p after passed answers well ran in have.2
+
+  pub listed_once : (p : Pool V) → IsWell p → IsListedOnce p
+  listed_once p well =
+      IsOnce-append (members p.gets) (members p.adds) well.gets.once well.adds.once
+      (λ n h.
+      elim (cases_Bool (has_number n (members p.adds))) [
+        | inl both ↦ absurd (let apart = asks_once (slice_get p.parties n) (well.gets.marks n h) in let differ : true ≡ false = sym (well.adds.marks n both) ∙ apart in cc)
+        | inr apart ↦ apart
+      ])
+
+  pub room_for_all : (p : Pool V) → IsWell p → HasRoomForAll p
+  room_for_all p well = let l = well.lawful in l.room

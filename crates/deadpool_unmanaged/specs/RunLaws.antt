@@ -1,0 +1,120 @@
+-- What is true of every state of every run, and of each two neighbours in it.
+use Rattle.std.specs.Prelude.{◌≡◌, ℕ, ◌+◌, ◌-◌, ◌<◌, ◌≤◌, Bool, true, false, ◌==◌, List, ◌++◌, length, Option, Some, None, slice_get}
+use Rattle.std.specs.List.{filter, filter_map}
+use Rattle.deadpool_parts.specs.Numbers.{has_number}
+use Rattle.deadpool_parts.specs.Orders.{IsOnce, KeepsOrder}
+use Rattle.deadpool_parts.specs.Runs.{all_states, Each, Neighbours}
+use Rattle.deadpool_parts.specs.declared.moment.Runtime.{Runtime}
+use Rattle.deadpool_unmanaged.specs.Laws.{IsLawful}
+use Rattle.deadpool_unmanaged.specs.Moves.{PoolRuns}
+use Rattle.deadpool_unmanaged.specs.Pool.{Pool, Party, queued_get, new_add, queued_add, opened}
+use Rattle.deadpool_unmanaged.specs.Queue.{Queue, members}
+use Rattle.deadpool_unmanaged.specs.declared.replay.moves.Item.{Item}
+use Rattle.deadpool_unmanaged.specs.declared.replay.moves.Move.{Move}
+use Rattle.deadpool_unmanaged.specs.declared.replay.moves.Reply.{Reply}
+
+module _ {V : Type 0} where
+  -- the object that a party is to add
+  abbrev pub brought_by : Party V → Option (Item V)
+  brought_by (new_add item) = Some item
+  brought_by (queued_add item) = Some item
+  brought_by _ = None
+
+  abbrev pub brings : Option (Party V) → Option (Item V)
+  brings None = None
+  brings (Some party) = brought_by party
+
+  -- the party is a get, or an add, in its queue
+  abbrev pub is_queued_get : Party V → Bool
+  is_queued_get (queued_get deadline) = true
+  is_queued_get _ = false
+
+  abbrev pub asks_for_object : Option (Option (Party V)) → Bool
+  asks_for_object (Some (Some party)) = is_queued_get party
+  asks_for_object _ = false
+
+  abbrev pub is_queued_add : Party V → Bool
+  is_queued_add (queued_add item) = true
+  is_queued_add _ = false
+
+  abbrev pub asks_for_room : Option (Option (Party V)) → Bool
+  asks_for_room (Some (Some party)) = is_queued_add party
+  asks_for_room _ = false
+
+  -- how many of the objects have the number
+  abbrev pub so_many : ℕ → List (Item V) → ℕ
+  so_many n items = length (filter (λ item. item.number == n) items)
+
+  -- of those that are idle, are still to be added, or are out
+  abbrev pub copies : ℕ → Pool V → ℕ
+  copies n p = so_many n p.idle + so_many n (filter_map brings p.parties) + so_many n p.out
+
+  -- each number stands at most once, and only where it was drawn
+  pub record IsNumbered (p : Pool V) : Type 0 where
+    pub once : (n : ℕ) → copies n p ≤ 1
+    pub drawn : (n : ℕ) → p.next ≤ n → copies n p ≡ 0
+
+  -- numbers are drawn one by one, and no number that was drawn returns
+  pub record CountsOn (p q : Pool V) : Type 0 where
+    pub rising : p.next ≤ q.next
+    pub next : copies p.next q ≤ copies p.next p + (q.next - p.next)
+    pub step : q.next ≤ p.next + 1
+    pub others : (n : ℕ) → (n == p.next) ≡ false → copies n q ≤ copies n p
+
+  -- Nobody is in the queue twice, and who is there is one that asks.
+  pub record IsLined (asks : Option (Option (Party V)) → Bool) (q : Queue) (parties : List (Option (Party V))) : Type 0 where
+    pub once : IsOnce (members q)
+    pub marks : (n : ℕ) → has_number n (members q) ≡ true → asks (slice_get parties n) ≡ true
+
+  -- while the pool is open and has a handle, each object that was granted is idle
+  abbrev pub KeepsPromises : Pool V → Type 0
+  KeepsPromises p = p.is_open ≡ true → 0 < p.handles → length p.gets.granted ≤ length p.idle
+
+  -- there is room for the objects and for each that an add was granted room for
+  abbrev pub HasRoomForAll : Pool V → Type 0
+  HasRoomForAll p = length p.idle + length p.out + length p.adds.granted ≤ p.limit
+
+  abbrev pub IsEmptyIfClosed : Pool V → Type 0
+  IsEmptyIfClosed p = p.is_open ≡ false → length p.idle ≡ 0
+
+  -- no party is in two lists, nor twice in one
+  abbrev pub IsListedOnce : Pool V → Type 0
+  IsListedOnce p = IsOnce (members p.gets ++ members p.adds)
+
+  -- each queue changes only by removals and by one party at its end
+  pub record KeepsQueues (p q : Pool V) : Type 0 where
+    pub gets : KeepsOrder (members p.gets) (members q.gets)
+    pub adds : KeepsOrder (members p.adds) (members q.adds)
+
+  -- what is true of every state of a run from a new pool
+  pub record IsWell (p : Pool V) : Type 0 where
+    pub lawful : IsLawful p
+    pub numbered : IsNumbered p
+    pub promises : KeepsPromises p
+    pub closed : IsEmptyIfClosed p
+    pub gets : IsLined asks_for_object p.gets p.parties
+    pub adds : IsLined asks_for_room p.adds p.parties
+
+  -- from one state to the next
+  pub record Succeeds (p q : Pool V) : Type 0 where
+    pub counts : CountsOn p q
+    pub queues : KeepsQueues p q
+
+-- a new pool is well
+abbrev pub OpensWell : Type 0 → Type 0
+OpensWell V = (limit : ℕ) (runtime : Option Runtime) (most : ℕ) → IsWell (opened {V = V} limit runtime most)
+
+-- P holds of every state of every run that begins well
+abbrev pub EachState : {V : Type 0} → (Pool V → Type 0) → Type 0
+EachState {V} P = (moves : List (Move V)) (p after : Pool V) (passed : List (List (Pool V))) (answers : List (Reply V))
+    → IsWell p → PoolRuns p moves passed answers after → Each P (all_states p passed)
+
+-- P holds of each two neighbours in every such run
+abbrev pub EachStep : {V : Type 0} → (Pool V → Pool V → Type 0) → Type 0
+EachStep {V} P = (moves : List (Move V)) (p after : Pool V) (passed : List (List (Pool V))) (answers : List (Reply V))
+    → IsWell p → PoolRuns p moves passed answers after → Neighbours P (all_states p passed)
+
+-- every such run ends well
+abbrev pub EndsWell : Type 0 → Type 0
+EndsWell V = (moves : List (Move V)) (p after : Pool V) (passed : List (List (Pool V))) (answers : List (Reply V))
+    → IsWell p → PoolRuns p moves passed answers after → IsWell after

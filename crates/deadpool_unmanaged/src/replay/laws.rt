@@ -1,0 +1,50 @@
+//! What is true of every state of every run from a pool that is well, and of each two neighbours in it, memory found or not.
+//! A function here does nothing: its contract is the law.
+ghost use Rattle.deadpool_unmanaged.specs.RunLaws.{OpensWell, EachState, EachStep, EndsWell, IsNumbered, CountsOn, KeepsPromises, HasRoomForAll, IsEmptyIfClosed, IsListedOnce, KeepsQueues};
+
+/// A new pool is well.
+pub fn opened_is_well<T>()
+    ensures { OpensWell T }
+{}
+
+/// A run from a pool that is well ends with one.
+pub fn run_ends_well<T>()
+    ensures { EndsWell T }
+{}
+
+/// No number stands twice among the objects that are idle, out or still to be added, and only numbers that were drawn stand
+/// there.
+pub fn numbers_stand_once<T>()
+    ensures { EachState (IsNumbered {V = T}) }
+{}
+
+/// Each move draws one number at most, which is the next. So the number of an object that has left never returns.
+pub fn numbers_are_drawn_in_turn<T>()
+    ensures { EachStep (CountsOn {V = T}) }
+{}
+
+/// The size and the adds that were granted room come to no more than the limit.
+pub fn granted_room_within_limit<T>()
+    ensures { EachState (HasRoomForAll {V = T}) }
+{}
+
+/// In an open pool with a handle there is an idle object for each get that was granted one.
+pub fn granted_objects_are_idle<T>()
+    ensures { EachState (KeepsPromises {V = T}) }
+{}
+
+/// A closed pool has nothing idle.
+pub fn closed_is_empty<T>()
+    ensures { EachState (IsEmptyIfClosed {V = T}) }
+{}
+
+/// Those that were granted an object, followed by those that wait for one, change only by removals and by one party at the
+/// end. So do the adds.
+pub fn queues_keep_order<T>()
+    ensures { EachStep (KeepsQueues {V = T}) }
+{}
+
+/// A party is in at most one list.
+pub fn party_in_one_list<T>()
+    ensures { EachState (IsListedOnce {V = T}) }
+{}
