@@ -8,6 +8,8 @@ mod get;
 pub mod replay;
 mod state;
 mod steps;
+#[cfg(test)]
+mod tests;
 
 pub use add::{AddStage, AddState};
 pub use config::PoolConfig;

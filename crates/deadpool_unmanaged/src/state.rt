@@ -249,9 +249,9 @@ impl<T: Drop> Core<T> {
     pub fn close(&mut self)
         ensures { self.new ≡ shut self.old }
     {
-        self.idle.clear();
         self.gets.close();
         self.adds.close();
+        self.idle.clear();
     }
 
     /// How the pool stands. All idle objects are available, also those that a get was granted, and all gets in the queue
