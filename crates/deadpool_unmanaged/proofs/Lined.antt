@@ -1,7 +1,7 @@
 -- Who is in a queue, as parties change and some leave or join.
-use Rattle.std.proofs.Common.{◌≡◌, ◌≢◌, ℕ, List, [], ◌∷◌, ◌++◌, Bool, true, false, not, ◌&&◌, set, take, drop, refl, sym, ap, ◌∙◌, ◌⊎◌, inl, inr, subst, Option, Some, None, append_assoc, cond, length, min, eqb}
+use Rattle.std.proofs.Common.{◌≡◌, ◌≢◌, ℕ, List, [], ◌∷◌, ◌++◌, Bool, true, false, not, set, take, drop, refl, sym, ap, ◌∙◌, ◌⊎◌, inl, inr, subst, Option, Some, None, append_assoc, cond, length, min}
 use Rattle.std.specs.List.{slice_get}
-use Rattle.std.proofs.lemmas.Bool.{cases_Bool, and_parts, not-true, or_cases, eq-eqb}
+use Rattle.std.proofs.Math.Bool.{and-true, and-false, or-true, or-false}
 use Rattle.std.proofs.lemmas.Bool.Decides.{eqb_tells}
 use Rattle.std.proofs.lemmas.List.{take-append-drop}
 use Rattle.deadpool_parts.specs.Numbers.{has_number, without_number}
@@ -11,7 +11,7 @@ use Rattle.deadpool_parts.proofs.Orders.{IsOnce-without, IsOnce-push, order_same
 use Rattle.deadpool_unmanaged.specs.Pool.{Party}
 use Rattle.deadpool_unmanaged.specs.Queue.{Queue, members, joined, without, served}
 use Rattle.deadpool_unmanaged.specs.RunLaws.{IsLined}
-use Rattle.deadpool_unmanaged.proofs.Lists.{get-set_other, get-push}
+use Rattle.deadpool_unmanaged.proofs.Lists.{get-set_same, get-set_other, get-push, get-pushed}
 
 -- the members, as one leaves, joins, or some are granted what they ask for
 members-without : (n : ℕ) (q : Queue) → members (without n q) ≡ without_number n (members q)
@@ -26,71 +26,81 @@ members-served is_open free q =
     append_assoc q.granted (take k q.waiting) (drop k q.waiting) ∙ ap (λ ns. q.granted ++ ns) (take-append-drop k q.waiting)
 
 module _ {V : Type 0} (asks : Option (Option (Party V)) → Bool) where
-  -- who asks and is not n still asks
+  -- but for n the same ask as before
   abbrev Others : ℕ → List (Option (Party V)) → List (Option (Party V)) → Type 0
-  Others n xs ys = (m : ℕ) → m ≢ n → asks (slice_get xs m) ≡ true → asks (slice_get ys m) ≡ true
+  Others n xs ys = (m : ℕ) → m ≢ n → asks (slice_get ys m) ≡ asks (slice_get xs m)
 
-  -- what a step does to a queue and its parties: nobody comes or goes, n leaves, or n joins, who did not ask before
+  -- what a step does to a queue and its parties: nobody comes or goes, n leaves and asks no more, or n joins, who did not ask
+  -- before
   abbrev pub QueueMoves : Queue → List (Option (Party V)) → Queue → List (Option (Party V)) → Type 0
   QueueMoves q xs r ys =
-      ((r ≡ q) × ((m : ℕ) → asks (slice_get xs m) ≡ true → asks (slice_get ys m) ≡ true))
-      ⊎ (((n : ℕ) × ((r ≡ without n q) × Others n xs ys))
+      ((r ≡ q) × ((m : ℕ) → asks (slice_get ys m) ≡ asks (slice_get xs m)))
+      ⊎ (((n : ℕ) × ((r ≡ without n q) × (asks (slice_get ys n) ≡ false) × Others n xs ys))
       ⊎ ((n : ℕ) × ((r ≡ joined n q) × (asks (slice_get xs n) ≡ false) × (asks (slice_get ys n) ≡ true) × Others n xs ys)))
 
   -- the others are as they were where one is set
   pub set_others : (xs : List (Option (Party V))) (n : ℕ) (x : Option (Party V)) → Others n xs (set xs n x)
-  set_others xs n x m other is = ap asks (get-set_other xs n m x other) ∙ is
+  set_others xs n x m other = ap asks (get-set_other xs n m x other)
 
-  -- all are, where the one that is set did not ask
-  pub set_quiet : (xs : List (Option (Party V))) (n : ℕ) (x : Option (Party V)) → asks (slice_get xs n) ≡ false → (m : ℕ) → asks (slice_get xs m) ≡ true
-      → asks (slice_get (set xs n x) m) ≡ true
-  set_quiet xs n x quiet m is =
+  -- all are, where the one that is set asks as the one before it
+  pub set_quiet : (xs : List (Option (Party V))) (n : ℕ) (old new : Option (Party V)) → slice_get xs n ≡ Some old → asks (Some new) ≡ asks (Some old) → (m : ℕ)
+      → asks (slice_get (set xs n new) m) ≡ asks (slice_get xs m)
+  set_quiet xs n old new here same m =
       elim (eqb_tells m n) [
-        | inl same ↦ absurd (let here : asks (slice_get xs n) ≡ true = subst (λ (i : ℕ). asks (slice_get xs i) ≡ true) same.1 is in let differ : true ≡ false = sym here ∙ quiet in cc)
-        | inr other ↦ set_others xs n x m other.1 is
+        | inl is ↦ subst (λ (i : ℕ). asks (slice_get (set xs n new) i) ≡ asks (slice_get xs i)) (sym is.1) (ap asks (get-set_same xs n old new here) ∙ same ∙ ap asks (sym here))
+        | inr other ↦ set_others xs n new m other.1
       ]
 
-  -- or where one more is added at the back
-  pub push_others : asks None ≡ false → (xs : List (Option (Party V))) (x : Option (Party V)) (m : ℕ) → asks (slice_get xs m) ≡ true → asks (slice_get (xs ++ x ∷ []) m) ≡ true
-  push_others none xs x m is = by_cases (slice_get xs m) refl
+  -- or where one more is added at the back, who does not ask
+  pub push_quiet : (xs : List (Option (Party V))) (x : Option (Party V)) → asks None ≡ false → asks (Some x) ≡ false → (m : ℕ) → asks (slice_get (xs ++ x ∷ []) m) ≡ asks (slice_get xs m)
+  push_quiet xs x none quiet m = by_cases (slice_get xs m) refl
     where
-      by_cases : (o : Option (Option (Party V))) → slice_get xs m ≡ o → asks (slice_get (xs ++ x ∷ []) m) ≡ true
-      by_cases None e = absurd (let differ : true ≡ false = sym is ∙ ap asks e ∙ none in cc)
-      by_cases (Some y) e = ap asks (get-push xs x m y e ∙ sym e) ∙ is
+      past : slice_get xs m ≡ None → (o : Option (Option (Party V))) → slice_get (xs ++ x ∷ []) m ≡ o → asks o ≡ false
+      past e None there = none
+      past e (Some y) there =
+          elim (get-pushed xs x m y there) [
+            | inl old ↦ absurd (let differ = sym e ∙ old in cc)
+            | inr is ↦ ap (λ z. asks (Some z)) is ∙ quiet
+          ]
+
+      by_cases : (o : Option (Option (Party V))) → slice_get xs m ≡ o → asks (slice_get (xs ++ x ∷ []) m) ≡ asks (slice_get xs m)
+      by_cases None e = past e (slice_get (xs ++ x ∷ []) m) refl ∙ sym none ∙ ap asks (sym e)
+      by_cases (Some y) e = ap asks (get-push xs x m y e ∙ sym e)
+
+  -- who is left where n leaves
+  left_marks : (q : Queue) (xs ys : List (Option (Party V))) (n : ℕ) → IsLined asks q xs → asks (slice_get ys n) ≡ false → Others n xs ys
+      → (m : ℕ) → has_number m (without_number n (members q)) ≡ asks (slice_get ys m)
+  left_marks q xs ys n lined gone others m =
+      has_number-without m n (members q)
+      ∙ (elim (eqb_tells m n) [
+        | inl is ↦ (rw is.0 (and-false (has_number m (members q)))) ∙ sym (subst (λ (i : ℕ). asks (slice_get ys i) ≡ false) (sym is.1) gone)
+        | inr other ↦ (rw other.0 (and-true (has_number m (members q)))) ∙ lined.marks m ∙ sym (others m other.1)
+      ])
+
+  -- and where n joins
+  joined_marks : (q : Queue) (xs ys : List (Option (Party V))) (n : ℕ) → IsLined asks q xs → has_number n (members q) ≡ false → asks (slice_get ys n) ≡ true → Others n xs ys
+      → (m : ℕ) → has_number m (members q ++ n ∷ []) ≡ asks (slice_get ys m)
+  joined_marks q xs ys n lined fresh there others m =
+      has_number-append m (members q) (n ∷ [])
+      ∙ (elim (eqb_tells n m) [
+        | inl is ↦ (rw is.0 (or-true (has_number m (members q)))) ∙ sym (subst (λ (i : ℕ). asks (slice_get ys i) ≡ true) is.1 there)
+        | inr other ↦ (rw other.0 (or-false (has_number m (members q)))) ∙ lined.marks m ∙ sym (others m (λ e. other.1 (sym e)))
+      ])
 
   -- the step keeps what is true of the queue, and its order
   pub moves_lined : (q r : Queue) (xs ys : List (Option (Party V))) → IsLined asks q xs → QueueMoves q xs r ys → IsLined asks r ys × KeepsOrder (members q) (members r)
   moves_lined q r xs ys lined (inl same) =
-      rw same.0 (record { once = lined.once; marks = λ m h. same.1 m (lined.marks m h) }, order_same (members q))
-  moves_lined q r xs ys lined (inr (inl (n, (is, others)))) =
+      rw same.0 (record { once = lined.once; marks = λ m. lined.marks m ∙ sym (same.1 m) }, order_same (members q))
+  moves_lined q r xs ys lined (inr (inl (n, (is, gone, others)))) =
       let left = members-without n q in
       rw (is, left) (
-        record {
-          once = rw left (IsOnce-without n (members q) lined.once);
-          marks = λ m h.
-              let both : (has_number m (members q) && not (eqb m n)) ≡ true = sym (has_number-without m n (members q)) ∙ ap (has_number m) (sym left) ∙ h in
-              let parts = and_parts (has_number m (members q)) (not (eqb m n)) both in
-              let other : m ≢ n = λ e. let differ : true ≡ false = sym (eq-eqb m n e) ∙ not-true (eqb m n) parts.1 in cc in
-              others m other (lined.marks m parts.0);
-        },
+        record { once = rw left (IsOnce-without n (members q) lined.once); marks = λ m. ap (has_number m) left ∙ left_marks q xs ys n lined gone others m },
         order_without n (members q),
       )
   moves_lined q r xs ys lined (inr (inr (n, (is, quiet, there, others)))) =
       let more = members-joined n q in
-      let fresh : has_number n (members q) ≡ false =
-      elim (cases_Bool (has_number n (members q))) [ inl h ↦ absurd (let differ : true ≡ false = sym (lined.marks n h) ∙ quiet in cc) | inr h ↦ h ] in
+      let fresh : has_number n (members q) ≡ false = lined.marks n ∙ quiet in
       rw (is, more) (
-        record {
-          once = rw more (IsOnce-push (members q) n lined.once fresh);
-          marks = λ m h.
-              let either = or_cases (has_number m (members q)) (has_number m (n ∷ [])) (sym (has_number-append m (members q) (n ∷ [])) ∙ ap (has_number m) (sym more) ∙ h) in
-              elim (eqb_tells n m) [
-                | inl same ↦ subst (λ (i : ℕ). asks (slice_get ys i) ≡ true) same.1 there
-                | inr other ↦
-                    let was : has_number m (members q) ≡ true =
-                    elim either [ inl old ↦ old | inr new ↦ absurd (let none : has_number m (n ∷ []) ≡ false = rw other.0 refl in let differ : true ≡ false = sym new ∙ none in cc) ] in
-                    others m (λ e. other.1 (sym e)) (lined.marks m was)
-              ];
-        },
+        record { once = rw more (IsOnce-push (members q) n lined.once fresh); marks = λ m. ap (has_number m) more ∙ joined_marks q xs ys n lined fresh there others m },
         order_joined n (members q) fresh,
       )

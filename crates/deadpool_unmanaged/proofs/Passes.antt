@@ -1,5 +1,5 @@
 -- What steps of gets and adds keep of numbers, promises and queues.
-use Rattle.std.proofs.Common.{◌≡◌, ℕ, ◌+◌, ◌-◌, ◌<◌, ◌≤◌, nat_lt, List, [], ◌∷◌, Bool, true, false, not, length, set, refl, ap, arith, inl, inr, Option, Some, None, length-append, length-take}
+use Rattle.std.proofs.Common.{◌≡◌, ℕ, ◌+◌, ◌-◌, ◌<◌, ◌≤◌, nat_lt, List, [], ◌∷◌, Bool, true, false, not, length, set, refl, ap, arith, ◌∙◌, inl, inr, Option, Some, None, length-append, length-take}
 use Rattle.std.specs.List.{slice_get}
 use Rattle.std.specs.declared.time.Duration.{Duration}
 use Rattle.std.proofs.lemmas.Bool.{cond_both, ltb-true}
@@ -43,8 +43,8 @@ module _ {V : Type 0} where
     counts = none_drawn p p refl (λ n. omega arith);
     promises = well.promises;
     closed = well.closed;
-    gets = inl (refl, λ m is. is);
-    adds = inl (refl, λ m is. is);
+    gets = inl (refl, λ m. refl);
+    adds = inl (refl, λ m. refl);
   }
 
   module _ (n : ℕ) (party : Party V) (p : Pool V) (well : IsWell p) (here : slice_get p.parties n ≡ Some (Some party)) where
@@ -52,8 +52,9 @@ module _ {V : Type 0} where
     abbrev gone : Option (Party V) → Pool V
     gone x = let q = left n p in record q { parties = set p.parties n x }
 
-    pub gone_passes : (x : Option (Party V)) → brings x ≡ None → Passes p (gone x)
-    gone_passes x nothing =
+    pub gone_passes : (x : Option (Party V)) → brings x ≡ None → asks_for_object (Some x) ≡ false → asks_for_room (Some x) ≡ false → Passes p (gone x)
+    gone_passes x nothing no_object no_room =
+        let there = get-set_same p.parties n (Some party) x here in
         let shorter = without_number-shorter n p.gets.granted in
         record {
           counts = none_drawn p (gone x) refl (λ m.
@@ -62,15 +63,15 @@ module _ {V : Type 0} where
               omega (arith, fewer));
           promises = λ is some. omega (arith, shorter, well.promises is some);
           closed = well.closed;
-          gets = inr (inl (n, (refl, set_others asks_for_object p.parties n x)));
-          adds = inr (inl (n, (refl, set_others asks_for_room p.parties n x)));
+          gets = inr (inl (n, (refl, ap asks_for_object there ∙ no_object, set_others asks_for_object p.parties n x)));
+          adds = inr (inl (n, (refl, ap asks_for_room there ∙ no_room, set_others asks_for_room p.parties n x)));
         }
 
     pub ended_passes : Passes p (ended n p)
-    ended_passes = gone_passes (Some finished) refl
+    ended_passes = gone_passes (Some finished) refl refl refl
 
     pub cancelled_passes : Passes p (cancelled n p)
-    cancelled_passes = gone_passes None refl
+    cancelled_passes = gone_passes None refl refl refl
 
     -- it brings in what it has
     pub store_passes : (item : Item V) → brought_by party ≡ Some item → not p.is_open ≡ false → Passes p (store item (ended n p)).1
@@ -136,7 +137,7 @@ module _ {V : Type 0} where
           promises = well.promises;
           closed = well.closed;
           gets = inr (inr (n, (refl, ap asks_for_object here, ap asks_for_object (get-set_same p.parties n (Some (new_get wait)) after here), set_others asks_for_object p.parties n after)));
-          adds = inl (refl, set_quiet asks_for_room p.parties n after (ap asks_for_room here));
+          adds = inl (refl, set_quiet asks_for_room p.parties n (Some (new_get wait)) after here refl);
         })
         (λ _. ends)))))
 
@@ -162,7 +163,7 @@ module _ {V : Type 0} where
           counts = none_drawn p _ refl (λ m. let same = so_many-set m brings p.parties n (Some (new_add item)) after here in omega (arith, same));
           promises = well.promises;
           closed = well.closed;
-          gets = inl (refl, set_quiet asks_for_object p.parties n after (ap asks_for_object here));
+          gets = inl (refl, set_quiet asks_for_object p.parties n (Some (new_add item)) after here refl);
           adds = inr (inr (n, (refl, ap asks_for_room here, ap asks_for_room (get-set_same p.parties n (Some (new_add item)) after here), set_others asks_for_room p.parties n after)));
         })
         (λ _. ends)))

@@ -12,7 +12,7 @@ use Rattle.deadpool_unmanaged.specs.declared.replay.moves.Item.{Item}
 use Rattle.deadpool_unmanaged.specs.declared.replay.moves.Reply.{Reply}
 use Rattle.deadpool_unmanaged.specs.declared.replay.moves.Reply.TheVariants as reply
 use Rattle.deadpool_unmanaged.proofs.Copies.{one, so_many-push, so_many-without, so_many-added}
-use Rattle.deadpool_unmanaged.proofs.Lined.{push_others}
+use Rattle.deadpool_unmanaged.proofs.Lined.{push_quiet}
 use Rattle.deadpool_unmanaged.proofs.Passes.{Passes, none_drawn, same_passes, cancelled_passes, hand_out_passes, poll_passes}
 use Rattle.deadpool_unmanaged.specs.Moves.{unsettled, by_seat, by_number, by_party, started}
 use Rattle.deadpool_unmanaged.specs.declared.replay.moves.Move.{Move}
@@ -67,8 +67,8 @@ module _ {V : Type 0} where
       counts = none_drawn p (started (new_get wait) p).1 refl (λ n. let more = so_many-added n brings p.parties (Some (new_get wait)) in omega (arith, more));
       promises = well.promises;
       closed = well.closed;
-      gets = inl (refl, push_others asks_for_object refl p.parties (Some (new_get wait)));
-      adds = inl (refl, push_others asks_for_room refl p.parties (Some (new_get wait)));
+      gets = inl (refl, push_quiet asks_for_object p.parties (Some (new_get wait)) refl refl);
+      adds = inl (refl, push_quiet asks_for_room p.parties (Some (new_get wait)) refl refl);
     }
 
     -- the object that is handed in
@@ -83,8 +83,8 @@ module _ {V : Type 0} where
       counts = one_drawn p (started (new_add (drawn v)) numbered).1 (drawn v) refl refl (λ n. let more = so_many-added n brings p.parties (Some (new_add (drawn v))) in omega (arith, more));
       promises = well.promises;
       closed = well.closed;
-      gets = inl (refl, push_others asks_for_object refl p.parties (Some (new_add (drawn v))));
-      adds = inl (refl, push_others asks_for_room refl p.parties (Some (new_add (drawn v))));
+      gets = inl (refl, push_quiet asks_for_object p.parties (Some (new_add (drawn v))) refl refl);
+      adds = inl (refl, push_quiet asks_for_room p.parties (Some (new_add (drawn v))) refl refl);
     }
 
     numbered_passes : (v : V) → Passes p numbered
@@ -92,8 +92,8 @@ module _ {V : Type 0} where
       counts = one_drawn p numbered (drawn v) refl refl (λ n. omega arith);
       promises = well.promises;
       closed = well.closed;
-      gets = inl (refl, λ m is. is);
-      adds = inl (refl, λ m is. is);
+      gets = inl (refl, λ m. refl);
+      adds = inl (refl, λ m. refl);
     }
 
     try_store_passes : (v : V) → Passes p (try_store (drawn v) numbered).1

@@ -49,7 +49,7 @@ module _ {V : Type 0} where
   lined_served : (asks : Option (Option (Party V)) → Bool) (is_open : Bool) (free : ℕ) (q : Queue) (parties : List (Option (Party V))) → IsLined asks q parties → IsLined asks (served is_open free q) parties
   lined_served asks is_open free q parties lined =
       let same = members-served is_open free q in
-      record { once = rw same lined.once; marks = λ n h. lined.marks n (ap (has_number n) (sym same) ∙ h) }
+      record { once = rw same lined.once; marks = λ n. ap (has_number n) same ∙ lined.marks n }
 
   pub moved_well : (found : Bool) (m : Move V) (p : Pool V) → IsWell p → IsWell (moved found m p).1 × Succeeds p (moved found m p).1
   moved_well found m p well =
@@ -96,7 +96,7 @@ module _ {V : Type 0} where
       IsOnce-append (members p.gets) (members p.adds) well.gets.once well.adds.once
       (λ n h.
       elim (cases_Bool (has_number n (members p.adds))) [
-        | inl both ↦ absurd (let apart = asks_once (slice_get p.parties n) (well.gets.marks n h) in let differ : true ≡ false = sym (well.adds.marks n both) ∙ apart in cc)
+        | inl both ↦ absurd (let apart = asks_once (slice_get p.parties n) (sym (well.gets.marks n) ∙ h) in let differ : true ≡ false = sym both ∙ well.adds.marks n ∙ apart in cc)
         | inr apart ↦ apart
       ])
 

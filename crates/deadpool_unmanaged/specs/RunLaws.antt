@@ -61,10 +61,14 @@ module _ {V : Type 0} where
     pub step : q.next ≤ p.next + 1
     pub others : (n : ℕ) → (n == p.next) ≡ false → copies n q ≤ copies n p
 
-  -- Nobody is in the queue twice, and who is there is one that asks.
+  -- who is in the queue asks, and nobody else does
+  abbrev pub MarksQueued : (Option (Option (Party V)) → Bool) → Queue → List (Option (Party V)) → Type 0
+  MarksQueued asks q parties = (n : ℕ) → has_number n (members q) ≡ asks (slice_get parties n)
+
+  -- and nobody is there twice
   pub record IsLined (asks : Option (Option (Party V)) → Bool) (q : Queue) (parties : List (Option (Party V))) : Type 0 where
     pub once : IsOnce (members q)
-    pub marks : (n : ℕ) → has_number n (members q) ≡ true → asks (slice_get parties n) ≡ true
+    pub marks : MarksQueued asks q parties
 
   -- while the pool is open and has a handle, each object that was granted is idle
   abbrev pub KeepsPromises : Pool V → Type 0
@@ -76,6 +80,11 @@ module _ {V : Type 0} where
 
   abbrev pub IsEmptyIfClosed : Pool V → Type 0
   IsEmptyIfClosed p = p.is_open ≡ false → length p.idle ≡ 0
+
+  -- a party is in the queue of the gets exactly if it is a get that is queued, and so with the adds
+  pub record HasTheQueued (p : Pool V) : Type 0 where
+    pub gets : MarksQueued asks_for_object p.gets p.parties
+    pub adds : MarksQueued asks_for_room p.adds p.parties
 
   -- no party is in two lists, nor twice in one
   abbrev pub IsListedOnce : Pool V → Type 0

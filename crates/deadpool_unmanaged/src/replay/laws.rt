@@ -1,6 +1,6 @@
 //! What is true of every state of every run from a pool that is well, and of each two neighbours in it, memory found or not.
 //! A function here does nothing: its contract is the law.
-ghost use Rattle.deadpool_unmanaged.specs.RunLaws.{OpensWell, EachState, EachStep, EndsWell, IsNumbered, CountsOn, KeepsPromises, HasRoomForAll, IsEmptyIfClosed, IsListedOnce, KeepsQueues};
+ghost use Rattle.deadpool_unmanaged.specs.RunLaws.{OpensWell, EachState, EachStep, EndsWell, IsNumbered, CountsOn, KeepsPromises, HasRoomForAll, IsEmptyIfClosed, HasTheQueued, IsListedOnce, KeepsQueues};
 
 /// A new pool is well.
 pub fn opened_is_well<T>()
@@ -36,6 +36,12 @@ pub fn granted_objects_are_idle<T>()
 /// A closed pool has nothing idle.
 pub fn closed_is_empty<T>()
     ensures { EachState (IsEmptyIfClosed {V = T}) }
+{}
+
+/// In each queue are those that stand as queued there: no get and no add that waits drops out of its queue, and nobody else is
+/// in it.
+pub fn queues_have_the_queued<T>()
+    ensures { EachState (HasTheQueued {V = T}) }
 {}
 
 /// Those that were granted an object, followed by those that wait for one, change only by removals and by one party at the
