@@ -1,5 +1,5 @@
 -- Each move leads from a pool that is well to one, so the laws hold of every run.
-use Rattle.std.proofs.Common.{◌≡◌, ℕ, ◌+◌, ◌-◌, ◌≤◌, List, [], ◌∷◌, Bool, true, false, length, refl, sym, ap, ◌∙◌, arith, inl, inr, Option, Some, None}
+use Rattle.std.proofs.Common.{◌≡◌, ℕ, ◌+◌, ◌-◌, ◌<◌, ◌≤◌, List, [], ◌∷◌, Bool, true, false, length, refl, sym, ap, ◌∙◌, arith, inl, inr, Option, Some, None}
 use Rattle.std.specs.List.{slice_get}
 use Rattle.std.proofs.lemmas.Bool.{cases_Bool}
 use Rattle.std.proofs.lemmas.Bool.Decides.{eqb_tells}
@@ -9,7 +9,7 @@ use Rattle.deadpool_parts.proofs.Orders.{IsOnce-append}
 use Rattle.deadpool_unmanaged.specs.Moves.{unsettled, moved}
 use Rattle.deadpool_unmanaged.specs.Pool.{Pool, Party, new_get, queued_get, new_add, queued_add, finished}
 use Rattle.deadpool_unmanaged.specs.Queue.{Queue, members, served}
-use Rattle.deadpool_unmanaged.specs.RunLaws.{IsWell, IsNumbered, CountsOn, IsLined, HasRoomForAll, IsListedOnce, Succeeds, EachState, EachStep, EndsWell, asks_for_object, asks_for_room}
+use Rattle.deadpool_unmanaged.specs.RunLaws.{IsWell, IsNumbered, CountsOn, IsLined, HasRoomForAll, IsListedOnce, Succeeds, EachState, EachStep, EachLater, EndsWell, NoneReturns, Later, copies, asks_for_object, asks_for_room}
 use Rattle.deadpool_unmanaged.specs.declared.replay.moves.Move.{Move}
 use Rattle.deadpool_unmanaged.proofs.Lawful.{moved_lawful, served_within}
 use Rattle.deadpool_unmanaged.proofs.Lined.{members-served, moves_lined}
@@ -83,10 +83,56 @@ module _ {V : Type 0} where
   Neighbours-more P more implies (p ∷ []) all = tt
   Neighbours-more P more implies (p ∷ q ∷ ps) all = (implies p q all.0, Neighbours-more P more implies (q ∷ ps) all.1)
 
+  -- what leads from one to the next, and so on, leads to each later one
+  Later-of : (P : Pool V → Pool V → Type 0) → ((p q r : Pool V) → P p q → P q r → P p r) → (ps : List (Pool V)) → Neighbours P ps → Later P ps
+  Later-of P leads [] all = tt
+  Later-of P leads (p ∷ []) all = (tt, tt)
+  Later-of P leads (p ∷ q ∷ ps) all =
+      let rest = Later-of P leads (q ∷ ps) all.1 in
+      ((all.0, Each-more (P q) (P p) (λ r k. leads p q r all.0 k) ps rest.0), rest)
+
+  Later-more : (P more : Pool V → Pool V → Type 0) → ((p q : Pool V) → P p q → more p q) → (ps : List (Pool V)) → Later P ps → Later more ps
+  Later-more P more implies [] all = tt
+  Later-more P more implies (p ∷ ps) all = (Each-more (P p) (more p) (implies p) ps all.0, Later-more P more implies ps all.1)
+
   pub each_step : (P : Pool V → Pool V → Type 0) → ((p q : Pool V) → Succeeds p q → P p q) → EachStep P
   each_step P implies moves p after passed answers well ran =
       let have = runs_have IsWell Succeeds moved_well moves p after passed answers well ran in
       Neighbours-more Succeeds P implies (all_states p passed) have.1
+
+  -- more numbers are drawn, and of those that were no more objects are there
+  record Leaves (p q : Pool V) : Type 0 where
+    next : p.next ≤ q.next
+    fewer : (n : ℕ) → n < p.next → copies n q ≤ copies n p
+
+  leaves_on : (p q r : Pool V) → Leaves p q → Leaves q r → Leaves p r
+  leaves_on p q r h k = record {
+    next = let first = h.next in let second = k.next in omega (arith, first, second);
+    fewer = λ n drawn.
+        let first = h.fewer n drawn in
+        let rises = h.next in
+        let second = k.fewer n (omega (arith, drawn, rises)) in
+        omega (arith, first, second);
+  }
+
+  succeeds_leaves : (p q : Pool V) → Succeeds p q → Leaves p q
+  succeeds_leaves p q s =
+      let counts = s.counts in
+      record {
+        next = counts.rising;
+        fewer = λ n drawn.
+            elim (eqb_tells n p.next) [
+              | inl same ↦ let is = same.1 in absurd (omega (arith, drawn, is))
+              | inr other ↦ counts.others n other.0
+            ];
+      }
+
+  -- a number that is gone stays gone from each state to each later one
+  pub none_returns : EachLater (NoneReturns {V = V})
+  none_returns moves p after passed answers well ran =
+      let have = runs_have IsWell Succeeds moved_well moves p after passed answers well ran in
+      let steps = Neighbours-more Succeeds Leaves succeeds_leaves (all_states p passed) have.1 in
+      Later-more Leaves NoneReturns (λ q r k n drawn none. let fewer = k.fewer n drawn in omega (arith, fewer, none)) (all_states p passed) (Later-of Leaves leaves_on (all_states p passed) steps)
 
   pub ends_well : EndsWell V
   ends_well moves p after passed answers well ran = let have = runs_have IsWell Succeeds moved_well moves p after passed answers well ran in have.2

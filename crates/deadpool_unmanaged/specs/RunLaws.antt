@@ -1,5 +1,5 @@
 -- What is true of every state of every run, and of each two neighbours in it.
-use Rattle.std.specs.Prelude.{◌≡◌, ℕ, ◌+◌, ◌-◌, ◌<◌, ◌≤◌, Bool, true, false, ◌==◌, List, ◌++◌, length, Option, Some, None, slice_get}
+use Rattle.std.specs.Prelude.{◌≡◌, ℕ, ◌+◌, ◌-◌, ◌<◌, ◌≤◌, Bool, true, false, ◌==◌, List, [], ◌∷◌, ◌++◌, length, ⊤, Option, Some, None, slice_get}
 use Rattle.std.specs.List.{filter, filter_map}
 use Rattle.deadpool_parts.specs.Numbers.{has_number}
 use Rattle.deadpool_parts.specs.Orders.{IsOnce, KeepsOrder}
@@ -12,6 +12,11 @@ use Rattle.deadpool_unmanaged.specs.Queue.{Queue, members}
 use Rattle.deadpool_unmanaged.specs.declared.replay.moves.Item.{Item}
 use Rattle.deadpool_unmanaged.specs.declared.replay.moves.Move.{Move}
 use Rattle.deadpool_unmanaged.specs.declared.replay.moves.Reply.{Reply}
+
+-- P holds of each and each later one
+abbrev pub Later : {X : Type 0} → (X → X → Type 0) → List X → Type 0
+Later P [] = ⊤
+Later P (x ∷ xs) = Each (P x) xs × Later P xs
 
 module _ {V : Type 0} where
   -- the object that a party is to add
@@ -54,12 +59,16 @@ module _ {V : Type 0} where
     pub once : (n : ℕ) → copies n p ≤ 1
     pub drawn : (n : ℕ) → p.next ≤ n → copies n p ≡ 0
 
-  -- numbers are drawn one by one, and no number that was drawn returns
+  -- numbers are drawn one by one, and of no other number are there more objects than before
   pub record CountsOn (p q : Pool V) : Type 0 where
     pub rising : p.next ≤ q.next
     pub next : copies p.next q ≤ copies p.next p + (q.next - p.next)
     pub step : q.next ≤ p.next + 1
     pub others : (n : ℕ) → (n == p.next) ≡ false → copies n q ≤ copies n p
+
+  -- where no object has a number that was drawn, it stays so
+  abbrev pub NoneReturns : Pool V → Pool V → Type 0
+  NoneReturns p q = (n : ℕ) → n < p.next → copies n p ≡ 0 → copies n q ≡ 0
 
   -- who is in the queue asks, and nobody else does
   abbrev pub MarksQueued : (Option (Option (Party V)) → Bool) → Queue → List (Option (Party V)) → Type 0
@@ -122,6 +131,11 @@ EachState {V} P = (moves : List (Move V)) (p after : Pool V) (passed : List (Lis
 abbrev pub EachStep : {V : Type 0} → (Pool V → Pool V → Type 0) → Type 0
 EachStep {V} P = (moves : List (Move V)) (p after : Pool V) (passed : List (List (Pool V))) (answers : List (Reply V))
     → IsWell p → PoolRuns p moves passed answers after → Neighbours P (all_states p passed)
+
+-- P holds of each state of every such run and each later one
+abbrev pub EachLater : {V : Type 0} → (Pool V → Pool V → Type 0) → Type 0
+EachLater {V} P = (moves : List (Move V)) (p after : Pool V) (passed : List (List (Pool V))) (answers : List (Reply V))
+    → IsWell p → PoolRuns p moves passed answers after → Later P (all_states p passed)
 
 -- every such run ends well
 abbrev pub EndsWell : Type 0 → Type 0

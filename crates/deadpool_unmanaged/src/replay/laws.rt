@@ -1,6 +1,6 @@
 //! What is true of every state of every run from a pool that is well, and of each two neighbours in it, memory found or not.
 //! A function here does nothing: its contract is the law.
-ghost use Rattle.deadpool_unmanaged.specs.RunLaws.{OpensWell, EachState, EachStep, EndsWell, IsNumbered, CountsOn, KeepsPromises, HasRoomForAll, IsEmptyIfClosed, HasTheQueued, IsListedOnce, KeepsQueues};
+ghost use Rattle.deadpool_unmanaged.specs.RunLaws.{OpensWell, EachState, EachStep, EachLater, EndsWell, IsNumbered, CountsOn, NoneReturns, KeepsPromises, HasRoomForAll, IsEmptyIfClosed, HasTheQueued, IsListedOnce, KeepsQueues};
 
 /// A new pool is well.
 pub fn opened_is_well<T>()
@@ -18,9 +18,10 @@ pub fn numbers_stand_once<T>()
     ensures { EachState (IsNumbered {V = T}) }
 {}
 
-/// Each move draws one number at most, which is the next. So the number of an object that has left never returns.
+/// Each move draws one number at most, which is the next. The number of an object that has left never returns.
 pub fn numbers_are_drawn_in_turn<T>()
-    ensures { EachStep (CountsOn {V = T}) }
+    ensures next { EachStep (CountsOn {V = T}) }
+    ensures gone { EachLater (NoneReturns {V = T}) }
 {}
 
 /// The size and the adds that were granted room come to no more than the limit.
