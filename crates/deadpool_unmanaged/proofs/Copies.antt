@@ -1,6 +1,6 @@
 -- How many objects have a number, as one comes, goes or changes hands.
-use Rattle.std.proofs.Common.{◌≡◌, ℕ, ◌+◌, ◌-◌, zero, suc, List, [], ◌∷◌, ◌++◌, Bool, true, false, cond, ◌==◌, nat_lt, length, set, take, refl, ap, ◌∙◌, arith, inl, inr, Option, Some, None}
-use Rattle.std.specs.List.{slice_get, filter_map, cons_option}
+use Rattle.std.proofs.Common.{◌≡◌, ℕ, ◌+◌, ◌-◌, ◌≤◌, zero, suc, List, [], ◌∷◌, ◌++◌, Bool, true, false, cond, ◌==◌, nat_lt, length, set, take, refl, ap, ◌∙◌, arith, inl, inr, Option, Some, None}
+use Rattle.std.specs.List.{slice_get, filter, filter_map, cons_option}
 use Rattle.std.proofs.lemmas.Bool.{cases_Bool}
 use Rattle.std.proofs.lemmas.List.Elements.{filter_map-append}
 use Rattle.deadpool_unmanaged.specs.RunLaws.{so_many}
@@ -59,6 +59,20 @@ module _ {V : Type 0} (n : ℕ) where
             rw differs (omega (arith, a, b, rest))
       ]
 
+  -- the object that is found is among those with its number
+  pub so_many-found : (m : ℕ) (xs : List (Item V)) (item : Item V) → find_item m xs ≡ Some item → one item ≤ so_many n (filter (λ s. s.number == m) xs)
+  so_many-found m [] item h = cc
+  so_many-found m (x ∷ xs) item h =
+      elim (cases_Bool (x.number == m)) [
+        | inl same ↦
+            let is : x ≡ item = let here : Some x ≡ Some item = rw same at h in cc in
+            let a = so_many-cons x (filter (λ s. s.number == m) xs) in
+            rw same (rw (← is) (omega (arith, a)))
+        | inr differs ↦
+            let there : find_item m xs ≡ Some item = rw differs at h in
+            rw differs (so_many-found m xs item there)
+      ]
+
   so_many-take : (xs : List (Item V)) (i : ℕ) (x : Item V) → slice_get xs i ≡ Some x → i + 1 ≡ length xs → so_many n (take i xs) + one x ≡ so_many n xs
   so_many-take [] i x h e = cc
   so_many-take (y ∷ []) zero x h e = let same : y ≡ x = cc in let last = so_many-cons y [] in rw (← same) (omega (arith, last))
@@ -73,7 +87,7 @@ module _ {V : Type 0} (n : ℕ) where
   so_many-last [] item h = cc
   so_many-last (x ∷ xs) item h = so_many-take (x ∷ xs) (length (x ∷ xs) - 1) item h (omega arith)
 
-  so_many-cons_option : (o : Option (Item V)) (xs : List (Item V)) → so_many n (cons_option o xs) ≡ one_of o + so_many n xs
+  pub so_many-cons_option : (o : Option (Item V)) (xs : List (Item V)) → so_many n (cons_option o xs) ≡ one_of o + so_many n xs
   so_many-cons_option None xs = omega arith
   so_many-cons_option (Some x) xs = so_many-cons x xs
 

@@ -1,5 +1,5 @@
 -- Who is in a queue, as parties change and some leave or join.
-use Rattle.std.proofs.Common.{◌≡◌, ◌≢◌, ℕ, List, [], ◌∷◌, ◌++◌, Bool, true, false, not, set, take, drop, refl, sym, ap, ◌∙◌, ◌⊎◌, inl, inr, subst, Option, Some, None, append_assoc, cond, length, min}
+use Rattle.std.proofs.Common.{◌≡◌, ◌≢◌, ℕ, List, [], ◌∷◌, ◌++◌, Bool, true, false, set, take, drop, refl, sym, ap, ◌∙◌, ◌⊎◌, inl, inr, subst, Option, Some, None, append_assoc, cond, length, min}
 use Rattle.std.specs.List.{slice_get}
 use Rattle.std.proofs.Math.Bool.{and-true, and-false, or-true, or-false}
 use Rattle.std.proofs.lemmas.Bool.Decides.{eqb_tells}
@@ -30,12 +30,12 @@ module _ {V : Type 0} (asks : Option (Option (Party V)) → Bool) where
   abbrev Others : ℕ → List (Option (Party V)) → List (Option (Party V)) → Type 0
   Others n xs ys = (m : ℕ) → m ≢ n → asks (slice_get ys m) ≡ asks (slice_get xs m)
 
-  -- what a step does to a queue and its parties: nobody comes or goes, n leaves and asks no more, or n joins, who did not ask
-  -- before
-  abbrev pub QueueMoves : Queue → List (Option (Party V)) → Queue → List (Option (Party V)) → Type 0
-  QueueMoves q xs r ys =
+  -- What a step that names a party, or none, does to a queue and its parties: nobody comes or goes, the party that is named
+  -- leaves and asks no more, or n joins, who did not ask before.
+  abbrev pub QueueMoves : Option ℕ → Queue → List (Option (Party V)) → Queue → List (Option (Party V)) → Type 0
+  QueueMoves named q xs r ys =
       ((r ≡ q) × ((m : ℕ) → asks (slice_get ys m) ≡ asks (slice_get xs m)))
-      ⊎ (((n : ℕ) × ((r ≡ without n q) × (asks (slice_get ys n) ≡ false) × Others n xs ys))
+      ⊎ (((n : ℕ) × ((r ≡ without n q) × (named ≡ Some n) × (asks (slice_get ys n) ≡ false) × Others n xs ys))
       ⊎ ((n : ℕ) × ((r ≡ joined n q) × (asks (slice_get xs n) ≡ false) × (asks (slice_get ys n) ≡ true) × Others n xs ys)))
 
   -- the others are as they were where one is set
@@ -88,19 +88,38 @@ module _ {V : Type 0} (asks : Option (Option (Party V)) → Bool) where
       ])
 
   -- the step keeps what is true of the queue, and its order
-  pub moves_lined : (q r : Queue) (xs ys : List (Option (Party V))) → IsLined asks q xs → QueueMoves q xs r ys → IsLined asks r ys × KeepsOrder (members q) (members r)
-  moves_lined q r xs ys lined (inl same) =
+  pub moves_lined : (named : Option ℕ) (q r : Queue) (xs ys : List (Option (Party V))) → IsLined asks q xs → QueueMoves named q xs r ys → IsLined asks r ys × KeepsOrder (members q) (members r)
+  moves_lined named q r xs ys lined (inl same) =
       rw same.0 (record { once = lined.once; marks = λ m. lined.marks m ∙ sym (same.1 m) }, order_same (members q))
-  moves_lined q r xs ys lined (inr (inl (n, (is, gone, others)))) =
+  moves_lined named q r xs ys lined (inr (inl (n, (is, names, gone, others)))) =
       let left = members-without n q in
       rw (is, left) (
         record { once = rw left (IsOnce-without n (members q) lined.once); marks = λ m. ap (has_number m) left ∙ left_marks q xs ys n lined gone others m },
         order_without n (members q),
       )
-  moves_lined q r xs ys lined (inr (inr (n, (is, quiet, there, others)))) =
+  moves_lined named q r xs ys lined (inr (inr (n, (is, quiet, there, others)))) =
       let more = members-joined n q in
       let fresh : has_number n (members q) ≡ false = lined.marks n ∙ quiet in
       rw (is, more) (
         record { once = rw more (IsOnce-push (members q) n lined.once fresh); marks = λ m. ap (has_number m) more ∙ joined_marks q xs ys n lined fresh there others m },
         order_joined n (members q) fresh,
       )
+
+  -- who leaves is the party that is named
+  pub moves_stay : (named : Option ℕ) (q r : Queue) (xs ys : List (Option (Party V))) → QueueMoves named q xs r ys → (n : ℕ) → has_number n (members q) ≡ true → has_number n (members r) ≡ false
+      → named ≡ Some n
+  moves_stay named q r xs ys (inl same) n was gone = absurd (let differ : true ≡ false = sym was ∙ ap (λ (s : Queue). has_number n (members s)) (sym same.0) ∙ gone in cc)
+  moves_stay named q r xs ys (inr (inl (k, (is, names, quiet, others)))) n was gone =
+      elim (eqb_tells n k) [
+        | inl same ↦ names ∙ ap Some (sym same.1)
+        | inr other ↦ absurd (
+            let left : has_number n (members r) ≡ has_number n (members q) =
+            ap (λ (s : Queue). has_number n (members s)) is ∙ ap (has_number n) (members-without k q) ∙ has_number-without n k (members q) ∙ (rw other.0 (and-true (has_number n (members q)))) in
+            let differ : true ≡ false = sym was ∙ sym left ∙ gone in
+            cc)
+      ]
+  moves_stay named q r xs ys (inr (inr (k, (is, quiet, there, others)))) n was gone = absurd (
+      let more : has_number n (members r) ≡ true =
+      ap (λ (s : Queue). has_number n (members s)) is ∙ ap (has_number n) (members-joined k q) ∙ has_number-append n (members q) (k ∷ []) ∙ (rw was refl) in
+      let differ : true ≡ false = sym more ∙ gone in
+      cc)

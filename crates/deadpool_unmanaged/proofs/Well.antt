@@ -1,5 +1,5 @@
 -- Each move leads from a pool that is well to one, so the laws hold of every run.
-use Rattle.std.proofs.Common.{◌≡◌, ℕ, ◌+◌, ◌-◌, ◌<◌, ◌≤◌, List, [], ◌∷◌, Bool, true, false, length, refl, sym, ap, ◌∙◌, arith, inl, inr, Option, Some, None}
+use Rattle.std.proofs.Common.{◌≡◌, ℕ, ◌+◌, ◌-◌, ◌<◌, ◌≤◌, List, [], ◌∷◌, Bool, true, false, length, refl, sym, ap, ◌∙◌, subst, arith, inl, inr, Option, Some, None}
 use Rattle.std.specs.List.{slice_get}
 use Rattle.std.proofs.lemmas.Bool.{cases_Bool}
 use Rattle.std.proofs.lemmas.Bool.Decides.{eqb_tells}
@@ -9,10 +9,11 @@ use Rattle.deadpool_parts.proofs.Orders.{IsOnce-append}
 use Rattle.deadpool_unmanaged.specs.Moves.{unsettled, moved}
 use Rattle.deadpool_unmanaged.specs.Pool.{Pool, Party, new_get, queued_get, new_add, queued_add, finished}
 use Rattle.deadpool_unmanaged.specs.Queue.{Queue, members, served}
-use Rattle.deadpool_unmanaged.specs.RunLaws.{IsWell, IsNumbered, CountsOn, IsLined, HasRoomForAll, IsListedOnce, Succeeds, EachState, EachStep, EachLater, EndsWell, NoneReturns, Later, copies, asks_for_object, asks_for_room}
+use Rattle.deadpool_unmanaged.specs.RunLaws.{IsWell, IsNumbered, CountsOn, IsLined, HasRoomForAll, IsListedOnce, Succeeds, EachState, EachStep, EachLater, EachMove, EndsWell, NoneReturns, Later, copies, asks_for_object, asks_for_room, named, OthersStayInPool, OthersStayQueued, OthersStand}
 use Rattle.deadpool_unmanaged.specs.declared.replay.moves.Move.{Move}
+use Rattle.deadpool_unmanaged.specs.declared.replay.moves.Reply.{Reply}
 use Rattle.deadpool_unmanaged.proofs.Lawful.{moved_lawful, served_within}
-use Rattle.deadpool_unmanaged.proofs.Lined.{members-served, moves_lined}
+use Rattle.deadpool_unmanaged.proofs.Lined.{members-served, moves_lined, moves_stay}
 use Rattle.deadpool_unmanaged.proofs.PassesMoves.{unsettled_passes}
 use Rattle.deadpool_unmanaged.proofs.Runs.{runs_have, Each-more}
 
@@ -55,8 +56,8 @@ module _ {V : Type 0} where
   moved_well found m p well =
       let q = (unsettled found m p).1 in
       let pass = unsettled_passes p well found m in
-      let gets = moves_lined asks_for_object p.gets q.gets p.parties q.parties well.gets pass.gets in
-      let adds = moves_lined asks_for_room p.adds q.adds p.parties q.parties well.adds pass.adds in
+      let gets = moves_lined asks_for_object (named m) p.gets q.gets p.parties q.parties well.gets pass.gets in
+      let adds = moves_lined asks_for_room (named m) p.adds q.adds p.parties q.parties well.adds pass.adds in
       let k = pass.counts in (
         record {
           lawful = (moved_lawful found m p well.lawful).0;
@@ -71,6 +72,31 @@ module _ {V : Type 0} where
           queues = record { gets = rw (members-served q.is_open (length q.idle - length q.gets.granted) q.gets) gets.1; adds = rw (members-served q.is_open (q.limit - (length q.idle + length q.out) - length q.adds.granted) q.adds) adds.1 };
         },
       )
+
+  -- who leaves by a move is the party or the object that it may take, and every other party is as it was
+  pub moved_queued : (found : Bool) (m : Move V) (p : Pool V) → IsWell p → OthersStayQueued m p (moved found m p).1
+  moved_queued found m p well =
+      let q = (unsettled found m p).1 in
+      let pass = unsettled_passes p well found m in
+      let gets = members-served q.is_open (length q.idle - length q.gets.granted) q.gets in
+      let adds = members-served q.is_open (q.limit - (length q.idle + length q.out) - length q.adds.granted) q.adds in
+      record {
+        gets = λ n was gone. moves_stay asks_for_object (named m) p.gets q.gets p.parties q.parties pass.gets n was (ap (has_number n) (sym gets) ∙ gone);
+        adds = λ n was gone. moves_stay asks_for_room (named m) p.adds q.adds p.parties q.parties pass.adds n was (ap (has_number n) (sym adds) ∙ gone);
+      }
+
+  pub moved_parties : (found : Bool) (m : Move V) (p : Pool V) → IsWell p → OthersStand m p (moved found m p).1
+  moved_parties found m p well = let pass = unsettled_passes p well found m in pass.parties
+
+  pub moved_objects : (found : Bool) (m : Move V) (p : Pool V) → IsWell p → OthersStayInPool m p (moved found m p).1
+  moved_objects found m p well = let pass = unsettled_passes p well found m in pass.stays
+
+  -- what each move keeps
+  pub each_move : (P : Move V → Pool V → Pool V → Type 0) → ((found : Bool) (m : Move V) (p : Pool V) → IsWell p → P m p (moved found m p).1) → EachMove P
+  each_move P keeps m p passed answer well (q, (one, (found, is))) =
+      let after = ap (λ (x : Reply V × Pool V). x.1) is in
+      let held : P m p q = subst (λ (r : Pool V). P m p r) after (keeps found m p well) in
+      rw one (held, tt)
 
   -- what is true of every pool that is well is true of every state of a run
   pub each_state : (P : Pool V → Type 0) → ((p : Pool V) → IsWell p → P p) → EachState P

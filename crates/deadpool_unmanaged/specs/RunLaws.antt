@@ -1,16 +1,18 @@
--- What is true of every state of every run, and of each two neighbours in it.
-use Rattle.std.specs.Prelude.{◌≡◌, ℕ, ◌+◌, ◌-◌, ◌<◌, ◌≤◌, Bool, true, false, ◌==◌, List, [], ◌∷◌, ◌++◌, length, ⊤, Option, Some, None, slice_get}
+-- What is true of every state of every run that begins well, of each two neighbours in it, of each state and each later one,
+-- and of each move.
+use Rattle.std.specs.Prelude.{◌≡◌, ◌≢◌, ℕ, ◌+◌, ◌-◌, ◌<◌, ◌≤◌, Bool, true, false, ◌==◌, List, [], ◌∷◌, ◌++◌, length, ⊤, Option, Some, None, if◌then◌else◌, slice_get}
 use Rattle.std.specs.List.{filter, filter_map}
 use Rattle.deadpool_parts.specs.Numbers.{has_number}
 use Rattle.deadpool_parts.specs.Orders.{IsOnce, KeepsOrder}
 use Rattle.deadpool_parts.specs.Runs.{all_states, Each, Neighbours}
 use Rattle.deadpool_parts.specs.declared.moment.Runtime.{Runtime}
 use Rattle.deadpool_unmanaged.specs.Laws.{IsLawful}
-use Rattle.deadpool_unmanaged.specs.Moves.{PoolRuns}
+use Rattle.deadpool_unmanaged.specs.Moves.{Makes, PoolRuns}
 use Rattle.deadpool_unmanaged.specs.Pool.{Pool, Party, queued_get, new_add, queued_add, opened}
 use Rattle.deadpool_unmanaged.specs.Queue.{Queue, members}
 use Rattle.deadpool_unmanaged.specs.declared.replay.moves.Item.{Item}
 use Rattle.deadpool_unmanaged.specs.declared.replay.moves.Move.{Move}
+use Rattle.deadpool_unmanaged.specs.declared.replay.moves.Move.TheVariants as move
 use Rattle.deadpool_unmanaged.specs.declared.replay.moves.Reply.{Reply}
 
 -- P holds of each and each later one
@@ -118,6 +120,57 @@ module _ {V : Type 0} where
     pub counts : CountsOn p q
     pub queues : KeepsQueues p q
 
+-- the party that the move names, where it names one
+abbrev pub named : {V : Type 0} → Move V → Option ℕ
+named (move.Get wait) = None
+named (move.Add v) = None
+named (move.Poll n now) = Some n
+named move.TryGet = None
+named (move.TryAdd v) = None
+named (move.Cancel n) = Some n
+named (move.Back n) = None
+named (move.Take n) = None
+named move.Close = None
+named move.Status = None
+named move.Clone = None
+named move.DropHandle = None
+named move.Upgrade = None
+
+module _ {V : Type 0} where
+  -- the object that the party is to add, where it is there and is to add one
+  abbrev pub brought_in : Option (Option (Party V)) → List (Item V)
+  brought_in None = []
+  brought_in (Some party) = filter_map brings (party ∷ [])
+
+  -- the objects that the move may take out of the pool and its adds
+  abbrev pub may_leave : Move V → Pool V → List (Item V)
+  may_leave (move.Get wait) p = []
+  may_leave (move.Add v) p = []
+  may_leave (move.Poll n now) p = brought_in (slice_get p.parties n)
+  may_leave move.TryGet p = []
+  may_leave (move.TryAdd v) p = []
+  may_leave (move.Cancel n) p = brought_in (slice_get p.parties n)
+  may_leave (move.Back n) p = filter (λ item. item.number == n) p.out
+  may_leave (move.Take n) p = filter (λ item. item.number == n) p.out
+  may_leave move.Close p = p.idle
+  may_leave move.Status p = []
+  may_leave move.Clone p = []
+  may_leave move.DropHandle p = if p.handles == 1 then p.idle else []
+  may_leave move.Upgrade p = []
+
+  -- what leaves, number by number, is among them
+  abbrev pub OthersStayInPool : Move V → Pool V → Pool V → Type 0
+  OthersStayInPool m p q = (n : ℕ) → copies n p ≤ copies n q + so_many n (may_leave m p)
+
+  -- who leaves a queue is the party that the move names
+  pub record OthersStayQueued (m : Move V) (p q : Pool V) : Type 0 where
+    pub gets : (n : ℕ) → has_number n (members p.gets) ≡ true → has_number n (members q.gets) ≡ false → named m ≡ Some n
+    pub adds : (n : ℕ) → has_number n (members p.adds) ≡ true → has_number n (members q.adds) ≡ false → named m ≡ Some n
+
+  -- every other party is as it was
+  abbrev pub OthersStand : Move V → Pool V → Pool V → Type 0
+  OthersStand m p q = (n : ℕ) (party : Option (Party V)) → named m ≢ Some n → slice_get p.parties n ≡ Some party → slice_get q.parties n ≡ Some party
+
 -- a new pool is well
 abbrev pub OpensWell : Type 0 → Type 0
 OpensWell V = (limit : ℕ) (runtime : Option Runtime) (most : ℕ) → IsWell (opened {V = V} limit runtime most)
@@ -136,6 +189,10 @@ EachStep {V} P = (moves : List (Move V)) (p after : Pool V) (passed : List (List
 abbrev pub EachLater : {V : Type 0} → (Pool V → Pool V → Type 0) → Type 0
 EachLater {V} P = (moves : List (Move V)) (p after : Pool V) (passed : List (List (Pool V))) (answers : List (Reply V))
     → IsWell p → PoolRuns p moves passed answers after → Later P (all_states p passed)
+
+-- P holds of each move, a state that is well, and the one that the move leads to
+abbrev pub EachMove : {V : Type 0} → (Move V → Pool V → Pool V → Type 0) → Type 0
+EachMove {V} P = (m : Move V) (p : Pool V) (passed : List (Pool V)) (answer : Reply V) → IsWell p → Makes p m passed answer → Neighbours (P m) (p ∷ passed)
 
 -- every such run ends well
 abbrev pub EndsWell : Type 0 → Type 0

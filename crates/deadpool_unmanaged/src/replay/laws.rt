@@ -1,6 +1,6 @@
-//! What is true of every state of every run from a pool that is well, and of each two neighbours in it, memory found or not.
-//! A function here does nothing: its contract is the law.
-ghost use Rattle.deadpool_unmanaged.specs.RunLaws.{OpensWell, EachState, EachStep, EachLater, EndsWell, IsNumbered, CountsOn, NoneReturns, KeepsPromises, HasRoomForAll, IsEmptyIfClosed, HasTheQueued, IsListedOnce, KeepsQueues};
+//! What is true of every state of every run from a pool that is well, of each two neighbours in it, of each state and each later
+//! one, and of each move, memory found or not. A function here does nothing: its contract is the law.
+ghost use Rattle.deadpool_unmanaged.specs.RunLaws.{OpensWell, EachState, EachStep, EachLater, EachMove, EndsWell, IsNumbered, CountsOn, NoneReturns, KeepsPromises, HasRoomForAll, IsEmptyIfClosed, HasTheQueued, IsListedOnce, KeepsQueues, OthersStayInPool, OthersStayQueued, OthersStand};
 
 /// A new pool is well.
 pub fn opened_is_well<T>()
@@ -49,6 +49,18 @@ pub fn queues_have_the_queued<T>()
 /// end. So do the adds.
 pub fn queues_keep_order<T>()
     ensures { EachStep (KeepsQueues {V = T}) }
+{}
+
+/// Whoever leaves a queue by a move is the party that the move names, and every other party is as it was.
+pub fn no_waiter_is_lost<T>()
+    ensures queues { EachMove (OthersStayQueued {V = T}) }
+    ensures parties { EachMove (OthersStand {V = T}) }
+{}
+
+/// An object that is idle, out or still to be added leaves only by a move that may take it: by a poll or a cancel of the add
+/// that brings it, by its own return or take, or by a close or the drop of the last handle while it is idle.
+pub fn no_object_is_lost<T>()
+    ensures { EachMove (OthersStayInPool {V = T}) }
 {}
 
 /// A party is in at most one list.
