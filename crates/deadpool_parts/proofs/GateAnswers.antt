@@ -7,7 +7,7 @@ use Rattle.deadpool_parts.specs.declared.gate.Entry.TheVariants as entry
 use Rattle.deadpool_parts.specs.declared.gate.Withdrawn.TheVariants as withdrawn
 use Rattle.deadpool_parts.specs.Gate.{Waiter, arrived, find_waiter, without_waiter, granted_tickets, waiting_tickets, grant_count, entry_at_once, Joins, answer_of, asked, standing_of, IsLine}
 use Rattle.deadpool_parts.specs.Numbers.{has_number}
-use Rattle.deadpool_parts.proofs.GateLine.{find_none-head, find_none-tail}
+use Rattle.deadpool_parts.proofs.GateListed.{find_none-head, find_none-tail}
 use Rattle.deadpool_parts.proofs.GateTickets.{has_number_unlisted, has_number_granted, has_number_waiting, waiting_count-length}
 
 -- whether a ticket is in one of the two lists
