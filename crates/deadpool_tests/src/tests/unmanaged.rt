@@ -2,8 +2,8 @@
 use super::stands;
 use deadpool::replay::unmanaged::{Move, Reply, Trial};
 use deadpool::unmanaged::{
-    AddAskReply, AddEnterReply, AddState, BackReply, Core, GetAskReply, GetEnterReply, GetState,
-    HandleReply, PoolConfig, PoolError, StepReply, TakeReply,
+    AddEnterReply, AddState, BackReply, Core, GetEnterReply, GetState, HandleReply, PoolConfig,
+    PoolError, TakeReply,
 };
 use deadpool::{Moment, Runtime, Status};
 use futures::task::Poll;
@@ -305,43 +305,16 @@ fn a_cancelled_get_leaves_its_object_to_others(rt: HostRuntime) -> Result<(), Fa
 }
 
 #[test]
-fn steps_of_a_get(rt: HostRuntime) -> Result<(), Fail> {
-    let mut core = Core::new(rt.alloc(), 1)?;
-    let GetEnterReply::Waiting(first) = core.get_enter(true) else {
-        return Err(Fail::new("the first get does not wait"));
-    };
-    let GetEnterReply::Waiting(second) = core.get_enter(true) else {
-        return Err(Fail::new("the second get does not wait"));
-    };
-    assert!(rt; matches!(core.get_ask(first, false), GetAskReply::Waiting));
-    assert!(rt; matches!(core.get_ask(second, true), GetAskReply::Expired));
-    assert!(rt; matches!(core.get_ask(second, true), GetAskReply::Unknown));
-    assert_eq!(rt; core.get_cancel(second), StepReply::Unknown);
-    assert_eq!(rt; core.status(), stands(1, 0, 0, 1));
-    assert!(rt; matches!(core.add_enter(7, false), AddEnterReply::Stored));
-    assert!(rt; matches!(core.get_ask(first, true), GetAskReply::Object(7)));
-    assert_eq!(rt; core.get_cancel(first), StepReply::Unknown);
-    Ok(())
-}
-
-#[test]
-fn steps_of_an_add(rt: HostRuntime) -> Result<(), Fail> {
+fn steps_of_newcomers(rt: HostRuntime) -> Result<(), Fail> {
     let mut core = with_object_out(rt.alloc(), 7)?;
-    let AddEnterReply::Waiting(first, 8) = core.add_enter(8, true) else {
-        return Err(Fail::new("the first add does not wait"));
-    };
-    let AddEnterReply::Waiting(second, 9) = core.add_enter(9, true) else {
-        return Err(Fail::new("the second add does not wait"));
-    };
-    assert!(rt; matches!(core.add_ask(first, 8), AddAskReply::Waiting(8)));
-    assert_eq!(rt; core.take(), TakeReply::Taken);
-    assert!(rt; matches!(core.add_ask(first, 8), AddAskReply::Stored));
-    assert!(rt; matches!(core.add_ask(first, 8), AddAskReply::Unknown(8)));
-    assert_eq!(rt; core.add_cancel(first), StepReply::Unknown);
-    assert_eq!(rt; core.add_cancel(second), StepReply::Done);
+    assert!(rt; matches!(core.get_enter(false), GetEnterReply::Full));
+    assert!(rt; matches!(core.add_enter(8, false), AddEnterReply::Full(8)));
+    assert!(rt; matches!(core.get_enter(true), GetEnterReply::Waiting(_)));
+    assert!(rt; matches!(core.add_enter(9, true), AddEnterReply::Waiting(_, 9)));
+    assert_eq!(rt; core.status(), stands(1, 1, 0, 1));
     core.close();
-    assert!(rt; matches!(core.add_enter(9, true), AddEnterReply::Closed(9)));
     assert!(rt; matches!(core.get_enter(true), GetEnterReply::Closed));
+    assert!(rt; matches!(core.add_enter(9, true), AddEnterReply::Closed(9)));
     Ok(())
 }
 
