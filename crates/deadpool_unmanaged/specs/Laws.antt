@@ -1,4 +1,4 @@
--- What is true of every state of every run, and carries the others of these facts.
+-- What is true of every state of every run that begins with a state of which it is true.
 use Rattle.std.specs.Prelude.{◌+◌, ◌≤◌, length}
 use Rattle.deadpool_unmanaged.specs.Moves.{NobodyWaits}
 use Rattle.deadpool_unmanaged.specs.Pool.{Pool, size}

@@ -69,7 +69,7 @@ module _ {V : Type 0} where
   abbrev pub PoolRuns : Pool V → List (Move V) → List (List (Pool V)) → List (Reply V) → Pool V → Type 0
   PoolRuns = Runs Makes
 
-  -- no get waits for an object, and no add for room, that is free
+  -- in an open pool no get waits for an object, and no add for room, that is free
   pub record NobodyWaits (p : Pool V) : Type 0 where
     pub objects : p.is_open ≡ true → 0 < free_objects p → p.gets.waiting ≡ []
     pub room : p.is_open ≡ true → 0 < free_room p → p.adds.waiting ≡ []

@@ -19,7 +19,9 @@ pub enum AddStage<T> {
     Finished,
 }
 
-/// An add, as a state that its owner polls. Dropping it drops its object and gives nothing back: `cancel` does that.
+/// An add, as a state that its owner polls. Dropping it drops its object and gives nothing back: `cancel` does that. It is
+/// to be polled and cancelled with the same core: with another it still has its entry in the first one's queue, and may be
+/// taken for an add in the other's.
 #[derive(Drop)]
 pub struct AddState<T> {
     stage: AddStage<T>,

@@ -1,12 +1,13 @@
 //! Why a get or an add was refused. The error's text is the `output` of its `Display`.
 use std::fmt;
 
-/// Why a get ended without an object, or an add with its object. It then holds nothing of the pool's.
+/// Why a get ended without an object, or an add with its object. It then holds nothing of the pool's, where each of its polls
+/// was with the same core.
 #[derive(Clone, Copy, Debug, PartialEq, Eq)]
 pub enum PoolError {
     /// Nothing was free, and the wait is over.
     Timeout,
-    /// The pool was closed, or has neither a handle nor an object left.
+    /// The pool was closed, or has neither a handle nor an idle object left.
     Closed,
     /// A get was to wait for a while, and no runtime is there to tell when that is over.
     NoRuntimeSpecified,

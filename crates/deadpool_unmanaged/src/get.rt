@@ -23,7 +23,9 @@ pub enum GetStage {
     Finished,
 }
 
-/// A get, as a state that its owner polls. Dropping it gives nothing back: `cancel` does.
+/// A get, as a state that its owner polls. Dropping it gives nothing back: `cancel` does. It is to be polled and cancelled
+/// with the same core: with another it still has its entry in the first one's queue, and may be taken for a get in the
+/// other's.
 #[derive(Drop)]
 pub struct GetState {
     stage: GetStage,

@@ -15,8 +15,8 @@ use std::alloc::{AllocError, Global};
 use std::marker::Model;
 
 /// The state of an unmanaged pool on one thread. A step that puts something in or gives something back ends with the
-/// settling: the earliest gets that wait are granted the objects that are free, and the earliest adds the free room. An
-/// object that was granted, or room, is nobody else's until its party has asked or cancelled.
+/// settling: the earliest gets that wait are granted the objects that are free, and the earliest adds the free room. In an
+/// open pool with a handle, an object or room that was granted is nobody else's until its party has asked or cancelled.
 #[derive(Drop)]
 pub struct Core<T> {
     // Gets ask for objects, and adds for room.
@@ -43,8 +43,8 @@ impl<T> Model for Core<T> {
 }
 
 impl<T: Drop> Core<T> {
-    /// An open pool with nothing idle and one handle. It has room for `max_size` objects from now on, so none of its steps
-    /// takes memory, but for an entry in a queue.
+    /// An open pool with nothing idle and one handle. It has room for `max_size` objects from now on: only `get_enter` and
+    /// `add_enter` answer want of memory, for an entry in a queue, and no other step does.
     pub fn new(alloc: Global, max_size: usize) -> Result<Core<T>, AllocError>
         ensures { IfOk result (λ core. core ≡ record { limit = max_size; is_open = true; handles = 1; idle = []; outside = 0; gets = nobody; adds = nobody }) }
     {

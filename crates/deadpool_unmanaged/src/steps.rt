@@ -1,5 +1,6 @@
-//! The replies to a pool's steps. A step that lowers a count, or names a ticket, answers `Unknown` where there is nothing
-//! to lower or nobody under the ticket, and changes nothing.
+//! The replies to a pool's steps. A step that names a ticket answers `Unknown` where nobody is under it, and a step on an
+//! object that is out where none is. Where no handle is left, `clone_handle` and `drop_handle` answer `NoHandle`. Then nothing
+//! changes.
 use deadpool_parts::gate::Ticket;
 
 /// The reply to a new get.

@@ -1,5 +1,5 @@
-//! What is true of every state of every run from a pool that is well, of each two neighbours in it, of each state and each later
-//! one, and of each move, memory found or not. A function here does nothing: its contract is the law.
+//! What is true of every state of every run from a pool that is well, of each two neighbours in it, of each state and each
+//! later one, and of each move, memory found or not. A function here does nothing: its contract is the law.
 ghost use Rattle.deadpool_unmanaged.specs.RunLaws.{OpensWell, EachState, EachStep, EachLater, EachMove, EndsWell, IsNumbered, CountsOn, NoneReturns, KeepsPromises, HasRoomForAll, IsEmptyIfClosed, HasTheQueued, IsListedOnce, KeepsQueues, OthersStayInPool, OthersStayQueued, OthersStand};
 
 /// A new pool is well.

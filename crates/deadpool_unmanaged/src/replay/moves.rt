@@ -2,7 +2,9 @@
 use crate::{Moment, PoolError, Status};
 use std::time::Duration;
 
-/// An object: its number in its run, and its value. The numbers are drawn from 0 on, one for each value that is handed in.
+/// An object: its number in its trial, and its value. Numbers are drawn from 0 on, over all the runs of the trial: one for
+/// each value whose own move is answered `Started`, `Added` or `Refused`. A move with another answer, as `Exhausted`, draws
+/// none.
 #[derive(Drop)]
 pub struct Item<T> {
     pub number: usize,
