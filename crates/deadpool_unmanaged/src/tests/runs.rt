@@ -6,7 +6,7 @@ use std::process::Abort;
 use std::test::Fail;
 
 /// Makes one move.
-fn play<T: Drop>(trial: &mut Trial<T>, alloc: Global, next: Move<T>) -> Result<Reply<T>, Fail> {
+fn play(trial: &mut Trial<u64>, alloc: Global, next: Move<u64>) -> Result<Reply<u64>, Fail> {
     let moves = vec![in alloc; next]?;
     let Ok(replies) = trial.run(moves) else {
         return Err(Fail::new("no memory for the reply"));
