@@ -13,12 +13,7 @@ use Rattle.deadpool_unmanaged.specs.declared.replay.trial.Seat.{Seat}
 use Rattle.deadpool_unmanaged.proofs.Lawful.{moved_lawful}
 use Rattle.deadpool_unmanaged.proofs.Settling.{settle-none, settles, counted-settled}
 
--- what a trial keeps, all but its capacities
-pub record Stands {V : Type 0} (d : State (Item V)) (seats : List (Option (Seat V))) (out : List (Item V)) (p : Pool V) : Type 0 where
-  pub counted : IsCounted d seats out
-  pub lawful : IsLawful p
-
--- what it keeps by a move, and that it is one
+-- what a trial keeps by a move, all but its capacities, and that it is one
 pub record Follows {V : Type 0} (m : Move V) (p : Pool V) (answer : Reply V) (d : State (Item V)) (seats : List (Option (Seat V))) (out : List (Item V)) (q : Pool V) : Type 0 where
   pub gives : Gives m p answer q
   pub counted : IsCounted d seats out

@@ -28,10 +28,6 @@ module _ {X : Type 0} (test : X → Bool) where
         | inr past ↦ ltb-false (position_or_len test xs) (length xs) past
       ]
 
-  -- a place is in the list
-  pub place_within : (xs : List X) (at : ℕ) → position test xs ≡ Some at → at < length xs
-  place_within xs at h = let w = place_is xs at h in w.1
-
   -- the place, or the end where there is none
   pub place_or_end : (xs : List X) → unwrap_or (position test xs) (length xs) ≡ position_or_len test xs
   place_or_end xs =

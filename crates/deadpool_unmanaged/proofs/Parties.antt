@@ -1,5 +1,5 @@
 -- Parties that start, are cancelled, or were never there.
-use Rattle.std.proofs.Common.{◌≡◌, ◌≢◌, ℕ, ◌+◌, List, [], ◌∷◌, ◌++◌, Bool, true, false, eqb, nat_lt, length, set, map, refl, sym, ap, ◌∙◌, ◌⊎◌, inl, inr, subst, arith, Option, Some, None, eq-eqb}
+use Rattle.std.proofs.Common.{◌≡◌, ◌≢◌, ℕ, ◌+◌, List, [], ◌∷◌, ◌++◌, Bool, true, false, eqb, nat_lt, length, set, map, refl, sym, ap, ◌∙◌, subst, arith, Option, Some, None, eq-eqb}
 use Rattle.std.specs.List.{slice_get}
 use Rattle.std.specs.declared.time.Duration.{Duration}
 use Rattle.std.proofs.lemmas.Bool.Decides.{nat_tests}
@@ -9,7 +9,7 @@ use Rattle.deadpool_parts.specs.declared.moment.Runtime.{Runtime}
 use Rattle.deadpool_unmanaged.specs.Image.{image, party_of, has_get, has_add, IsCounted}
 use Rattle.deadpool_unmanaged.specs.Laws.{IsLawful}
 use Rattle.deadpool_unmanaged.specs.Moves.{NobodyWaits, unsettled, by_party}
-use Rattle.deadpool_unmanaged.specs.Pool.{Pool, Party}
+use Rattle.deadpool_unmanaged.specs.Pool.{Pool}
 use Rattle.deadpool_unmanaged.specs.State.{State}
 use Rattle.deadpool_unmanaged.specs.StateSteps.{without_get, without_add}
 use Rattle.deadpool_unmanaged.specs.Steps.{cancelled}
@@ -83,12 +83,6 @@ module _ {V : Type 0} (runtime : Option Runtime) (most next : ℕ) (d : State (I
   -- ---- a party is cancelled
 
   module _ (n : ℕ) where
-    -- none is there
-    pub nobody_there : (o : Option (Option (Party V))) → slice_get (map party_of seats) n ≡ o → (o ≡ None) ⊎ (o ≡ Some None) → (step : Party V → Pool V → Reply V × Pool V)
-        → by_party (slice_get (map party_of seats) n) step pool ≡ (reply.NoSuch, pool)
-    nobody_there o is (inl none) step = rw (is, none) refl
-    nobody_there o is (inr gone) step = rw (is, gone) refl
-
     abbrev Cancelled : State (Item V) → Type 0
     Cancelled d' = Follows (move.Cancel n) pool reply.Cancelled d' (set seats n None) out (image runtime most next d' (set seats n None) out)
 

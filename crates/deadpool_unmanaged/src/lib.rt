@@ -1,4 +1,5 @@
-//! A pool of objects that its user adds.
+//! The unmanaged pool on one thread: its user adds the objects. Gets wait for an object, and adds for room, in order of
+//! arrival.
 #![tactic(auto)]
 
 mod add;
