@@ -13,6 +13,7 @@ use Rattle.deadpool_parts.specs.declared.errors.PoolError.{PoolError}
 use Rattle.deadpool_parts.specs.declared.errors.PoolError.TheVariants.{Timeout, Backend, NoRuntimeSpecified, PostCreateHook}
 use Rattle.deadpool_parts.specs.declared.errors.TimeoutType.TheVariants as phase
 use Rattle.deadpool_parts.proofs.Programs.{Gives-bind}
+use Rattle.deadpool_parts.proofs.Lists.{set-same}
 use Rattle.deadpool.specs.Calls.{start}
 use Rattle.deadpool.specs.Metrics.{new_metrics}
 use Rattle.deadpool.specs.HookLists.{HookLists}
@@ -43,7 +44,6 @@ use Rattle.deadpool.specs.declared.managed.desk.StepReply.TheVariants as step
 use Rattle.deadpool.specs.declared.managed.desk.CreatedReply.TheVariants as numbered
 use Rattle.deadpool.specs.declared.replay.moves.Reply.{Reply}
 use Rattle.deadpool.specs.declared.replay.moves.Reply.TheVariants as reply
-use Rattle.deadpool.proofs.Lists.{set-same}
 use Rattle.deadpool.proofs.SlotLists.{length-with_slot}
 use Rattle.deadpool.proofs.Tickets.{NoTicket, IsOwned-set, IsOwned-like}
 use Rattle.deadpool.proofs.Settles.{counted_settled}

@@ -1,5 +1,5 @@
--- What setting, adding or taking one element changes in a list, and cases of tests.
-use Rattle.std.proofs.Common.{◌≡◌, ◌≢◌, ℕ, ◌+◌, zero, suc, ◌≤◌, List, [], ◌∷◌, ◌++◌, Bool, true, false, cond, length, set, refl, ap, ◌∙◌, arith, Option, Some, None, length-append}
+-- How many elements of a list pass a test, as one of them is set, added or taken.
+use Rattle.std.proofs.Common.{◌≡◌, ℕ, ◌+◌, zero, suc, ◌≤◌, List, [], ◌∷◌, ◌++◌, Bool, true, false, cond, length, set, ap, ◌∙◌, arith, Option, Some, None, length-append}
 use Rattle.std.specs.List.{cons_option}
 use Rattle.std.specs.Prelude.{slice_get, filter, filter_map, is_some}
 use Rattle.std.proofs.lemmas.Bool.{cond_both}
@@ -20,26 +20,6 @@ length-cons_option None ys = omega arith
 length-cons_option (Some y) ys = omega arith
 
 module _ {X : Type 0} where
-  -- the element that was set is there
-  pub get-set_same : (xs : List X) (n : ℕ) (old new : X) → slice_get xs n ≡ Some old → slice_get (set xs n new) n ≡ Some new
-  get-set_same [] n old new h = cc
-  get-set_same (x ∷ xs) zero old new h = refl
-  get-set_same (x ∷ xs) (suc n) old new h = get-set_same xs n old new h
-
-  -- the others are as they were
-  pub get-set_other : (xs : List X) (n m : ℕ) (new : X) → m ≢ n → slice_get (set xs n new) m ≡ slice_get xs m
-  get-set_other [] n m new h = refl
-  get-set_other (x ∷ xs) zero zero new h = absurd (h refl)
-  get-set_other (x ∷ xs) zero (suc m) new h = refl
-  get-set_other (x ∷ xs) (suc n) zero new h = refl
-  get-set_other (x ∷ xs) (suc n) (suc m) new h = get-set_other xs n m new (λ e. h (ap suc e))
-
-  -- an element stays where more are added at the back
-  pub get-append : (xs ys : List X) (n : ℕ) (x : X) → slice_get xs n ≡ Some x → slice_get (xs ++ ys) n ≡ Some x
-  get-append [] ys n x h = cc
-  get-append (y ∷ xs) ys zero x h = h
-  get-append (y ∷ xs) ys (suc n) x h = get-append xs ys n x h
-
   -- a count changes by the one element that is set
   pub count-set : (f : X → Bool) (xs : List X) (n : ℕ) (old new : X) → slice_get xs n ≡ Some old
       → length (filter f (set xs n new)) + one_if (f old) ≡ length (filter f xs) + one_if (f new)

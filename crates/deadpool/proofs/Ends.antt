@@ -6,6 +6,7 @@ use Rattle.deadpool_parts.specs.Numbers.{has_number, without_number}
 use Rattle.deadpool_parts.specs.Program.{Program, Gives}
 use Rattle.deadpool_parts.specs.declared.moment.Runtime.{Runtime}
 use Rattle.deadpool_parts.specs.declared.config.Timeouts.{Timeouts}
+use Rattle.deadpool_parts.proofs.Numbers.{without_number-same}
 use Rattle.deadpool.specs.HookLists.{HookLists}
 use Rattle.deadpool.specs.DeskState.{DeskState, places, settled}
 use Rattle.deadpool.specs.DeskSteps.{unqueued}
@@ -14,9 +15,7 @@ use Rattle.deadpool.specs.Pool.{Pool, is_going, is_creating, prepared_by, places
 use Rattle.deadpool.specs.Moves.{NobodyWaits}
 use Rattle.deadpool.specs.Image.{party_of, owner, image, IsCounted}
 use Rattle.deadpool.specs.declared.managed.slot.Slot.{Slot}
-use Rattle.deadpool.proofs.Lists.{count_given-set}
-use Rattle.deadpool.proofs.NumberLists.{without_number-same}
-use Rattle.deadpool.proofs.ListsLemmas.{count-set}
+use Rattle.deadpool.proofs.Counts.{count-set, held-set}
 use Rattle.deadpool.proofs.Tickets.{NoTicket, owners-set}
 use Rattle.deadpool.proofs.Settles.{settles, counts_of}
 use Rattle.deadpool.proofs.Settling.{goes, creates, prepares, put_off, put_off-image, settle-none, places-image}
@@ -42,7 +41,7 @@ module _ {V C R S : Type 0} (d : DeskState V) (gets : List (Option (Getting V C 
 
   -- an object under preparation
   pub holds_object : prepares old ≤ d.outside
-  holds_object = let c = count_given-set prepared_by (map party_of gets) n (party_of old) None here in omega (arith, c, k.outside)
+  holds_object = let c = held-set prepared_by (map party_of gets) n (party_of old) None here in omega (arith, c, k.outside)
 
 module _ {V C R S F A : Type 0} (runtime : Option Runtime) (hooks : HookLists F A) (timeouts : Timeouts) (first most : ℕ)
     (core : DeskState V) (gets : List (Option (Getting V C R S))) (out : List (Slot V)) (n : ℕ) (new : Option (Getting V C R S)) where

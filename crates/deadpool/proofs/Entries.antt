@@ -12,6 +12,8 @@ use Rattle.deadpool_parts.specs.declared.config.Timeouts.{Timeouts}
 use Rattle.deadpool_parts.specs.declared.errors.PoolError.{PoolError}
 use Rattle.deadpool_parts.specs.declared.errors.PoolError.TheVariants.{Timeout, Closed, NoRuntimeSpecified, OutOfMemory}
 use Rattle.deadpool_parts.specs.declared.errors.TimeoutType.TheVariants as phase
+use Rattle.deadpool_parts.proofs.Lists.{set-same}
+use Rattle.deadpool_parts.proofs.Numbers.{has_number-map}
 use Rattle.deadpool.specs.HookLists.{HookLists}
 use Rattle.deadpool.specs.DeskState.{DeskState, places}
 use Rattle.deadpool.specs.DeskSteps.{is_listed, unqueued, Enters, Asks, GoesOn}
@@ -37,7 +39,7 @@ use Rattle.deadpool.specs.declared.managed.desk.AgainReply.{AgainReply}
 use Rattle.deadpool.specs.declared.managed.desk.AgainReply.TheVariants as again
 use Rattle.deadpool.specs.declared.replay.moves.Reply.{Reply}
 use Rattle.deadpool.specs.declared.replay.moves.Reply.TheVariants as reply
-use Rattle.deadpool.proofs.Lists.{set-same, has_number-map, without-twice}
+use Rattle.deadpool.proofs.NumberLists.{without-twice}
 use Rattle.deadpool.proofs.Tickets.{NoTicket, OneTicket, queueing, IsOwned-set, IsOwned-like, IsOwned-unqueued, IsOwned-queueing, tells}
 use Rattle.deadpool.proofs.Settling.{put_off, IsCounted-set, places-image, put-image, put_off-unqueued, put-queueing, unqueued-none}
 use Rattle.deadpool.proofs.Serving.{HasLeft, serves}

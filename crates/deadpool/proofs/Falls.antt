@@ -11,6 +11,7 @@ use Rattle.deadpool_parts.specs.declared.moment.Moment.{Moment}
 use Rattle.deadpool_parts.specs.declared.config.QueueMode.{QueueMode}
 use Rattle.deadpool_parts.specs.declared.config.QueueMode.TheVariants.{Fifo, Lifo}
 use Rattle.deadpool_parts.proofs.Programs.{Always-bind, Always-Gives}
+use Rattle.deadpool_parts.proofs.Lists.{get-set_same}
 use Rattle.deadpool.specs.Outside.{Asking, May}
 use Rattle.deadpool.specs.DeskState.{next_idle, other_idle}
 use Rattle.deadpool.specs.Prepare.{create, prepare, check, lacks_runtime}
@@ -27,7 +28,6 @@ use Rattle.deadpool.specs.declared.managed.prepare.Prepared.TheVariants as prepa
 use Rattle.deadpool.specs.declared.replay.moves.Move.TheVariants as move
 use Rattle.deadpool.specs.declared.replay.moves.Reply.{Reply}
 use Rattle.deadpool.specs.declared.replay.moves.Reply.TheVariants as reply
-use Rattle.deadpool.proofs.ListsLemmas.{get-set_same}
 
 -- where an object is served, one fewer is idle
 pub other_idle-shorter : {V : Type 0} (mode : QueueMode) (idle : List (Slot V)) (slot : Slot V) → next_idle mode idle ≡ Some slot → length (other_idle mode idle) + 1 ≡ length idle

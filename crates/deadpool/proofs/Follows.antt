@@ -7,13 +7,17 @@ use Rattle.std.proofs.lemmas.Bool.Decides.{eqb_tells}
 use Rattle.std.proofs.lemmas.List.{take-append-drop, drop_all}
 use Rattle.deadpool_parts.specs.Numbers.{has_number}
 use Rattle.deadpool_parts.specs.declared.config.Timeouts.{Timeouts}
+use Rattle.deadpool_parts.specs.Orders.{IsOnce}
+use Rattle.deadpool_parts.proofs.Lists.{get-set_same, get-set_other}
+use Rattle.deadpool_parts.proofs.Numbers.{without_number-append, without_number-shorter}
+use Rattle.deadpool_parts.proofs.Orders.{IsOnce-without}
 use Rattle.deadpool.specs.Pool.{Pool, Party, Standing, goes, creates, prepared_at, is_going, is_creating, prepared_by, creating_count, places, size, reach, grants, settle}
 use Rattle.deadpool.specs.Steps.{to, unqueued}
 use Rattle.deadpool.specs.Moves.{NobodyWaits}
-use Rattle.deadpool.specs.Laws.{IsOnce, MarksQueued, IsLawful, queue, waits_at, is_queued}
+use Rattle.deadpool.specs.Laws.{MarksQueued, IsLawful, queue, waits_at, is_queued}
 use Rattle.deadpool.specs.declared.managed.slot.Slot.{Slot}
-use Rattle.deadpool.proofs.ListsLemmas.{one_if, get-set_same, get-set_other, count-set, held-set}
-use Rattle.deadpool.proofs.NumberLists.{has_number-other, without_number-append, without_number-gone, without_number-shorter, IsOnce-without}
+use Rattle.deadpool.proofs.Counts.{one_if, count-set, held-set}
+use Rattle.deadpool.proofs.NumberLists.{has_number-other, without_number-gone}
 
 module _ {V C R S F A : Type 0} where
   -- of all but one, those in the queue stand as queued, and nobody else

@@ -13,6 +13,7 @@ use Rattle.deadpool_parts.specs.declared.config.Timeouts.{Timeouts}
 use Rattle.deadpool_parts.specs.declared.config.QueueMode.{QueueMode}
 use Rattle.deadpool_parts.specs.declared.config.QueueMode.TheVariants.{Fifo, Lifo}
 use Rattle.deadpool_parts.proofs.Programs.{Always-bind}
+use Rattle.deadpool_parts.proofs.Orders.{IsOnce-push}
 use Rattle.deadpool.specs.Outside.{Asking}
 use Rattle.deadpool.specs.DeskState.{next_idle, other_idle}
 use Rattle.deadpool.specs.Prepare.{create, prepare, check, lacks_runtime, with_value}
@@ -31,8 +32,8 @@ use Rattle.deadpool.specs.Metrics.{new_metrics}
 use Rattle.deadpool.specs.declared.managed.prepare.Prepared.{Prepared}
 use Rattle.deadpool.specs.declared.managed.prepare.Prepared.TheVariants as prepared
 use Rattle.deadpool.specs.declared.replay.moves.Reply.{Reply}
-use Rattle.deadpool.proofs.ListsLemmas.{one_if}
-use Rattle.deadpool.proofs.NumberLists.{has_number-push, has_number-last, without_number-once, IsOnce-left, IsOnce-push}
+use Rattle.deadpool.proofs.Counts.{one_if}
+use Rattle.deadpool.proofs.NumberLists.{has_number-push, has_number-last, without_number-once, IsOnce-left}
 use Rattle.deadpool.proofs.SlotLists.{length-with_slot}
 use Rattle.deadpool.proofs.Falls.{other_idle-shorter}
 use Rattle.deadpool.proofs.Follows.{MarksOthers, IsOrderly, Follows, unqueued_gone, unqueued_orderly, unqueued_marks, not_queued, set_marks, counts, standing_at, holds, makes, left_follows, same_places_follow}

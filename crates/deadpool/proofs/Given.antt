@@ -26,7 +26,7 @@ use Rattle.deadpool.specs.declared.replay.moves.Move.{Move}
 use Rattle.deadpool.specs.declared.replay.moves.Move.TheVariants as move
 use Rattle.deadpool.specs.declared.replay.moves.Reply.{Reply}
 use Rattle.deadpool.specs.declared.replay.moves.Reply.TheVariants as reply
-use Rattle.deadpool.proofs.ListsLemmas.{one_if}
+use Rattle.deadpool.proofs.Counts.{one_if}
 use Rattle.deadpool.proofs.NumberCounts.{has_number-held, held-append, held-cons, held-with_slot, find_slot-number}
 
 -- what holds of anything always holds

@@ -3,6 +3,7 @@ pub mod Backs
 pub mod Cancels
 pub mod CoreDesk
 pub mod CoreQueue
+pub mod Counts
 pub mod Ends
 pub mod Entries
 pub mod Falls
@@ -17,8 +18,6 @@ pub mod FollowsMoves
 pub mod Given
 pub mod Hooks
 pub mod Lawful
-pub mod Lists
-pub mod ListsLemmas
 pub mod NumberCounts
 pub mod NumberLists
 pub mod OneList

@@ -1,21 +1,19 @@
 -- What each step of a pool has: the limits, the numbers of its objects, the order of its queue, and what stays.
-use Rattle.std.proofs.Common.{◌≡◌, ◌≢◌, ℕ, ◌+◌, ◌≤◌, List, [], ◌∷◌, ◌++◌, Bool, true, false, not, ◌&&◌, length, set, take, drop, refl, sym, ap, ◌∙◌, arith, Option, Some, None, append_assoc, subst, cond, inl, inr}
+use Rattle.std.proofs.Common.{◌≡◌, ◌≢◌, ℕ, ◌+◌, ◌≤◌, List, [], ◌∷◌, ◌++◌, Bool, false, not, ◌&&◌, length, set, take, drop, refl, sym, ap, ◌∙◌, arith, Option, Some, None, append_assoc, cond, inl, inr}
 use Rattle.std.specs.Prelude.{slice_get, filter, ◌==◌}
-use Rattle.std.proofs.lemmas.Bool.{cases_Bool, eqb-true, or_cases, and_parts}
-use Rattle.std.proofs.lemmas.List.{take-append-drop, append-nil}
+use Rattle.std.proofs.lemmas.Bool.{cases_Bool, and_parts}
+use Rattle.std.proofs.lemmas.List.{take-append-drop}
 use Rattle.deadpool_parts.specs.Numbers.{has_number, without_number}
+use Rattle.deadpool_parts.specs.Orders.{KeepsOrder}
+use Rattle.deadpool_parts.proofs.Lists.{get-set_other}
+use Rattle.deadpool_parts.proofs.Numbers.{without_number-append, without_number-shorter, has_number-without}
+use Rattle.deadpool_parts.proofs.Orders.{order_same, order_joined}
 use Rattle.deadpool.specs.Pool.{Pool, Party, prepared_by, preparing, grants, settle}
 use Rattle.deadpool.specs.Laws.{queue}
-use Rattle.deadpool.specs.RunLaws.{KeepsOrder, HasFewIdle, numbers}
+use Rattle.deadpool.specs.RunLaws.{HasFewIdle, numbers}
 use Rattle.deadpool.specs.declared.managed.slot.Slot.{Slot}
-use Rattle.deadpool.proofs.ListsLemmas.{one_if, get-set_other, count-set}
-use Rattle.deadpool.proofs.NumberLists.{without_number-append, without_number-shorter, has_number-without}
+use Rattle.deadpool.proofs.Counts.{one_if, count-set}
 use Rattle.deadpool.proofs.NumberCounts.{times, held, is_at, times-map, held-append, held-filter_map}
-
--- where all pass the test nothing goes
-filter-all : (xs : List ℕ) → filter (λ n. true) xs ≡ xs
-filter-all [] = refl
-filter-all (x ∷ xs) = ap (λ ys. x ∷ ys) (filter-all xs)
 
 -- two tests, one after the other
 filter-both : (f g : ℕ → Bool) (xs : List ℕ) → filter f (filter g xs) ≡ filter (λ n. g n && f n) xs
@@ -26,13 +24,9 @@ filter-both f g (x ∷ xs) =
       | inr goes ↦ rw goes (filter-both f g xs)
     ]
 
--- a queue that stays
-pub order_same : (xs : List ℕ) → KeepsOrder xs xs
-order_same xs = record { stays = λ n. true; joins = []; is = sym (append-nil (filter (λ n. true) xs) ∙ filter-all xs); few = omega arith; fresh = λ n h. cc }
-
--- and one party goes
-pub order_without : (n : ℕ) (xs ys zs : List ℕ) → KeepsOrder xs (ys ++ zs) → KeepsOrder xs (without_number n ys ++ without_number n zs)
-order_without n xs ys zs k =
+-- in a queue that keeps its order, one party goes
+pub order_left : (n : ℕ) (xs ys zs : List ℕ) → KeepsOrder xs (ys ++ zs) → KeepsOrder xs (without_number n ys ++ without_number n zs)
+order_left n xs ys zs k =
     let fewer = without_number-shorter n k.joins in
     let few = k.few in
     record {
@@ -44,19 +38,9 @@ order_without n xs ys zs k =
       fresh = λ m h. k.fresh m (and_parts (has_number m k.joins) (not (m == n)) (sym (has_number-without m n k.joins) ∙ h)).0;
     }
 
--- one that was not there joins at the end
-pub order_joined : (n : ℕ) (xs ys : List ℕ) → has_number n (xs ++ ys) ≡ false → KeepsOrder (xs ++ ys) (xs ++ (ys ++ n ∷ []))
-order_joined n xs ys gone = record {
-  stays = λ m. true;
-  joins = n ∷ [];
-  is = sym (append_assoc xs ys (n ∷ [])) ∙ ap (λ zs. zs ++ n ∷ []) (sym (filter-all (xs ++ ys)));
-  few = omega arith;
-  fresh = λ m h.
-      elim (or_cases (n == m) false h) [
-        | inl here ↦ subst (λ (k : ℕ). has_number k (xs ++ ys) ≡ false) (eqb-true n m here) gone
-        | inr clash ↦ cc
-      ];
-}
+-- one that was not there joins at the end of its second part
+pub order_pushed : (n : ℕ) (xs ys : List ℕ) → has_number n (xs ++ ys) ≡ false → KeepsOrder (xs ++ ys) (xs ++ (ys ++ n ∷ []))
+order_pushed n xs ys gone = rw (← append_assoc xs ys (n ∷ [])) (order_joined n (xs ++ ys) gone)
 
 module _ {V C R S : Type 0} where
   -- the party prepares the object with the number

@@ -8,7 +8,9 @@ use Rattle.deadpool_parts.specs.Moments.{deadline_after, is_reached, is_positive
 use Rattle.deadpool_parts.specs.Numbers.{has_number, without_number, largest_usize}
 use Rattle.deadpool_parts.specs.Program.{Return, Always}
 use Rattle.deadpool_parts.specs.declared.moment.Moment.{Moment}
+use Rattle.deadpool_parts.specs.Orders.{KeepsOrder}
 use Rattle.deadpool_parts.proofs.Programs.{Always-bind}
+use Rattle.deadpool_parts.proofs.Orders.{order_same}
 use Rattle.deadpool.specs.Outside.{Asking}
 use Rattle.deadpool.specs.DeskState.{next_idle, other_idle}
 use Rattle.deadpool.specs.Prepare.{create, prepare, check, lacks_runtime, with_value, object_of}
@@ -16,7 +18,7 @@ use Rattle.deadpool.specs.Pool.{Pool, Party, Standing, unpolled, queued, going, 
 use Rattle.deadpool.specs.Steps.{to, ended, removed, serve_from, with_slot}
 use Rattle.deadpool.specs.Party.{joined, enter, inquire, hand_out, reviewed, checked, created, go_on_creating, advance_at, advance, cancel_with, cancel}
 use Rattle.deadpool.specs.Laws.{MarksQueued, queue, waits_at}
-use Rattle.deadpool.specs.RunLaws.{KeepsOrder, prepared_in}
+use Rattle.deadpool.specs.RunLaws.{prepared_in}
 use Rattle.deadpool.specs.declared.managed.slot.Slot.{Slot}
 use Rattle.deadpool.specs.declared.managed.prepare.Verdict.{Verdict}
 use Rattle.deadpool.specs.declared.managed.prepare.Verdict.TheVariants as verdict
@@ -26,12 +28,12 @@ use Rattle.deadpool.specs.Metrics.{new_metrics}
 use Rattle.deadpool.specs.declared.managed.prepare.Prepared.{Prepared}
 use Rattle.deadpool.specs.declared.managed.prepare.Prepared.TheVariants as prepared
 use Rattle.deadpool.specs.declared.replay.moves.Reply.{Reply}
-use Rattle.deadpool.proofs.ListsLemmas.{one_if}
+use Rattle.deadpool.proofs.Counts.{one_if}
 use Rattle.deadpool.proofs.Falls.{other_idle-shorter}
 use Rattle.deadpool.proofs.Follows.{not_queued}
 use Rattle.deadpool.proofs.NumberCounts.{held, is_at, held-cons_option, held-served, held-with_slot}
 use Rattle.deadpool.proofs.PreparedNumbers.{Always-then, IsNumber, prepare_number}
-use Rattle.deadpool.proofs.Passes.{Passes, prepares, order_same, order_without, order_joined, passes_self, settle_passes, party_passes}
+use Rattle.deadpool.proofs.Passes.{Passes, prepares, order_left, order_pushed, passes_self, settle_passes, party_passes}
 
 module _ {V E C R S F A : Type 0} where
   -- a step from p, with its answer
@@ -60,7 +62,7 @@ module _ {V C R S F A : Type 0} (E : Type 0) (n : ℕ) (party : Party V C R S) (
   -- it ends, from a queue that is so
   ended_passes : (granted waiting : List ℕ) → KeepsOrder (queue p) (granted ++ waiting) → Passes false (Some n) (its_object party) p (ended n party (record p { granted = granted; waiting = waiting }))
   ended_passes granted waiting order =
-      settle_passes false (Some n) (its_object party) p _ (stands_passes finished (without_number n granted) (without_number n waiting) refl (order_without n (queue p) granted waiting order))
+      settle_passes false (Some n) (its_object party) p _ (stands_passes finished (without_number n granted) (without_number n waiting) refl (order_left n (queue p) granted waiting order))
 
   -- it ends where the queue has not changed
   ends : Passes false (Some n) (its_object party) p (ended n party p)
@@ -84,7 +86,7 @@ module _ {V C R S F A : Type 0} (E : Type 0) (n : ℕ) (party : Party V C R S) (
 
   -- who joins the queue
   joined_passes : (deadline : Option Moment) (found : Bool) → has_number n (queue p) ≡ false → Passed {E = E} (Some n) (its_object party) p (joined n party deadline p found)
-  joined_passes deadline true gone = stands_passes (queued deadline) p.granted (p.waiting ++ n ∷ []) refl (order_joined n p.granted p.waiting gone)
+  joined_passes deadline true gone = stands_passes (queued deadline) p.granted (p.waiting ++ n ∷ []) refl (order_pushed n p.granted p.waiting gone)
   joined_passes deadline false gone = ends
 
   -- the first poll
@@ -104,7 +106,7 @@ module _ {V C R S F A : Type 0} (E : Type 0) (n : ℕ) (party : Party V C R S) (
       cond_both (not p.is_open) _ _ (Passed {E = E} (Some n) (its_object party) p) (λ closed. ends) (λ opens.
       cond_both (has_number n p.granted) _ _ (Passed {E = E} (Some n) (its_object party) p)
       (λ granted.
-      serve_passes (without_number n p.granted) (without_number n p.waiting) (order_without n (queue p) p.granted p.waiting (order_same (queue p)))
+      serve_passes (without_number n p.granted) (without_number n p.waiting) (order_left n (queue p) p.granted p.waiting (order_same (queue p)))
       (next_idle p.mode p.idle) (length p.idle) refl)
       (λ waits.
       cond_both (is_reached deadline now) _ _ (Passed {E = E} (Some n) (its_object party) p) (λ late. ends)
@@ -191,7 +193,7 @@ module _ {V C R S F A : Type 0} (E : Type 0) (n : ℕ) (party : Party V C R S) (
   removed_passes =
       settle_passes false (Some n) (its_object party) p _
       (party_passes n (Some party) None false p.next p.idle p.out (without_number n p.granted) (without_number n p.waiting) (its_object party) p h (omega arith) (omega arith)
-      (order_without n (queue p) p.granted p.waiting (order_same (queue p))) (λ m. omega arith) (λ m. let its = held-its_object m party in omega (arith, its)))
+      (order_left n (queue p) p.granted p.waiting (order_same (queue p))) (λ m. omega arith) (λ m. let its = held-its_object m party in omega (arith, its)))
 
   -- by the object that the party prepared, or none
   cancel_with_passes : (object : Option (Slot V)) → Always (Passed {E = E} (Some n) (its_object party) p) (cancel_with object n p)

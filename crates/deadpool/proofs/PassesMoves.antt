@@ -7,6 +7,8 @@ use Rattle.deadpool_parts.specs.Numbers.{has_number}
 use Rattle.deadpool_parts.specs.Program.{Return, Always}
 use Rattle.deadpool_parts.specs.declared.config.Timeouts.{Timeouts}
 use Rattle.deadpool_parts.proofs.Programs.{Always-bind}
+use Rattle.deadpool_parts.proofs.Lists.{get-append}
+use Rattle.deadpool_parts.proofs.Orders.{order_same}
 use Rattle.deadpool.specs.Outside.{Asking}
 use Rattle.deadpool.specs.Pool.{Pool, Party, unpolled, size, status_of}
 use Rattle.deadpool.specs.Steps.{find_slot, without_slot, with_put, resized, closed, cloned, handle_dropped, most_handles}
@@ -19,10 +21,10 @@ use Rattle.deadpool.specs.declared.replay.moves.Move.{Move}
 use Rattle.deadpool.specs.declared.replay.moves.Move.TheVariants as move
 use Rattle.deadpool.specs.declared.replay.moves.Reply.{Reply}
 use Rattle.deadpool.specs.declared.replay.moves.Reply.TheVariants as reply
-use Rattle.deadpool.proofs.ListsLemmas.{get-append, count-push, filter-shorter}
+use Rattle.deadpool.proofs.Counts.{count-push, filter-shorter}
 use Rattle.deadpool.proofs.SlotLists.{length-without_slot}
 use Rattle.deadpool.proofs.NumberCounts.{held, held-cons, held-append, held-without_slot, held-found, held-with_put, held-drop, held-parts, held-split}
-use Rattle.deadpool.proofs.Passes.{Passes, prepares, order_same, passes_self, settle_passes, objects_pass}
+use Rattle.deadpool.proofs.Passes.{Passes, prepares, passes_self, settle_passes, objects_pass}
 use Rattle.deadpool.proofs.PassesAdvance.{Passed, advance_passes, cancel_passes}
 
 module _ {V : Type 0} where

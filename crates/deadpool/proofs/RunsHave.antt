@@ -1,13 +1,13 @@
 -- What each move keeps holds of every state of every run, and of each two neighbours.
 use Rattle.std.proofs.Common.{◌≡◌, ℕ, List, [], ◌∷◌, sym, subst}
 use Rattle.deadpool_parts.specs.Program.{Gives, Always}
-use Rattle.deadpool_parts.specs.Runs.{last_of, all_states, Each, Neighbours}
+use Rattle.deadpool_parts.specs.Runs.{last_of, all_states, Each, Neighbours, Later}
 use Rattle.deadpool_parts.specs.declared.moment.Moment.{Moment}
 use Rattle.deadpool_parts.proofs.Programs.{Always-Gives}
 use Rattle.deadpool.specs.Outside.{May}
 use Rattle.deadpool.specs.Pool.{Pool}
 use Rattle.deadpool.specs.Moves.{moved, Polls, Makes, PoolRuns}
-use Rattle.deadpool.specs.RunLaws.{Later, EachReply}
+use Rattle.deadpool.specs.RunLaws.{EachReply}
 use Rattle.deadpool.specs.declared.replay.moves.Move.{Move}
 use Rattle.deadpool.specs.declared.replay.moves.Move.TheVariants as move
 use Rattle.deadpool.specs.declared.replay.moves.Reply.{Reply}

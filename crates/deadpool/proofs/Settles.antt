@@ -4,6 +4,7 @@ use Rattle.std.specs.List.{filter, filter_map}
 use Rattle.std.proofs.lemmas.List.{take-map, drop-map, map-append, length-map}
 use Rattle.deadpool_parts.specs.declared.moment.Runtime.{Runtime}
 use Rattle.deadpool_parts.specs.declared.config.Timeouts.{Timeouts}
+use Rattle.deadpool_parts.proofs.Numbers.{has_number-moved}
 use Rattle.deadpool.specs.HookLists.{HookLists}
 use Rattle.deadpool.specs.DeskState.{DeskState, places, grants, settled}
 use Rattle.deadpool.specs.DeskSteps.{is_listed}
@@ -12,7 +13,6 @@ use Rattle.deadpool.specs.Pool.{Pool, Party, is_going, is_creating, prepared_by,
 use Rattle.deadpool.specs.Image.{party_of, owner, image, IsOwned, IsCounted}
 use Rattle.deadpool.specs.declared.managed.slot.Slot.{Slot}
 use Rattle.deadpool.proofs.Tickets.{IsOwned-like}
-use Rattle.deadpool.proofs.Lists.{has_number-moved}
 
 module _ {V : Type 0} where
   -- the queue of a desk where the first n that wait have a place

@@ -1,5 +1,5 @@
 -- The pool that a desk and its gets stand for, as one get changes and as the desk settles.
-use Rattle.std.proofs.Common.{◌≡◌, ℕ, ◌+◌, ◌-◌, ◌≤◌, List, [], ◌∷◌, ◌++◌, true, false, cond, length, set, take, drop, map, min, refl, sym, ap, ◌∙◌, arith, inl, inr, Option, Some, append-nil, if◌then◌else◌}
+use Rattle.std.proofs.Common.{◌≡◌, ℕ, ◌+◌, ◌-◌, ◌≤◌, List, [], ◌∷◌, ◌++◌, true, false, cond, length, set, take, drop, map, min, refl, sym, ap, ◌∙◌, arith, inl, inr, Option, Some, append-nil, if◌then◌else◌, is_some}
 use Rattle.std.specs.List.{slice_get}
 use Rattle.std.proofs.lemmas.Bool.{cases_Bool, cases_lt, or_left, or_right}
 use Rattle.std.proofs.lemmas.List.{map-set, map-append, length-map, length-set}
@@ -16,8 +16,7 @@ use Rattle.deadpool.specs.Steps.{unqueued as pool_unqueued}
 use Rattle.deadpool.specs.Moves.{NobodyWaits}
 use Rattle.deadpool.specs.Image.{party_of, owner, is_under_way, image, IsOwned, IsCounted}
 use Rattle.deadpool.specs.declared.managed.slot.Slot.{Slot}
-use Rattle.deadpool.proofs.Lists.{count_given-set, so_many}
-use Rattle.deadpool.proofs.ListsLemmas.{count-set}
+use Rattle.deadpool.proofs.Counts.{one_if, count-set, held-set}
 use Rattle.deadpool.proofs.Tickets.{NoTicket, OneTicket, queueing, owners-set, owners-absent, owners-unqueued, owners-queueing, owner-queueing}
 
 module _ {V C R S F A : Type 0} where
@@ -52,7 +51,7 @@ module _ {V C R S : Type 0} where
 
   -- an object under preparation
   abbrev pub prepares : Option (Getting V C R S) → ℕ
-  prepares x = so_many (prepared_by (party_of x))
+  prepares x = one_if (is_some (prepared_by (party_of x)))
 
   -- 1 until it has ended
   abbrev pub lasts : Option (Getting V C R S) → ℕ
@@ -73,7 +72,7 @@ module _ {V C R S : Type 0} where
       let here : slice_get (map party_of gets) n ≡ Some (party_of old) = slice_get-map party_of gets n ∙ (rw h refl) in
       let c0 = count-set is_going (map party_of gets) n (party_of old) (party_of new) here in
       let c1 = count-set is_creating (map party_of gets) n (party_of old) (party_of new) here in
-      let c2 = count_given-set prepared_by (map party_of gets) n (party_of old) (party_of new) here in
+      let c2 = held-set prepared_by (map party_of gets) n (party_of old) (party_of new) here in
       let c3 = count-set is_under_way gets n old new h in
       record {
         tickets = o;

@@ -1,12 +1,13 @@
 -- A party starts.
-use Rattle.std.proofs.Common.{◌≡◌, ℕ, ◌+◌, zero, suc, List, [], ◌∷◌, ◌++◌, Bool, true, ◌||◌, length, map, refl, ap, ◌∙◌, arith, inl, inr, ◌⊎◌, Option, Some, length-append, add-one}
-use Rattle.std.specs.List.{slice_get, filter, filter_map}
-use Rattle.std.proofs.lemmas.Bool.{cases_Bool, eq-eqb, or_left, or_right}
+use Rattle.std.proofs.Common.{◌≡◌, ℕ, ◌+◌, List, [], ◌∷◌, ◌++◌, true, map, refl, ap, ◌∙◌, arith, inl, inr, Option, Some, length-append, add-one}
+use Rattle.std.specs.List.{slice_get}
+use Rattle.std.proofs.lemmas.Bool.{cases_Bool, or_left, or_right}
 use Rattle.std.proofs.lemmas.List.{map-append}
-use Rattle.std.proofs.lemmas.List.Elements.{filter-append, filter_map-append}
 use Rattle.deadpool_parts.specs.Numbers.{has_number}
 use Rattle.deadpool_parts.specs.declared.moment.Runtime.{Runtime}
 use Rattle.deadpool_parts.specs.declared.config.Timeouts.{Timeouts}
+use Rattle.deadpool_parts.proofs.Lists.{get-append, get-pushed}
+use Rattle.deadpool_parts.proofs.Numbers.{map_same}
 use Rattle.deadpool.specs.HookLists.{HookLists}
 use Rattle.deadpool.specs.DeskState.{DeskState}
 use Rattle.deadpool.specs.DeskSteps.{is_listed}
@@ -15,35 +16,7 @@ use Rattle.deadpool.specs.Pool.{Party, unpolled, is_going, is_creating, prepared
 use Rattle.deadpool.specs.Image.{party_of, has_ticket, owner, is_under_way, image, IsCounted}
 use Rattle.deadpool.specs.declared.managed.slot.Slot.{Slot}
 use Rattle.deadpool.specs.declared.managed.get.Stage.TheVariants as stage
-
-module _ {X : Type 0} where
-  -- what is there is there in a longer list
-  get-append : (xs ys : List X) (i : ℕ) (x : X) → slice_get xs i ≡ Some x → slice_get (xs ++ ys) i ≡ Some x
-  get-append [] ys i x h = cc
-  get-append (y ∷ xs) ys zero x h = h
-  get-append (y ∷ xs) ys (suc i) x h = get-append xs ys i x h
-
-  -- what is there after a push was there, or was pushed
-  get-push : (xs : List X) (y : X) (i : ℕ) (x : X) → slice_get (xs ++ y ∷ []) i ≡ Some x → (slice_get xs i ≡ Some x) ⊎ (x ≡ y)
-  get-push [] y zero x h = inr cc
-  get-push [] y (suc i) x h = cc
-  get-push (z ∷ xs) y zero x h = inl h
-  get-push (z ∷ xs) y (suc i) x h = get-push xs y i x h
-
-  -- a push is counted by what it passes
-  length-filter-push : (f : X → Bool) (xs : List X) (y : X) (n : ℕ) → length (filter f (y ∷ [])) ≡ n → length (filter f (xs ++ y ∷ [])) ≡ length (filter f xs) + n
-  length-filter-push f xs y n h = ap length (filter-append f xs (y ∷ [])) ∙ length-append (filter f xs) (filter f (y ∷ [])) ∙ ap (λ k. length (filter f xs) + k) h
-
-  -- and so where something is made of each
-  length-filter_map-push : {Y : Type 0} (f : X → Option Y) (xs : List X) (y : X) (n : ℕ) → length (filter_map f (y ∷ [])) ≡ n → length (filter_map f (xs ++ y ∷ [])) ≡ length (filter_map f xs) + n
-  length-filter_map-push f xs y n h = ap length (filter_map-append f xs (y ∷ [])) ∙ length-append (filter_map f xs) (filter_map f (y ∷ [])) ∙ ap (λ k. length (filter_map f xs) + k) h
-
--- two functions that agree on the numbers of a list
-map_same : (f g : ℕ → ℕ) (xs : List ℕ) → ((u : ℕ) → has_number u xs ≡ true → f u ≡ g u) → map f xs ≡ map g xs
-map_same f g [] h = refl
-map_same f g (x ∷ xs) h =
-    let first : f x ≡ g x = h x (ap (λ b. b || has_number x xs) (eq-eqb x x refl)) in
-    let rest : map f xs ≡ map g xs = map_same f g xs (λ u k. h u (or_right _ (has_number u xs) k)) in cc
+use Rattle.deadpool.proofs.Counts.{count-push, held-push}
 
 module _ {V C R S : Type 0} where
   -- a get that is not yet polled
@@ -72,16 +45,16 @@ module _ {V C R S : Type 0} where
       let ps = map party_of gets in
       let new : Option (Party V C R S) = Some record { timeouts = t; standing = unpolled } in
       let e : map party_of (with_newcomer t gets) ≡ ps ++ new ∷ [] = map-append party_of gets (Some (newcomer t) ∷ []) in
-      let c0 = length-filter-push is_going ps new 0 refl in
-      let c1 = length-filter-push is_creating ps new 0 refl in
-      let c2 = length-filter_map-push prepared_by ps new 0 refl in
-      let c3 = length-filter-push is_under_way gets (Some (newcomer t)) 1 refl in
+      let c0 = count-push is_going ps new in
+      let c1 = count-push is_creating ps new in
+      let c2 = held-push prepared_by ps new in
+      let c3 = count-push is_under_way gets (Some (newcomer t)) in
       let longer = length-append gets (Some (newcomer t) ∷ []) in
       record {
         tickets = record {
           owned = λ u h. let w = o.owned u h in
               (w.0, rw (owner-append gets (Some (newcomer t) ∷ []) u w.0 w.1) (get-append gets (Some (newcomer t) ∷ []) (owner gets u) (Some w.0) w.1), w.2);
-          listed = λ n u g h held. elim (get-push gets (Some (newcomer t)) n (Some g) h) [
+          listed = λ n u g h held. elim (get-pushed gets (Some (newcomer t)) n (Some g) h) [
             | inl was ↦ let l = o.listed n u g was held in let w = o.owned u l.0 in (l.0, owner-append gets (Some (newcomer t) ∷ []) u w.0 w.1 ∙ l.1)
             | inr is ↦ let same : g ≡ newcomer t = cc in let none = rw same at held in cc
           ];

@@ -1,35 +1,15 @@
 -- The gets that a queue's tickets stand for.
-use Rattle.std.proofs.Common.{◌≡◌, ◌≢◌, ℕ, ◌+◌, zero, suc, List, [], ◌∷◌, ◌++◌, Bool, true, false, cond, not, ◌||◌, ◌&&◌, eqb, set, map, refl, sym, ap, ◌∙◌, subst, arith, inl, inr, Option, Some, None, eq-eqb, eqb-true}
+use Rattle.std.proofs.Common.{◌≡◌, ◌≢◌, ℕ, ◌+◌, zero, suc, List, [], ◌∷◌, ◌++◌, true, false, cond, not, ◌||◌, ◌&&◌, eqb, set, map, refl, sym, ap, ◌∙◌, subst, arith, inl, inr, Option, Some, None, eq-eqb, eqb-true}
 use Rattle.std.specs.List.{slice_get}
 use Rattle.std.proofs.lemmas.Bool.{cases_Bool, and_parts, not-true, or_cases, or_left, or_right}
-use Rattle.std.proofs.lemmas.Bool.Decides.{eqb_tells, nat_tests}
-use Rattle.std.proofs.lemmas.List.Folds.{list_any-append}
+use Rattle.std.proofs.lemmas.Bool.Decides.{eqb_tells}
 use Rattle.deadpool_parts.specs.Numbers.{has_number, without_number}
+use Rattle.deadpool_parts.proofs.Numbers.{differs_sym, has_number-joined, has_number-parted, has_number-without, without_number-same, map_same, Tells, without-map, absent-map}
+use Rattle.deadpool_parts.proofs.Lists.{get-set_same, get-set_other}
 use Rattle.deadpool.specs.DeskState.{DeskState}
 use Rattle.deadpool.specs.DeskSteps.{is_listed, unqueued}
 use Rattle.deadpool.specs.Stages.{Getting}
 use Rattle.deadpool.specs.Image.{has_ticket, holds_ticket, owner, IsOwned}
-use Rattle.deadpool.proofs.Lists.{map_same, Tells, without-map, absent-map}
-use Rattle.deadpool.proofs.NumberLists.{has_number-without, without_number-same}
-use Rattle.deadpool.proofs.ListsLemmas.{get-set_same, get-set_other}
-
--- one condition on two lists
-or_and : (a b c : Bool) → ((a && c) || (b && c)) ≡ ((a || b) && c)
-or_and true b true = refl
-or_and true true false = refl
-or_and true false false = refl
-or_and false b c = refl
-
--- a search through three parts
-or_last : (a b c : Bool) → (a || (b || (c || false))) ≡ ((a || b) || c)
-or_last true b c = refl
-or_last false true c = refl
-or_last false false true = refl
-or_last false false false = refl
-
--- numbers that differ, differ both ways
-eqb_sym : (a b : ℕ) → eqb a b ≡ false → eqb b a ≡ false
-eqb_sym a b h = grind (arith, nat_tests)
 
 module _ {V : Type 0} where
   -- the queue with one more ticket
@@ -38,16 +18,11 @@ module _ {V : Type 0} where
 
   -- what is listed after a ticket joins
   pub is_listed-queueing : (u t : ℕ) (d : DeskState V) → is_listed u (queueing t d) ≡ (is_listed u d || eqb t u)
-  is_listed-queueing u t d =
-      ap (λ b. has_number u d.granted || b) (list_any-append (λ v. eqb v u) d.waiting (t ∷ []))
-      ∙ or_last (has_number u d.granted) (has_number u d.waiting) (eqb t u)
+  is_listed-queueing u t d = has_number-joined u t d.granted d.waiting
 
   -- and after one leaves
   pub is_listed-unqueued : (u t : ℕ) (d : DeskState V) → is_listed u (unqueued t d) ≡ (is_listed u d && not (eqb u t))
-  is_listed-unqueued u t d =
-      ap (λ b. b || has_number u (without_number t d.waiting)) (has_number-without u t d.granted)
-      ∙ ap (λ b. (has_number u d.granted && not (eqb u t)) || b) (has_number-without u t d.waiting)
-      ∙ or_and (has_number u d.granted) (has_number u d.waiting) (not (eqb u t))
+  is_listed-unqueued u t d = has_number-parted u t d.granted d.waiting
 
 module _ {V C R S : Type 0} where
   -- the get has no ticket
@@ -145,7 +120,7 @@ module _ {V C R S : Type 0} (d : DeskState V) (gets : List (Option (Getting V C 
           owned = λ u k.
               let both : (is_listed u d && not (eqb u t)) ≡ true = sym (is_listed-unqueued u t d) ∙ k in
               let was : is_listed u d ≡ true = (and_parts (is_listed u d) (not (eqb u t)) both).0 in
-              let other : eqb t u ≡ false = eqb_sym u t (not-true (eqb u t) (and_parts (is_listed u d) (not (eqb u t)) both).1) in
+              let other : eqb t u ≡ false = differs_sym u t (not-true (eqb u t) (and_parts (is_listed u d) (not (eqb u t)) both).1) in
               let w = o.owned u was in
               (w.0, rw (same u other, get-set_other gets n (owner gets u) new (not_owner n old u h (one u ∙ other) was)) w.1, w.2);
           listed = λ m u g there holds.
@@ -155,7 +130,7 @@ module _ {V C R S : Type 0} (d : DeskState V) (gets : List (Option (Getting V C 
                     let l = o.listed m u g (sym (get-set_other gets n m new away.1) ∙ there) holds in
                     let other : eqb u t ≡ false =
                     elim (eqb_tells u t) [ inl y ↦ absurd (away.1 (sym l.1 ∙ ap (owner gets) y.1 ∙ mine)) | inr r ↦ r.0 ] in
-                    (is_listed-unqueued u t d ∙ (rw (l.0, other) refl), same u (eqb_sym u t other) ∙ l.1)
+                    (is_listed-unqueued u t d ∙ (rw (l.0, other) refl), same u (differs_sym u t other) ∙ l.1)
               ];
         }
 
@@ -216,7 +191,7 @@ module _ {V C R S : Type 0} (d : DeskState V) (gets : List (Option (Getting V C 
           | inl y ↦ eq-eqb (owner gets u) n (ap (owner gets) y.1 ∙ mine) ∙ sym y.0
           | inr differs ↦
               elim (eqb_tells (owner gets u) n) [
-                | inl y ↦ absurd (not_owner n old u h (one u ∙ eqb_sym u t differs.0) (listed u k) y.1)
+                | inl y ↦ absurd (not_owner n old u h (one u ∙ differs_sym u t differs.0) (listed u k) y.1)
                 | inr r ↦ r.0 ∙ sym differs.0
               ]
         ]
@@ -227,7 +202,7 @@ module _ {V C R S : Type 0} (d : DeskState V) (gets : List (Option (Getting V C 
     owners-unqueued t mine one no_new xs listed =
         map_same (owner (set gets n new)) (owner gets) (without_number t xs)
         (λ u k. owner-set gets n old new u h
-        (one u ∙ eqb_sym u t (not-true (eqb u t) (and_parts (has_number u xs) (not (eqb u t)) (sym (has_number-without u t xs) ∙ k)).1) ∙ sym (no_new u)))
+        (one u ∙ differs_sym u t (not-true (eqb u t) (and_parts (has_number u xs) (not (eqb u t)) (sym (has_number-without u t xs) ∙ k)).1) ∙ sym (no_new u)))
         ∙ sym (without-map (owner gets) n t xs (tells t mine one xs listed))
 
     -- the owners of the others where a get joins

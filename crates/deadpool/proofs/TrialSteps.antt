@@ -4,10 +4,11 @@ use Rattle.std.specs.List.{slice_get}
 use Rattle.std.proofs.lemmas.Bool.Decides.{nat_tests}
 use Rattle.std.proofs.Math.ListN.{length-set}
 use Rattle.deadpool_parts.specs.Program.{Gives}
-use Rattle.deadpool_parts.proofs.Programs.{Always-Gives}
 use Rattle.deadpool_parts.specs.declared.moment.Moment.{Moment}
 use Rattle.deadpool_parts.specs.declared.moment.Runtime.{Runtime}
 use Rattle.deadpool_parts.specs.declared.config.Timeouts.{Timeouts}
+use Rattle.deadpool_parts.proofs.Programs.{Always-Gives}
+use Rattle.deadpool_parts.proofs.Lists.{set-same}
 use Rattle.deadpool.specs.HookLists.{HookLists}
 use Rattle.deadpool.specs.Outside.{May, may}
 use Rattle.deadpool.specs.DeskState.{DeskState}
@@ -31,7 +32,6 @@ use Rattle.deadpool.specs.declared.replay.moves.Move.{Move}
 use Rattle.deadpool.specs.declared.replay.moves.Move.TheVariants as move
 use Rattle.deadpool.specs.declared.replay.moves.Reply.{Reply}
 use Rattle.deadpool.specs.declared.replay.moves.Reply.TheVariants as reply
-use Rattle.deadpool.proofs.Lists.{set-same}
 use Rattle.deadpool.proofs.CoreDesk.{core_desk}
 use Rattle.deadpool.proofs.Simulation.{simulates}
 use Rattle.deadpool.proofs.Cancels.{cancels}

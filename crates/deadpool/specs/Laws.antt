@@ -1,13 +1,9 @@
 -- What is true of every state of every run.
-use Rattle.std.specs.Prelude.{ℕ, ◌≡◌, ◌++◌, ◌∷◌, [], List, ⊤, Bool, true, false, Option, Some, slice_get}
+use Rattle.std.specs.Prelude.{ℕ, ◌≡◌, ◌++◌, List, Bool, true, false, Option, Some, slice_get}
 use Rattle.deadpool_parts.specs.Numbers.{has_number}
+use Rattle.deadpool_parts.specs.Orders.{IsOnce}
 use Rattle.deadpool.specs.Pool.{Pool, Party, Standing, queued}
 use Rattle.deadpool.specs.Moves.{NobodyWaits}
-
--- no number stands in the list twice
-abbrev pub IsOnce : List ℕ → Type 0
-IsOnce [] = ⊤
-IsOnce (n ∷ ns) = (has_number n ns ≡ false) × IsOnce ns
 
 module _ {V C R S : Type 0} where
   abbrev pub waits_at : Standing V C R S → Bool

@@ -2,7 +2,8 @@
 use Rattle.std.specs.Prelude.{◌≡◌, ℕ, ◌+◌, ◌-◌, not, ◌==◌, take, ◌<◌, ◌≤◌, ◌≢◌, Bool, true, false, List, [], ◌∷◌, ◌++◌, length, map, ⊤, Option, Some, None, if◌then◌else◌, is_some, slice_get}
 use Rattle.std.specs.List.{filter, filter_map}
 use Rattle.deadpool_parts.specs.Numbers.{has_number}
-use Rattle.deadpool_parts.specs.Runs.{last_of, all_states, Each, Neighbours}
+use Rattle.deadpool_parts.specs.Orders.{IsOnce, KeepsOrder}
+use Rattle.deadpool_parts.specs.Runs.{last_of, all_states, Each, Neighbours, Later}
 use Rattle.deadpool_parts.specs.declared.config.QueueMode.{QueueMode}
 use Rattle.deadpool_parts.specs.declared.config.Timeouts.{Timeouts}
 use Rattle.deadpool_parts.specs.declared.moment.Runtime.{Runtime}
@@ -10,7 +11,7 @@ use Rattle.deadpool.specs.HookLists.{HookLists}
 use Rattle.deadpool.specs.Outside.{May}
 use Rattle.deadpool.specs.Pool.{Pool, Party, opened, is_going, is_creating, prepared_by, preparing, size, reach}
 use Rattle.deadpool.specs.Moves.{Makes, PoolRuns}
-use Rattle.deadpool.specs.Laws.{IsOnce, IsLawful, queue}
+use Rattle.deadpool.specs.Laws.{IsLawful, queue}
 use Rattle.deadpool.specs.declared.managed.slot.Slot.{Slot}
 use Rattle.deadpool.specs.declared.replay.moves.Move.{Move}
 use Rattle.deadpool.specs.declared.replay.moves.Move.TheVariants as move
@@ -21,19 +22,6 @@ use Rattle.deadpool.specs.declared.replay.moves.Reply.TheVariants as reply
 abbrev pub places_from : {X : Type 0} → ℕ → (X → Bool) → List X → List ℕ
 places_from n f [] = []
 places_from n f (x ∷ xs) = if f x then n ∷ places_from (n + 1) f xs else places_from (n + 1) f xs
-
--- P holds of each and each later one
-abbrev pub Later : {X : Type 0} → (X → X → Type 0) → List X → Type 0
-Later P [] = ⊤
-Later P (x ∷ xs) = Each (P x) xs × Later P xs
-
--- after is before without some of its numbers, and at its end a number that was not there, or none
-pub record KeepsOrder (before after : List ℕ) : Type 0 where
-  pub stays : ℕ → Bool
-  pub joins : List ℕ
-  pub is : after ≡ filter stays before ++ joins
-  pub few : length joins ≤ 1
-  pub fresh : (n : ℕ) → has_number n joins ≡ true → has_number n before ≡ false
 
 module _ {V C R S : Type 0} where
   -- the party prepares an object

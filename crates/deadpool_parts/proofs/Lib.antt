@@ -7,7 +7,9 @@ pub mod GateLinks
 pub mod GateListed
 pub mod GatePlaces
 pub mod GateTickets
+pub mod Lists
 pub mod Numbers
 pub mod Orders
+pub mod Places
 pub mod Programs
 pub mod ReadsBack

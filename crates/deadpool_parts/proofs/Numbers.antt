@@ -1,7 +1,7 @@
 -- Lists of numbers: who is in them, and what is left where one is taken out.
 use Rattle.std.proofs.Common.{◌≡◌, ◌≢◌, ℕ, ◌+◌, ◌≤◌, List, [], ◌∷◌, ◌++◌, Bool, true, false, cond, not, ◌||◌, ◌&&◌, eqb, length, map, take, drop, refl, sym, ap, ◌∙◌, arith, inl, inr}
 use Rattle.std.specs.Prelude.{◌==◌}
-use Rattle.std.proofs.Math.Bool.{or_assoc}
+use Rattle.std.proofs.Math.Bool.{or_assoc, or-false, and-or_distrib_right}
 use Rattle.std.proofs.lemmas.Bool.{eq-eqb, cases_Bool, or_parts, or_right, cond_both}
 use Rattle.std.proofs.lemmas.Bool.Decides.{nat_tests, eqb_tells}
 use Rattle.std.proofs.lemmas.List.{take-append-drop}
@@ -72,6 +72,19 @@ has_number-moved u k xs ys =
     ap (λ b. b || has_number u (drop k ys)) (has_number-append u xs (take k ys))
     ∙ or_assoc (has_number u xs) (has_number u (take k ys)) (has_number u (drop k ys))
     ∙ ap (λ b. has_number u xs || b) (sym (has_number-append u (take k ys) (drop k ys)) ∙ ap (has_number u) (take-append-drop k ys))
+
+-- one more at the end of the second list
+pub has_number-joined : (u t : ℕ) (xs ys : List ℕ) → (has_number u xs || has_number u (ys ++ t ∷ [])) ≡ ((has_number u xs || has_number u ys) || eqb t u)
+has_number-joined u t xs ys =
+    ap (λ b. has_number u xs || b) (has_number-append u ys (t ∷ []) ∙ ap (λ b. has_number u ys || b) (or-false (eqb t u)))
+    ∙ sym (or_assoc (has_number u xs) (has_number u ys) (eqb t u))
+
+-- and one taken out of both
+pub has_number-parted : (u t : ℕ) (xs ys : List ℕ) → (has_number u (without_number t xs) || has_number u (without_number t ys)) ≡ ((has_number u xs || has_number u ys) && not (eqb u t))
+has_number-parted u t xs ys =
+    ap (λ b. b || has_number u (without_number t ys)) (has_number-without u t xs)
+    ∙ ap (λ b. (has_number u xs && not (eqb u t)) || b) (has_number-without u t ys)
+    ∙ sym (and-or_distrib_right (has_number u xs) (has_number u ys) (not (eqb u t)))
 
 -- two maps that agree on the list
 pub map_same : (f g : ℕ → ℕ) (xs : List ℕ) → ((u : ℕ) → has_number u xs ≡ true → f u ≡ g u) → map f xs ≡ map g xs

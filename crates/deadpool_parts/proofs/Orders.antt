@@ -7,8 +7,8 @@ use Rattle.deadpool_parts.specs.Numbers.{has_number, without_number}
 use Rattle.deadpool_parts.specs.Orders.{IsOnce, KeepsOrder}
 use Rattle.deadpool_parts.proofs.Numbers.{differs_sym, has_number-append, has_number-without}
 
--- all pass
-filter-all : (xs : List ℕ) → filter (λ n. true) xs ≡ xs
+-- where all pass the test nothing goes
+pub filter-all : (xs : List ℕ) → filter (λ n. true) xs ≡ xs
 filter-all [] = refl
 filter-all (x ∷ xs) = ap (λ ys. x ∷ ys) (filter-all xs)
 

@@ -26,6 +26,11 @@ Neighbours P [] = ⊤
 Neighbours P (x ∷ []) = ⊤
 Neighbours P (x ∷ y ∷ zs) = P x y × Neighbours P (y ∷ zs)
 
+-- P holds of each and each later one
+abbrev pub Later : {X : Type 0} → (X → X → Type 0) → List X → Type 0
+Later P [] = ⊤
+Later P (x ∷ xs) = Each (P x) xs × Later P xs
+
 -- Makes x m passed r: from x the move m may pass these states, and be answered r
 module _ {X M R : Type 0} (Makes : X → M → List X → R → Type 0) where
   -- A list of moves from a state, with the states that each passed, the replies, and the state after them. Each move begins

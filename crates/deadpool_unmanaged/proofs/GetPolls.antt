@@ -8,6 +8,7 @@ use Rattle.deadpool_parts.specs.Moments.{deadline_after, is_reached}
 use Rattle.deadpool_parts.specs.Numbers.{has_number}
 use Rattle.deadpool_parts.specs.declared.moment.Moment.{Moment}
 use Rattle.deadpool_parts.specs.declared.moment.Runtime.{Runtime}
+use Rattle.deadpool_parts.proofs.Lists.{set-same}
 use Rattle.deadpool_unmanaged.specs.Gets.{PollsGet, stage_entered, turn_entered, stage_asked, turn_asked}
 use Rattle.deadpool_unmanaged.specs.Image.{image, party_of, owner, has_get, has_add, IsCounted}
 use Rattle.deadpool_unmanaged.specs.Laws.{IsLawful}
@@ -33,7 +34,6 @@ use Rattle.deadpool_unmanaged.specs.declared.steps.GetAskReply.TheVariants as as
 use Rattle.deadpool_unmanaged.specs.declared.steps.GetEnterReply.{GetEnterReply}
 use Rattle.deadpool_unmanaged.specs.declared.steps.GetEnterReply.TheVariants as entered
 use Rattle.deadpool_unmanaged.proofs.Follows.{Follows, by_settling, by_resting}
-use Rattle.deadpool_unmanaged.proofs.Lists.{set-same}
 use Rattle.deadpool_unmanaged.proofs.Owners.{renamed-set, granted-renamed}
 use Rattle.deadpool_unmanaged.proofs.Seats.{objects-image, hands_out, counted-handed, party-here, counted-set, image-set, left-none, nobody-set, counted-without_get, image-without_get, counted-joined_get, image-joined_get}
 

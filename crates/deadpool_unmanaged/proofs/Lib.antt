@@ -7,7 +7,6 @@ pub mod GetPolls
 pub mod Items
 pub mod Lawful
 pub mod Lined
-pub mod Lists
 pub mod OtherMoves
 pub mod Owners
 pub mod Parties

@@ -8,10 +8,10 @@ use Rattle.deadpool_parts.specs.Numbers.{has_number, without_number}
 use Rattle.deadpool_parts.specs.Orders.{KeepsOrder}
 use Rattle.deadpool_parts.proofs.Numbers.{has_number-append, has_number-without, without_number-append}
 use Rattle.deadpool_parts.proofs.Orders.{IsOnce-without, IsOnce-push, order_same, order_without, order_joined}
+use Rattle.deadpool_parts.proofs.Lists.{get-set_same, get-set_other, get-append, get-pushed}
 use Rattle.deadpool_unmanaged.specs.Pool.{Party}
 use Rattle.deadpool_unmanaged.specs.Queue.{Queue, members, joined, without, served}
 use Rattle.deadpool_unmanaged.specs.RunLaws.{IsLined}
-use Rattle.deadpool_unmanaged.proofs.Lists.{get-set_same, get-set_other, get-push, get-pushed}
 
 -- the members, as one leaves, joins, or some are granted what they ask for
 members-without : (n : ℕ) (q : Queue) → members (without n q) ≡ without_number n (members q)
@@ -65,7 +65,7 @@ module _ {V : Type 0} (asks : Option (Option (Party V)) → Bool) where
 
       by_cases : (o : Option (Option (Party V))) → slice_get xs m ≡ o → asks (slice_get (xs ++ x ∷ []) m) ≡ asks (slice_get xs m)
       by_cases None e = past e (slice_get (xs ++ x ∷ []) m) refl ∙ sym none ∙ ap asks (sym e)
-      by_cases (Some y) e = ap asks (get-push xs x m y e ∙ sym e)
+      by_cases (Some y) e = ap asks (get-append xs (x ∷ []) m y e ∙ sym e)
 
   -- who is left where n leaves
   left_marks : (q : Queue) (xs ys : List (Option (Party V))) (n : ℕ) → IsLined asks q xs → asks (slice_get ys n) ≡ false → Others n xs ys

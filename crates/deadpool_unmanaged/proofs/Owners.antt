@@ -6,36 +6,17 @@ use Rattle.std.proofs.lemmas.Bool.Decides.{eqb_tells}
 use Rattle.std.proofs.lemmas.List.{map-append}
 use Rattle.std.proofs.lemmas.Option.{slice_get_within}
 use Rattle.deadpool_parts.specs.Numbers.{has_number, without_number}
-use Rattle.deadpool_parts.proofs.Numbers.{differs_sym, has_number-append, has_number-without, has_number-moved, without_number-same, map_same, Tells, has_number-map, without-map, absent-map}
+use Rattle.deadpool_parts.proofs.Numbers.{differs_sym, has_number-without, has_number-moved, has_number-joined, has_number-parted, without_number-same, map_same, Tells, has_number-map, without-map, absent-map}
+use Rattle.deadpool_parts.proofs.Lists.{get-set_same, get-set_other, get-append, get-pushed}
 use Rattle.deadpool_unmanaged.specs.Queue.{Queue, is_listed, joined, without, renamed, granting}
 use Rattle.deadpool_unmanaged.specs.Image.{owner, IsOwned}
-use Rattle.deadpool_unmanaged.proofs.Lists.{get-set_same, get-set_other, get-push, get-pushed}
-
--- one condition on two lists
-or_and : (a b c : Bool) → ((a && c) || (b && c)) ≡ ((a || b) && c)
-or_and true b true = refl
-or_and true true false = refl
-or_and true false false = refl
-or_and false b c = refl
-
--- a search through three parts
-or_last : (a b c : Bool) → (a || (b || (c || false))) ≡ ((a || b) || c)
-or_last true b c = refl
-or_last false true c = refl
-or_last false false true = refl
-or_last false false false = refl
 
 -- who is listed after one joins, leaves, or some are granted what they ask for
 pub is_listed-joined : (u t : ℕ) (q : Queue) → is_listed u (joined t q) ≡ (is_listed u q || eqb t u)
-is_listed-joined u t q =
-    ap (λ b. has_number u q.granted || b) (has_number-append u q.waiting (t ∷ []))
-    ∙ or_last (has_number u q.granted) (has_number u q.waiting) (eqb t u)
+is_listed-joined u t q = has_number-joined u t q.granted q.waiting
 
 pub is_listed-without : (u t : ℕ) (q : Queue) → is_listed u (without t q) ≡ (is_listed u q && not (eqb u t))
-is_listed-without u t q =
-    ap (λ b. b || has_number u (without_number t q.waiting)) (has_number-without u t q.granted)
-    ∙ ap (λ b. (has_number u q.granted && not (eqb u t)) || b) (has_number-without u t q.waiting)
-    ∙ or_and (has_number u q.granted) (has_number u q.waiting) (not (eqb u t))
+is_listed-without u t q = has_number-parted u t q.granted q.waiting
 
 pub is_listed-granting : (u k : ℕ) (q : Queue) → is_listed u (granting k q) ≡ is_listed u q
 is_listed-granting u k q = has_number-moved u k q.granted q.waiting
@@ -120,7 +101,7 @@ module _ {X : Type 0} (has : ℕ → X → Bool) (q : Queue) (xs : List X) (o : 
       record {
         owned = λ u k.
             let w = o.owned u k in
-            (w.0, (rw (owner-push has xs new u (slice_get_within xs (owner has xs u) w.0 w.1.0)) (get-push xs new (owner has xs u) w.0 w.1.0), w.1.1));
+            (w.0, (rw (owner-push has xs new u (slice_get_within xs (owner has xs u) w.0 w.1.0)) (get-append xs (new ∷ []) (owner has xs u) w.0 w.1.0), w.1.1));
         listed = λ n u x there holds.
             elim (get-pushed xs new n x there) [
               | inl old ↦

@@ -7,6 +7,7 @@ use Rattle.deadpool_parts.specs.Moments.{deadline_after, is_reached}
 use Rattle.deadpool_parts.specs.Numbers.{has_number}
 use Rattle.deadpool_parts.specs.declared.moment.Moment.{Moment}
 use Rattle.deadpool_parts.proofs.Numbers.{without_number-shorter, without_number-fewer}
+use Rattle.deadpool_parts.proofs.Lists.{get-set_same, get-set_other}
 use Rattle.deadpool_unmanaged.specs.Pool.{Pool, Party, new_get, queued_get, new_add, queued_add, finished, free_objects, free_room}
 use Rattle.deadpool_unmanaged.specs.RunLaws.{IsWell, CountsOn, KeepsPromises, IsEmptyIfClosed, brings, brought_by, asks_for_object, asks_for_room, copies, so_many, brought_in}
 use Rattle.deadpool_unmanaged.specs.Steps.{lacks_runtime, last_idle, other_idle, left, handed, hand_out, store, ended, enter_get, inquire_get, enter_add, inquire_add, poll, cancelled}
@@ -14,7 +15,6 @@ use Rattle.deadpool_unmanaged.specs.declared.replay.moves.Item.{Item}
 use Rattle.deadpool_unmanaged.specs.declared.replay.moves.Reply.{Reply}
 use Rattle.deadpool_unmanaged.proofs.Copies.{so_many-push, so_many-with, so_many-last, so_many-cons_option, so_many-set}
 use Rattle.deadpool_unmanaged.proofs.Lined.{QueueMoves, set_others, set_quiet}
-use Rattle.deadpool_unmanaged.proofs.Lists.{get-set_same, get-set_other}
 
 module _ {V : Type 0} where
   -- but for the party that is named, each is as it was

@@ -5,19 +5,19 @@ use Rattle.std.specs.declared.time.Duration.{Duration}
 use Rattle.std.proofs.lemmas.Bool.{cases_Bool, cond_both, ltb-true}
 use Rattle.std.proofs.lemmas.Bool.Decides.{nat_tests}
 use Rattle.deadpool_parts.specs.Numbers.{largest_usize}
+use Rattle.deadpool_parts.proofs.Lists.{get-append}
 use Rattle.deadpool_unmanaged.specs.Pool.{Pool, Party, new_get, new_add, free_objects, free_room, status_of}
 use Rattle.deadpool_unmanaged.specs.RunLaws.{IsWell, CountsOn, brings, asks_for_object, asks_for_room, copies, brought_in, named, may_leave}
 use Rattle.deadpool_unmanaged.specs.Steps.{most_handles, find_item, without_item, store, poll, cancelled, try_get, try_store, back, take_out, closed, cloned, handle_dropped}
 use Rattle.deadpool_unmanaged.specs.declared.replay.moves.Item.{Item}
 use Rattle.deadpool_unmanaged.specs.declared.replay.moves.Reply.{Reply}
 use Rattle.deadpool_unmanaged.specs.declared.replay.moves.Reply.TheVariants as reply
-use Rattle.deadpool_unmanaged.proofs.Copies.{one, so_many-push, so_many-without, so_many-found, so_many-added}
-use Rattle.deadpool_unmanaged.proofs.Lined.{push_quiet}
-use Rattle.deadpool_unmanaged.proofs.Lists.{get-push}
-use Rattle.deadpool_unmanaged.proofs.Passes.{Passes, none_drawn, same_passes, cancelled_passes, hand_out_passes, poll_passes}
 use Rattle.deadpool_unmanaged.specs.Moves.{unsettled, by_seat, by_number, by_party, started}
 use Rattle.deadpool_unmanaged.specs.declared.replay.moves.Move.{Move}
 use Rattle.deadpool_unmanaged.specs.declared.replay.moves.Move.TheVariants as move
+use Rattle.deadpool_unmanaged.proofs.Copies.{one, so_many-push, so_many-without, so_many-found, so_many-added}
+use Rattle.deadpool_unmanaged.proofs.Lined.{push_quiet}
+use Rattle.deadpool_unmanaged.proofs.Passes.{Passes, none_drawn, same_passes, cancelled_passes, hand_out_passes, poll_passes}
 
 -- one is left, where it is not none
 some_left : (n : ℕ) → eqb n 0 ≡ false → 0 < n
@@ -77,7 +77,7 @@ module _ {V : Type 0} where
     get_started_passes wait = record {
       counts = none_drawn p (started (new_get wait) p).1 refl (λ n. let more = so_many-added n brings p.parties (Some (new_get wait)) in omega (arith, more));
       stays = λ n. let more = so_many-added n brings p.parties (Some (new_get wait)) in omega (arith, more);
-      parties = λ m x other there. get-push p.parties (Some (new_get wait)) m x there;
+      parties = λ m x other there. get-append p.parties (Some (new_get wait) ∷ []) m x there;
       promises = well.promises;
       closed = well.closed;
       gets = inl (refl, push_quiet asks_for_object p.parties (Some (new_get wait)) refl refl);
@@ -95,7 +95,7 @@ module _ {V : Type 0} where
     add_started_passes v = record {
       counts = one_drawn p (started (new_add (drawn v)) numbered).1 (drawn v) refl refl (λ n. let more = so_many-added n brings p.parties (Some (new_add (drawn v))) in omega (arith, more));
       stays = λ n. let more = so_many-added n brings p.parties (Some (new_add (drawn v))) in omega (arith, more);
-      parties = λ m x other there. get-push p.parties (Some (new_add (drawn v))) m x there;
+      parties = λ m x other there. get-append p.parties (Some (new_add (drawn v)) ∷ []) m x there;
       promises = well.promises;
       closed = well.closed;
       gets = inl (refl, push_quiet asks_for_object p.parties (Some (new_add (drawn v))) refl refl);

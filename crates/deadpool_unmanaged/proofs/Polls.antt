@@ -3,6 +3,7 @@ use Rattle.std.proofs.Common.{◌≡◌, ℕ, List, set, sym, ◌∙◌, subst, 
 use Rattle.std.specs.List.{slice_get}
 use Rattle.deadpool_parts.specs.declared.moment.Moment.{Moment}
 use Rattle.deadpool_parts.specs.declared.moment.Runtime.{Runtime}
+use Rattle.deadpool_parts.proofs.Lists.{set-same}
 use Rattle.deadpool_unmanaged.specs.Adds.{held_by}
 use Rattle.deadpool_unmanaged.specs.Image.{image, IsCounted}
 use Rattle.deadpool_unmanaged.specs.Laws.{IsLawful}
@@ -14,7 +15,6 @@ use Rattle.deadpool_unmanaged.specs.declared.replay.trial.Seat.TheVariants as se
 use Rattle.deadpool_unmanaged.specs.declared.replay.trial.Turn.{Turn}
 use Rattle.deadpool_unmanaged.proofs.AddPolls.{add_polled}
 use Rattle.deadpool_unmanaged.proofs.GetPolls.{Polled, get_polled}
-use Rattle.deadpool_unmanaged.proofs.Lists.{set-same}
 
 module _ {V : Type 0} (runtime : Option Runtime) (most next : ℕ) (d : State (Item V)) (seats : List (Option (Seat V))) (out : List (Item V)) (k : IsCounted d seats out)
     (lawful : IsLawful (image runtime most next d seats out)) (n : ℕ) (now : Moment) where

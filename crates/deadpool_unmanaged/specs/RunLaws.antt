@@ -1,10 +1,10 @@
 -- What is true of every state of every run that begins well, of each two neighbours in it, of each state and each later one,
 -- and of each move.
-use Rattle.std.specs.Prelude.{◌≡◌, ◌≢◌, ℕ, ◌+◌, ◌-◌, ◌<◌, ◌≤◌, Bool, true, false, ◌==◌, List, [], ◌∷◌, ◌++◌, length, ⊤, Option, Some, None, if◌then◌else◌, slice_get}
+use Rattle.std.specs.Prelude.{◌≡◌, ◌≢◌, ℕ, ◌+◌, ◌-◌, ◌<◌, ◌≤◌, Bool, true, false, ◌==◌, List, [], ◌∷◌, ◌++◌, length, Option, Some, None, if◌then◌else◌, slice_get}
 use Rattle.std.specs.List.{filter, filter_map}
 use Rattle.deadpool_parts.specs.Numbers.{has_number}
 use Rattle.deadpool_parts.specs.Orders.{IsOnce, KeepsOrder}
-use Rattle.deadpool_parts.specs.Runs.{all_states, Each, Neighbours}
+use Rattle.deadpool_parts.specs.Runs.{all_states, Each, Neighbours, Later}
 use Rattle.deadpool_parts.specs.declared.moment.Runtime.{Runtime}
 use Rattle.deadpool_unmanaged.specs.Laws.{IsLawful}
 use Rattle.deadpool_unmanaged.specs.Moves.{Makes, PoolRuns}
@@ -14,11 +14,6 @@ use Rattle.deadpool_unmanaged.specs.declared.replay.moves.Item.{Item}
 use Rattle.deadpool_unmanaged.specs.declared.replay.moves.Move.{Move}
 use Rattle.deadpool_unmanaged.specs.declared.replay.moves.Move.TheVariants as move
 use Rattle.deadpool_unmanaged.specs.declared.replay.moves.Reply.{Reply}
-
--- P holds of each and each later one
-abbrev pub Later : {X : Type 0} → (X → X → Type 0) → List X → Type 0
-Later P [] = ⊤
-Later P (x ∷ xs) = Each (P x) xs × Later P xs
 
 module _ {V : Type 0} where
   -- the object that a party is to add

@@ -57,7 +57,6 @@ impl<T: Drop> Core<T> {
         ensures { IfOk result (λ core. core ≡ record { limit = limit; is_open = true; mode = mode; next = first_number; handles = 1; reserve = max 1 limit; idle = []; granted = []; waiting = []; going = 0; creations = 0; outside = 0 }) }
     {
         let ring = HeapCircularBuffer::with_capacity(alloc, limit.max(1))?;
-        let _ = ring.len();
         Ok(Core {
             gate: Gate::new(alloc),
             ring,

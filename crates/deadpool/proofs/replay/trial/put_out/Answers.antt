@@ -1,7 +1,8 @@
 use Rattle.std.proofs.Common.{rules, ◌≡◌, ◌∙◌, nat_lt, length, vec_len, arith, not}
 use Rattle.std.specs.List.{position_or_len}
 use Rattle.std.proofs.lemmas.List.Sums.{prefix_len-le-length}
-use Rattle.deadpool.proofs.SlotLists.{place_or_end, inserted_at_place}
+use Rattle.deadpool_parts.proofs.Places.{place_or_end}
+use Rattle.deadpool.proofs.SlotLists.{inserted_at_place}
 use Rattle.deadpool.proofs.replay.trial.put_out.Goals as goal
 
 pub insert-requires : goal.insert-requires

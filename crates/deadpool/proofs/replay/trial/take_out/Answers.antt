@@ -1,6 +1,7 @@
 use Rattle.std.proofs.Common.{◌≡◌, ◌==◌, Some, None, sym}
 use Rattle.std.specs.List.{position}
-use Rattle.deadpool.proofs.SlotLists.{found_at_place, nothing_found, removed_at_place, none_out}
+use Rattle.deadpool_parts.proofs.Places.{found_at_place, nothing_found}
+use Rattle.deadpool.proofs.SlotLists.{removed_at_place, none_out}
 use Rattle.deadpool.proofs.replay.trial.take_out.Goals as goal
 
 pub returns-in-Some-clause-slot : goal.returns-in-Some-clause-slot

@@ -1,7 +1,8 @@
 use Rattle.std.proofs.Common.{◌∙◌, None, not, subst, ap}
 use Rattle.deadpool_parts.specs.Gate.{without_waiter}
+use Rattle.deadpool_parts.proofs.GateAnswers.{asked-granted, asked-waiting, asked-closed, asked-unknown}
 use Rattle.deadpool.specs.DeskSteps.{Serves}
-use Rattle.deadpool.proofs.CoreQueue.{asked-granted, asked-waiting, asked-closed, asked-unknown, IsSound-without, places-without, state_of-same, state_of-unqueued}
+use Rattle.deadpool.proofs.CoreQueue.{IsSound-without, places-without, state_of-same, state_of-unqueued}
 use Rattle.deadpool.proofs.managed.state.CoreDesk.ask.Goals as goal
 
 pub invariant_of-self : goal.invariant_of-self

@@ -1,6 +1,7 @@
 use Rattle.std.proofs.Common.{◌∙◌, ap}
+use Rattle.deadpool_parts.proofs.GateAnswers.{withdrawn-unknown, withdrawn-known}
 use Rattle.deadpool.specs.DeskState.{settled}
-use Rattle.deadpool.proofs.CoreQueue.{withdrawn-unknown, withdrawn-known, IsSound-without, state_of-same, state_of-unqueued}
+use Rattle.deadpool.proofs.CoreQueue.{IsSound-without, state_of-same, state_of-unqueued}
 use Rattle.deadpool.proofs.managed.state.CoreDesk.cancel.Goals as goal
 
 pub invariant_of-self : goal.invariant_of-self

@@ -1,6 +1,7 @@
 use Rattle.std.proofs.Common.{◌≤◌, not, ap, arith}
+use Rattle.deadpool_parts.proofs.GateAnswers.{entered-waiting, unlisted}
 use Rattle.deadpool.specs.DeskState.{places}
-use Rattle.deadpool.proofs.CoreQueue.{entered-waiting, state_of-arrived, unlisted}
+use Rattle.deadpool.proofs.CoreQueue.{state_of-arrived}
 use Rattle.deadpool.proofs.managed.state.CoreDesk.enter.Goals as goal
 
 pub returns-in-Waiting : goal.returns-in-Waiting

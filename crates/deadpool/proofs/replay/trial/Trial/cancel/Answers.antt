@@ -3,8 +3,8 @@ use Rattle.std.specs.List.{slice_get}
 use Rattle.std.proofs.lemmas.List.{length-map}
 use Rattle.std.proofs.lemmas.Option.{slice_get_read, slice_get_past, slice_get-map}
 use Rattle.std.specs.Option.{option_map}
+use Rattle.deadpool_parts.proofs.Lists.{set-same}
 use Rattle.deadpool.specs.Image.{party_of}
-use Rattle.deadpool.proofs.Lists.{set-same}
 use Rattle.deadpool.proofs.TrialSteps.{cancelled}
 use Rattle.deadpool.proofs.replay.trial.Trial.cancel.Goals as goal
 

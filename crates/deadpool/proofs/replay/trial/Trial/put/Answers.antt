@@ -1,6 +1,7 @@
 use Rattle.std.proofs.Common.{rules, ◌≡◌, ◌==◌, Some, None, length, vec_len, arith, refl}
 use Rattle.std.specs.List.{position}
-use Rattle.deadpool.proofs.SlotLists.{place_within, found_at_place, nothing_found, put_at_place}
+use Rattle.deadpool_parts.proofs.Places.{place_within, found_at_place, nothing_found}
+use Rattle.deadpool.proofs.SlotLists.{put_at_place}
 use Rattle.deadpool.proofs.Puts.{put_counted, put_lawful}
 use Rattle.deadpool.proofs.replay.trial.Trial.put.Goals as goal
 

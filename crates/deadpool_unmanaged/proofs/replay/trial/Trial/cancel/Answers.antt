@@ -3,10 +3,10 @@ use Rattle.std.specs.List.{slice_get}
 use Rattle.std.specs.Option.{option_map}
 use Rattle.std.proofs.lemmas.List.{length-map}
 use Rattle.std.proofs.lemmas.Option.{slice_get_read, slice_get_past, slice_get-map}
+use Rattle.deadpool_parts.proofs.Lists.{set-same}
 use Rattle.deadpool_unmanaged.specs.Image.{party_of}
 use Rattle.deadpool_unmanaged.specs.declared.replay.moves.Move.TheVariants as move
 use Rattle.deadpool_unmanaged.specs.declared.replay.moves.Reply.TheVariants as reply
-use Rattle.deadpool_unmanaged.proofs.Lists.{set-same}
 use Rattle.deadpool_unmanaged.proofs.Parties.{stays, cancels}
 use Rattle.deadpool_unmanaged.proofs.replay.trial.Trial.cancel.Goals as goal
 

@@ -1,15 +1,9 @@
-use Rattle.std.proofs.Common.{rules, ◌≡◌, List, [], ◌∷◌, length, vec_len, arith, refl, append_assoc, append-nil, ◌+◌, ap}
+use Rattle.std.proofs.Common.{rules, ◌≡◌, [], ◌∷◌, length, vec_len, arith, append_assoc, append-nil}
 use Rattle.std.specs.Vec.Iter.{into_iter_items, into_iter_len}
+use Rattle.deadpool_parts.proofs.Lists.{none_left, one_less}
 use Rattle.deadpool_unmanaged.specs.Laws.{IsLawful}
 use Rattle.deadpool_unmanaged.proofs.Runs.{runs_more, runs_end, runs_lawful}
 use Rattle.deadpool_unmanaged.proofs.replay.trial.Trial.run.Goals as goal
-
-none_left : {X : Type 0} (xs : List X) (n : _) → n ≡ length xs → n ≡ 0 → xs ≡ []
-none_left [] n e z = refl
-none_left (x ∷ xs) n e z = cc
-
-one_less : {X : Type 0} (ys xs : List X) (x : X) (n k : _) → n ≡ length ys → ys ≡ x ∷ xs → k + 1 ≡ n → k ≡ length xs
-one_less ys xs x n k e is less = let longer : length ys ≡ length (x ∷ xs) = ap length is in omega (arith, longer, e, less)
 
 pub loop-first-init : goal.loop-first-init
 loop-first-init g c =

@@ -1,5 +1,5 @@
--- What setting or adding one element changes in a list.
-use Rattle.std.proofs.Common.{◌≡◌, ◌≢◌, ℕ, zero, suc, List, [], ◌∷◌, ◌++◌, set, refl, sym, ap, inl, inr, Some, ◌⊎◌}
+-- What setting or adding one element changes in a list, and a list that is gone through.
+use Rattle.std.proofs.Common.{◌≡◌, ◌≢◌, ℕ, ◌+◌, zero, suc, List, [], ◌∷◌, ◌++◌, length, set, refl, sym, ap, arith, inl, inr, Some, ◌⊎◌}
 use Rattle.std.specs.List.{slice_get}
 
 module _ {X : Type 0} where
@@ -23,15 +23,24 @@ module _ {X : Type 0} where
   get-set_other (x ∷ xs) (suc n) zero new h = refl
   get-set_other (x ∷ xs) (suc n) (suc m) new h = get-set_other xs n m new (λ e. h (ap suc e))
 
-  -- an element stays where one more is added at the back
-  pub get-push : (xs : List X) (y : X) (n : ℕ) (x : X) → slice_get xs n ≡ Some x → slice_get (xs ++ y ∷ []) n ≡ Some x
-  get-push [] y n x h = cc
-  get-push (z ∷ xs) y zero x h = h
-  get-push (z ∷ xs) y (suc n) x h = get-push xs y n x h
+  -- an element stays where more are added at the back
+  pub get-append : (xs ys : List X) (n : ℕ) (x : X) → slice_get xs n ≡ Some x → slice_get (xs ++ ys) n ≡ Some x
+  get-append [] ys n x h = cc
+  get-append (y ∷ xs) ys zero x h = h
+  get-append (y ∷ xs) ys (suc n) x h = get-append xs ys n x h
 
-  -- and any other is the one that was added
+  -- where one is added, any other is that one
   pub get-pushed : (xs : List X) (y : X) (n : ℕ) (x : X) → slice_get (xs ++ y ∷ []) n ≡ Some x → (slice_get xs n ≡ Some x) ⊎ (x ≡ y)
   get-pushed [] y zero x h = inr (let same : x ≡ y = cc in same)
   get-pushed [] y (suc n) x h = cc
   get-pushed (z ∷ xs) y zero x h = inl h
   get-pushed (z ∷ xs) y (suc n) x h = get-pushed xs y n x h
+
+  -- a list that is gone through ends where none is left
+  pub none_left : (xs : List X) (n : ℕ) → n ≡ length xs → n ≡ 0 → xs ≡ []
+  none_left [] n e z = refl
+  none_left (x ∷ xs) n e z = cc
+
+  -- and else one less is left
+  pub one_less : (ys xs : List X) (x : X) (n k : ℕ) → n ≡ length ys → ys ≡ x ∷ xs → k + 1 ≡ n → k ≡ length xs
+  one_less ys xs x n k e is less = let longer : length ys ≡ length (x ∷ xs) = ap length is in omega (arith, longer, e, less)
