@@ -14,6 +14,7 @@ use Rattle.deadpool_parts.specs.declared.errors.PoolError.TheVariants.{Timeout, 
 use Rattle.deadpool_parts.specs.declared.errors.TimeoutType.TheVariants as phase
 use Rattle.deadpool_parts.proofs.Programs.{Gives-bind}
 use Rattle.deadpool_parts.proofs.Lists.{set-same}
+use Rattle.deadpool_parts.proofs.Owners.{owned-set}
 use Rattle.deadpool.specs.Calls.{start}
 use Rattle.deadpool.specs.Metrics.{new_metrics}
 use Rattle.deadpool.specs.HookLists.{HookLists}
@@ -26,7 +27,7 @@ use Rattle.deadpool.specs.Get.{Made, no_step, discarding, creating, failing, ref
 use Rattle.deadpool.specs.Pool.{Pool, Party}
 use Rattle.deadpool.specs.Steps.{fail, rest, go_on, with_slot}
 use Rattle.deadpool.specs.Party.{created, reviewed, checked, hand_out, advance_at}
-use Rattle.deadpool.specs.Image.{party_of, standing_of, image, IsCounted}
+use Rattle.deadpool.specs.Image.{party_of, standing_of, image, IsCounted, has_ticket, queue_of}
 use Rattle.deadpool.specs.TrialFields.{given, reply_to}
 use Rattle.deadpool.specs.declared.managed.slot.Slot.{Slot}
 use Rattle.deadpool.specs.declared.managed.prepare.Position.{Position}
@@ -45,7 +46,7 @@ use Rattle.deadpool.specs.declared.managed.desk.CreatedReply.TheVariants as numb
 use Rattle.deadpool.specs.declared.replay.moves.Reply.{Reply}
 use Rattle.deadpool.specs.declared.replay.moves.Reply.TheVariants as reply
 use Rattle.deadpool.proofs.SlotLists.{length-with_slot}
-use Rattle.deadpool.proofs.Tickets.{NoTicket, IsOwned-set, IsOwned-like}
+use Rattle.deadpool.proofs.Tickets.{NoTicket, owned-same}
 use Rattle.deadpool.proofs.Settles.{counted_settled}
 use Rattle.deadpool.proofs.Settling.{goes, creates, prepares, lasts, Shifts, put, put_off, IsCounted-set, put-image, put_off-image}
 use Rattle.deadpool.proofs.Ends.{Gives-same, holds_creation, holds_object, ends_free}
@@ -83,7 +84,7 @@ module _ {V E C R S F A : Type 0} (may : May V E C R S F A) (runtime : Option Ru
         → Shifts core d (stands old) (stands s) out out' → IsCounted d (set gets n (stands s)) out'
     moves_on d s out' e f no_new shifts =
         IsCounted-set core d gets n (stands old) (stands s) out out' h k
-        (IsOwned-like core (set gets n (stands s)) (IsOwned-set core gets k.tickets n (stands old) (stands s) h none no_new) d e f) shifts
+        (owned-same core d (set gets n (stands s)) (owned-set has_ticket (queue_of core) gets k.tickets n (stands old) (stands s) h none no_new) e f) shifts
 
     -- its party stands elsewhere
     put_as : (s : Stage V C R S) → NoTicket (stands s) → put n (party_of (stands s)) pool ≡ image runtime hooks timeouts first most core (set gets n (stands s)) out

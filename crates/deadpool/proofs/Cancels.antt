@@ -6,6 +6,8 @@ use Rattle.deadpool_parts.specs.Program.{Gives}
 use Rattle.deadpool_parts.specs.declared.moment.Moment.{Moment}
 use Rattle.deadpool_parts.specs.declared.moment.Runtime.{Runtime}
 use Rattle.deadpool_parts.specs.declared.config.Timeouts.{Timeouts}
+use Rattle.deadpool_parts.specs.Owners.{owner}
+use Rattle.deadpool_parts.proofs.Owners.{owned-set, owned-leaves}
 use Rattle.deadpool.specs.HookLists.{HookLists}
 use Rattle.deadpool.specs.DeskState.{DeskState, settled}
 use Rattle.deadpool.specs.DeskSteps.{is_listed, unqueued, Fails, Refuses, Cancels as DeskCancels}
@@ -18,7 +20,7 @@ use Rattle.deadpool.specs.Steps.{removed}
 use Rattle.deadpool.specs.Party.{cancel}
 use Rattle.deadpool.specs.Moves.{NobodyWaits, by_party, moved}
 use Rattle.deadpool.specs.Laws.{IsLawful}
-use Rattle.deadpool.specs.Image.{party_of, standing_of, owner, image, IsCounted}
+use Rattle.deadpool.specs.Image.{party_of, standing_of, has_ticket, queue_of, image, IsCounted}
 use Rattle.deadpool.specs.declared.managed.slot.Slot.{Slot}
 use Rattle.deadpool.specs.declared.managed.get.Stage.{Stage}
 use Rattle.deadpool.specs.declared.managed.get.Stage.TheVariants as stage
@@ -29,7 +31,7 @@ use Rattle.deadpool.specs.declared.managed.desk.Held.TheVariants as held
 use Rattle.deadpool.specs.declared.replay.moves.Move.TheVariants as move
 use Rattle.deadpool.specs.declared.replay.moves.Reply.TheVariants as reply
 use Rattle.deadpool.proofs.CoreDesk.{core_desk}
-use Rattle.deadpool.proofs.Tickets.{NoTicket, IsOwned-set, IsOwned-like, IsOwned-unqueued}
+use Rattle.deadpool.proofs.Tickets.{NoTicket}
 use Rattle.deadpool.proofs.Settles.{counted_settled}
 use Rattle.deadpool.proofs.Settling.{goes, creates, prepares, Shifts, IsCounted-set, put_off-image, put_off-unqueued}
 use Rattle.deadpool.proofs.Ends.{Gives-same, holds_place, holds_creation, holds_object, ends_free, ends_empty}
@@ -63,7 +65,7 @@ module _ {V E C R S F A : Type 0} (may : May V E C R S F A) (runtime : Option Ru
   removes_empty : (old : Stage V C R S) → slice_get gets n ≡ Some (stands old) → NoTicket (stands old) → Shifts core core (stands old) None out out → Removes core
   removes_empty old h none shifts =
       let counted : IsCounted core gone out =
-      IsCounted-set core core gets n (stands old) None out out h k (IsOwned-set core gets k.tickets n (stands old) None h none (λ u. refl)) shifts in
+      IsCounted-set core core gets n (stands old) None out out h k (owned-set has_ticket (queue_of core) gets k.tickets n (stands old) None h none (λ u. refl)) shifts in
       (ends_empty runtime hooks timeouts first most core gets out n None k nobody (stands old) h none (λ u. refl) counted, counted)
 
   -- a get that held a place, and is counted no more
@@ -74,7 +76,7 @@ module _ {V E C R S F A : Type 0} (may : May V E C R S F A) (runtime : Option Ru
       let left : DeskState V = record core { going = going; creations = creations; outside = outside } in
       let counted : IsCounted left gone out =
       IsCounted-set core left gets n (stands old) None out out h k
-      (IsOwned-like core gone (IsOwned-set core gets k.tickets n (stands old) None h none (λ u. refl)) left refl refl) shifts in (
+      (owned-set has_ticket (queue_of core) gets k.tickets n (stands old) None h none (λ u. refl)) shifts in (
         ends_free runtime hooks timeouts first most core gets out n None left
             (put_off-image runtime hooks timeouts first most core gets out k.tickets n (stands old) None h none (λ u. refl)) counted,
         counted_settled left gone out counted,
@@ -82,8 +84,8 @@ module _ {V E C R S F A : Type 0} (may : May V E C R S F A) (runtime : Option Ru
 
   module _ (ticket : ℕ) (deadline : Option Moment) (h : slice_get gets n ≡ Some (stands (stage.Queued ticket deadline))) where
     -- the ticket is in the queue, and is its own
-    is_ours : (is_listed ticket core ≡ true) × (owner gets ticket ≡ n)
-    is_ours = k.tickets.listed n ticket record { timeouts = own; stage = stage.Queued ticket deadline } h (eq-eqb ticket ticket refl)
+    is_ours : (is_listed ticket core ≡ true) × (owner has_ticket gets ticket ≡ n)
+    is_ours = k.tickets.listed n ticket (stands (stage.Queued ticket deadline)) h (eq-eqb ticket ticket refl)
 
     -- a get in the queue
     removes_queued : Removes (settled (unqueued ticket core))
@@ -92,7 +94,7 @@ module _ {V E C R S F A : Type 0} (may : May V E C R S F A) (runtime : Option Ru
         let old : Option (Getting V C R S) = stands (stage.Queued ticket deadline) in
         let counted : IsCounted left gone out =
         IsCounted-set core left gets n old None out out h k
-        (IsOwned-unqueued core gets k.tickets n old None h ticket is_ours.0 is_ours.1 (λ u. refl) (λ u. refl))
+        (owned-leaves has_ticket (queue_of core) gets k.tickets n old None h ticket is_ours.1 (λ u. refl) (λ u. refl))
         record { going = refl; creations = refl; outside = refl; room = omega arith } in (
           ends_free runtime hooks timeouts first most core gets out n None left
               (put_off-unqueued runtime hooks timeouts first most core gets out k.tickets n old None h ticket is_ours.1 (λ u. refl) (λ u. refl)) counted,

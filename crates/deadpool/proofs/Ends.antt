@@ -6,17 +6,19 @@ use Rattle.deadpool_parts.specs.Numbers.{has_number, without_number}
 use Rattle.deadpool_parts.specs.Program.{Program, Gives}
 use Rattle.deadpool_parts.specs.declared.moment.Runtime.{Runtime}
 use Rattle.deadpool_parts.specs.declared.config.Timeouts.{Timeouts}
+use Rattle.deadpool_parts.specs.Owners.{owner}
 use Rattle.deadpool_parts.proofs.Numbers.{without_number-same}
+use Rattle.deadpool_parts.proofs.Owners.{renamed-set}
 use Rattle.deadpool.specs.HookLists.{HookLists}
 use Rattle.deadpool.specs.DeskState.{DeskState, places, settled}
 use Rattle.deadpool.specs.DeskSteps.{unqueued}
 use Rattle.deadpool.specs.Stages.{Getting}
 use Rattle.deadpool.specs.Pool.{Pool, is_going, is_creating, prepared_by, places as pool_places, settle}
 use Rattle.deadpool.specs.Moves.{NobodyWaits}
-use Rattle.deadpool.specs.Image.{party_of, owner, image, IsCounted}
+use Rattle.deadpool.specs.Image.{party_of, has_ticket, queue_of, image, IsCounted}
 use Rattle.deadpool.specs.declared.managed.slot.Slot.{Slot}
 use Rattle.deadpool.proofs.Counts.{count-set, held-set}
-use Rattle.deadpool.proofs.Tickets.{NoTicket, owners-set}
+use Rattle.deadpool.proofs.Tickets.{NoTicket}
 use Rattle.deadpool.proofs.Settles.{settles, counts_of}
 use Rattle.deadpool.proofs.Settling.{goes, creates, prepares, put_off, put_off-image, settle-none, places-image}
 
@@ -72,7 +74,7 @@ module _ {V C R S F A : Type 0} (runtime : Option Runtime) (hooks : HookLists F 
         let same : pool_places (after core) ≡ pool_places pool =
         places-image runtime hooks timeouts first most core (set gets n new) out k' ∙ sym (places-image runtime hooks timeouts first most core gets out k) in
         ends_quietly core (put_off-image runtime hooks timeouts first most core gets out k.tickets n old new h none no_new)
-        (λ is_open free. owners-set core gets k.tickets n old new h core.waiting none no_new ∙ nobody is_open (subst (λ m. m < core.limit) same free))
+        (λ is_open free. ap (λ q. q.waiting) (renamed-set has_ticket (queue_of core) gets k.tickets n old new h none no_new) ∙ nobody is_open (subst (λ m. m < core.limit) same free))
 
     -- a get that waits leaves the queue: since it waited, no place was free
     pub nobody_waits-unqueued : (t : ℕ) → has_number t core.granted ≡ false → has_number t core.waiting ≡ true → IsCounted (unqueued t core) (set gets n new) out
@@ -83,9 +85,9 @@ module _ {V C R S F A : Type 0} (runtime : Option Runtime) (hooks : HookLists F 
         let same : pool_places (after (unqueued t core)) ≡ pool_places pool =
         places-image runtime hooks timeouts first most (unqueued t core) (set gets n new) out k' ∙ as_many
         ∙ sym (places-image runtime hooks timeouts first most core gets out k) in
-        let none : map (owner gets) core.waiting ≡ [] = nobody is_open (subst (λ m. m < core.limit) same free) in
+        let none : map (owner has_ticket gets) core.waiting ≡ [] = nobody is_open (subst (λ m. m < core.limit) same free) in
         absurd (waits_not core.waiting none waits)
       where
-        waits_not : (xs : List ℕ) → map (owner gets) xs ≡ [] → has_number t xs ≡ true → ⊥
+        waits_not : (xs : List ℕ) → map (owner has_ticket gets) xs ≡ [] → has_number t xs ≡ true → ⊥
         waits_not [] e w = cc
         waits_not (x ∷ xs) e w = cc

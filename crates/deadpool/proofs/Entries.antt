@@ -1,7 +1,6 @@
 -- Advances of a get that was not polled, that is in the queue, or that holds a place and nothing else.
 use Rattle.std.proofs.Common.{◌≡◌, ℕ, ◌-◌, ◌<◌, ◌≤◌, List, Bool, true, false, not, ◌&&◌, set, map, refl, sym, ap, ◌∙◌, subst, arith, Option, Some, None, Err, is_none, nat_lt, option_map, eq-eqb, lt-ltb, le-ltb}
 use Rattle.std.specs.List.{slice_get}
-use Rattle.std.proofs.lemmas.Bool.{or_left}
 use Rattle.std.proofs.lemmas.Option.{slice_get-map}
 use Rattle.deadpool_parts.specs.Moments.{deadline_after, is_reached, is_positive}
 use Rattle.deadpool_parts.specs.Numbers.{has_number, without_number}
@@ -12,8 +11,9 @@ use Rattle.deadpool_parts.specs.declared.config.Timeouts.{Timeouts}
 use Rattle.deadpool_parts.specs.declared.errors.PoolError.{PoolError}
 use Rattle.deadpool_parts.specs.declared.errors.PoolError.TheVariants.{Timeout, Closed, NoRuntimeSpecified, OutOfMemory}
 use Rattle.deadpool_parts.specs.declared.errors.TimeoutType.TheVariants as phase
+use Rattle.deadpool_parts.specs.Owners.{owner}
 use Rattle.deadpool_parts.proofs.Lists.{set-same}
-use Rattle.deadpool_parts.proofs.Numbers.{has_number-map}
+use Rattle.deadpool_parts.proofs.Owners.{owned-set, owned-joins, owned-leaves, granted-renamed}
 use Rattle.deadpool.specs.HookLists.{HookLists}
 use Rattle.deadpool.specs.DeskState.{DeskState, places}
 use Rattle.deadpool.specs.DeskSteps.{is_listed, unqueued, Enters, Asks, GoesOn}
@@ -24,7 +24,7 @@ use Rattle.deadpool.specs.Pool.{Pool, Party, unpolled, queued, going, places as 
 use Rattle.deadpool.specs.Steps.{unqueued as pool_unqueued, fail, rest, serve}
 use Rattle.deadpool.specs.Party.{enter, inquire, joined, advance_at}
 use Rattle.deadpool.specs.Moves.{NobodyWaits}
-use Rattle.deadpool.specs.Image.{party_of, standing_of, owner, image, IsOwned, IsCounted}
+use Rattle.deadpool.specs.Image.{party_of, standing_of, has_ticket, queue_of, image, IsCounted}
 use Rattle.deadpool.specs.TrialFields.{given, reply_to}
 use Rattle.deadpool.specs.declared.managed.slot.Slot.{Slot}
 use Rattle.deadpool.specs.declared.managed.get.Stage.{Stage}
@@ -40,7 +40,7 @@ use Rattle.deadpool.specs.declared.managed.desk.AgainReply.TheVariants as again
 use Rattle.deadpool.specs.declared.replay.moves.Reply.{Reply}
 use Rattle.deadpool.specs.declared.replay.moves.Reply.TheVariants as reply
 use Rattle.deadpool.proofs.NumberLists.{without-twice}
-use Rattle.deadpool.proofs.Tickets.{NoTicket, OneTicket, queueing, IsOwned-set, IsOwned-like, IsOwned-unqueued, IsOwned-queueing, tells}
+use Rattle.deadpool.proofs.Tickets.{Owns, NoTicket, OneTicket, queueing}
 use Rattle.deadpool.proofs.Settling.{put_off, IsCounted-set, places-image, put-image, put_off-unqueued, put-queueing, unqueued-none}
 use Rattle.deadpool.proofs.Serving.{HasLeft, serves}
 use Rattle.deadpool.proofs.Ends.{Gives-same, holds_place, ends_quietly, ends_empty, nobody_waits-closed, nobody_waits-unqueued}
@@ -134,7 +134,7 @@ module _ {V E C R S F A : Type 0} (may : May V E C R S F A) (runtime : Option Ru
     entry_counted : Counted core stage.Finished
     entry_counted =
         IsCounted-set core core gets n (stands stage.Unpolled) (stands stage.Finished) out out h k
-        (IsOwned-set core gets k.tickets n (stands stage.Unpolled) (stands stage.Finished) h (λ u. refl) (λ u. refl))
+        (owned-set has_ticket (queue_of core) gets k.tickets n (stands stage.Unpolled) (stands stage.Finished) h (λ u. refl) (λ u. refl))
         record { going = refl; creations = refl; outside = refl; room = omega arith }
 
     -- an entry that is refused
@@ -144,10 +144,10 @@ module _ {V E C R S F A : Type 0} (may : May V E C R S F A) (runtime : Option Ru
         (ends_empty runtime hooks timeouts first most core gets out n (stands stage.Finished) k nobody (stands stage.Unpolled) h (λ u. refl) (λ u. refl) entry_counted)
 
     -- a get that was not polled is in no count
-    entry_left : HasLeft runtime hooks timeouts first most n core core gets out own stage.Unpolled unpolled (map (owner gets) core.granted) (map (owner gets) core.waiting) h k
+    entry_left : HasLeft runtime hooks timeouts first most n core core gets out own stage.Unpolled unpolled (map (owner has_ticket gets) core.granted) (map (owner has_ticket gets) core.waiting) h k
     entry_left =
         record {
-          owned = λ s none. IsOwned-set core gets k.tickets n (stands stage.Unpolled) (stands s) h (λ u. refl) none;
+          owned = λ s none. owned-set has_ticket (queue_of core) gets k.tickets n (stands stage.Unpolled) (stands s) h (λ u. refl) none;
           named = λ s none. put-image runtime hooks timeouts first most core gets out k.tickets n (stands stage.Unpolled) (stands s) h (λ u. refl) none;
           unqueued = unqueued-none runtime hooks timeouts first most core gets out k.tickets n (stands stage.Unpolled) None h (λ u. refl);
           going = omega arith;
@@ -183,7 +183,7 @@ module _ {V E C R S F A : Type 0} (may : May V E C R S F A) (runtime : Option Ru
                 ),
               ),
               IsCounted-set core (queueing t core) gets n (stands stage.Unpolled) (stands new) out out h k
-                  (IsOwned-queueing core gets k.tickets n (stands stage.Unpolled) (stands new) h t fresh (λ u. refl) (λ u. refl))
+                  (owned-joins has_ticket (queue_of core) gets k.tickets n (stands stage.Unpolled) (stands new) h t fresh (λ u. refl) (λ u. refl))
                   record { going = refl; creations = refl; outside = refl; room = omega arith },
             )
 
@@ -199,7 +199,7 @@ module _ {V E C R S F A : Type 0} (may : May V E C R S F A) (runtime : Option Ru
         pub from_entered : (wait : Bool) (reply : EnterReply V) (s : Stage V C R S) (t : Turn V E) → wait ≡ not (is_reached (deadline_after now own.wait) now)
             → Enters core wait reply core' → AfterEntered (deadline_after now own.wait) reply s t → Goal stage.Unpolled core' s t
         from_entered wait (entered.Served served) s t w e a =
-            let all = serves runtime hooks timeouts first most n core core gets out own stage.Unpolled unpolled (map (owner gets) core.granted) (map (owner gets) core.waiting) h k entry_left
+            let all = serves runtime hooks timeouts first most n core core gets out own stage.Unpolled unpolled (map (owner has_ticket gets) core.granted) (map (owner has_ticket gets) core.waiting) h k entry_left
             core' None served s t e.2 a in
             (Gives-same may _ _ _ (enter-served n (party stage.Unpolled) now pool runs e.0 (free_as e.1)) all.0, all.1)
         from_entered wait entered.Closed s t w e a =
@@ -225,11 +225,10 @@ module _ {V E C R S F A : Type 0} (may : May V E C R S F A) (runtime : Option Ru
 
     -- then it is in no count
     going_left : 0 < core.going
-        → HasLeft runtime hooks timeouts first most n core without_place gets out own (stage.Going allowance) (going allowance) (map (owner gets) core.granted) (map (owner gets) core.waiting) h k
+        → HasLeft runtime hooks timeouts first most n core without_place gets out own (stage.Going allowance) (going allowance) (map (owner has_ticket gets) core.granted) (map (owner has_ticket gets) core.waiting) h k
     going_left some =
         record {
-          owned = λ s none.
-              IsOwned-like core (set gets n (stands s)) (IsOwned-set core gets k.tickets n (stands (stage.Going allowance)) (stands s) h (λ u. refl) none) without_place refl refl;
+          owned = λ s none. owned-set has_ticket (queue_of core) gets k.tickets n (stands (stage.Going allowance)) (stands s) h (λ u. refl) none;
           named = λ s none. put-image runtime hooks timeouts first most core gets out k.tickets n (stands (stage.Going allowance)) (stands s) h (λ u. refl) none;
           unqueued = unqueued-none runtime hooks timeouts first most core gets out k.tickets n (stands (stage.Going allowance)) None h (λ u. refl);
           going = omega arith;
@@ -243,7 +242,7 @@ module _ {V E C R S F A : Type 0} (may : May V E C R S F A) (runtime : Option Ru
     -- a get that holds a place and nothing else
     pub from_going : (reply : AgainReply V) (s : Stage V C R S) (t : Turn V E) → GoesOn core allowance reply core' → AfterGoingOn reply s t → Goal (stage.Going allowance) core' s t
     from_going (again.Served served) s t e a =
-        serves runtime hooks timeouts first most n core without_place gets out own (stage.Going allowance) (going allowance) (map (owner gets) core.granted) (map (owner gets) core.waiting) h k
+        serves runtime hooks timeouts first most n core without_place gets out own (stage.Going allowance) (going allowance) (map (owner has_ticket gets) core.granted) (map (owner has_ticket gets) core.waiting) h k
         (going_left e.0) core' allowance served s t e.1 a
     from_going again.Unknown s t e a =
         absurd (let one : 1 ≤ core.going = holds_place core gets out k n (stands (stage.Going allowance)) h in omega (arith, one, e.0))
@@ -262,14 +261,12 @@ module _ {V E C R S F A : Type 0} (may : May V E C R S F A) (runtime : Option Ru
     one_ticket u = refl
 
     -- the ticket is in the queue, and is its own
-    is_ours : (is_listed ticket core ≡ true) × (owner gets ticket ≡ n)
-    is_ours = k.tickets.listed n ticket record { timeouts = own; stage = stage.Queued ticket deadline } h (eq-eqb ticket ticket refl)
+    is_ours : (is_listed ticket core ≡ true) × (owner has_ticket gets ticket ≡ n)
+    is_ours = k.tickets.listed n ticket waiter h (eq-eqb ticket ticket refl)
 
     -- its party was granted a place where its ticket was
-    tells_granted : has_number n (map (owner gets) core.granted) ≡ has_number ticket core.granted
-    tells_granted =
-        has_number-map (owner gets) n ticket core.granted
-        (tells core gets k.tickets n waiter None h ticket is_ours.1 one_ticket core.granted (λ u j. or_left (has_number u core.granted) (has_number u core.waiting) j))
+    tells_granted : has_number n (map (owner has_ticket gets) core.granted) ≡ has_number ticket core.granted
+    tells_granted = granted-renamed has_ticket (queue_of core) gets k.tickets n waiter None h ticket is_ours.1 one_ticket
 
     -- the pool where it has left the queue
     left_named : (new : Option (Getting V C R S)) → NoTicket new
@@ -277,8 +274,8 @@ module _ {V E C R S F A : Type 0} (may : May V E C R S F A) (runtime : Option Ru
     left_named new none = put_off-unqueued runtime hooks timeouts first most core gets out k.tickets n waiter new h ticket is_ours.1 one_ticket none
 
     -- the owners of the other tickets
-    left_owned : (new : Option (Getting V C R S)) → NoTicket new → IsOwned without_ticket (set gets n new)
-    left_owned new none = IsOwned-unqueued core gets k.tickets n waiter new h ticket is_ours.0 is_ours.1 one_ticket none
+    left_owned : (new : Option (Getting V C R S)) → NoTicket new → Owns without_ticket (set gets n new)
+    left_owned new none = owned-leaves has_ticket (queue_of core) gets k.tickets n waiter new h ticket is_ours.1 one_ticket none
 
     -- the counts where it ends without a place
     left_counted : Counted without_ticket stage.Finished
@@ -312,8 +309,8 @@ module _ {V E C R S F A : Type 0} (may : May V E C R S F A) (runtime : Option Ru
         -- it leaves the queue once
         twice : pool_unqueued n (pool_unqueued n pool) ≡ pool_unqueued n pool
         twice =
-            ap (λ ns. record (pool_unqueued n pool) { granted = ns; waiting = without_number n (pool_unqueued n pool).waiting }) (without-twice n (map (owner gets) core.granted))
-            ∙ ap (λ ns. record (pool_unqueued n pool) { waiting = ns }) (without-twice n (map (owner gets) core.waiting))
+            ap (λ ns. record (pool_unqueued n pool) { granted = ns; waiting = without_number n (pool_unqueued n pool).waiting }) (without-twice n (map (owner has_ticket gets) core.granted))
+            ∙ ap (λ ns. record (pool_unqueued n pool) { waiting = ns }) (without-twice n (map (owner has_ticket gets) core.waiting))
 
     -- a get in the queue
     pub from_queued : (expired : Bool) (reply : AskReply V) (s : Stage V C R S) (t : Turn V E) → expired ≡ is_reached deadline now

@@ -16,7 +16,7 @@ use Rattle.deadpool.specs.Stages.{Getting}
 use Rattle.deadpool.specs.Get.{AfterServing}
 use Rattle.deadpool.specs.Pool.{Pool, Party, Standing, going, creating, recycling, creating_count, settle}
 use Rattle.deadpool.specs.Steps.{unqueued as pool_unqueued, fail, rest, go_on, serve_from, serve}
-use Rattle.deadpool.specs.Image.{party_of, image, IsOwned, IsCounted}
+use Rattle.deadpool.specs.Image.{party_of, image, IsCounted}
 use Rattle.deadpool.specs.TrialFields.{given, reply_to}
 use Rattle.deadpool.specs.declared.managed.slot.Slot.{Slot}
 use Rattle.deadpool.specs.declared.managed.prepare.Preparation.TheVariants.{PreRecycle}
@@ -27,7 +27,7 @@ use Rattle.deadpool.specs.declared.managed.desk.Serving.{Serving}
 use Rattle.deadpool.specs.declared.managed.desk.Serving.TheVariants as serving
 use Rattle.deadpool.specs.declared.replay.moves.Reply.{Reply}
 use Rattle.deadpool.specs.declared.replay.moves.Reply.TheVariants as reply
-use Rattle.deadpool.proofs.Tickets.{NoTicket, IsOwned-like}
+use Rattle.deadpool.proofs.Tickets.{Owns, NoTicket}
 use Rattle.deadpool.proofs.Settles.{settles, counts_of, counted_settled}
 use Rattle.deadpool.proofs.Settling.{goes, creates, prepares, lasts, IsCounted-set, put}
 
@@ -89,7 +89,7 @@ module _ {V C R S F A : Type 0} (runtime : Option Runtime) (hooks : HookLists F 
 
   -- the get has left the counts and the queue
   pub record HasLeft : Type 0 where
-    pub owned : (s : Stage V C R S) → NoTicket (stands s) → IsOwned d (set gets n (stands s))
+    pub owned : (s : Stage V C R S) → NoTicket (stands s) → Owns d (set gets n (stands s))
     pub named : (s : Stage V C R S) → NoTicket (stands s) → put n (party_of (stands s)) pool ≡ after d s
     pub unqueued : pool_unqueued n pool ≡ pool
     pub going : d.going + goes (stands old) ≡ core.going
@@ -118,7 +118,7 @@ module _ {V C R S F A : Type 0} (runtime : Option Runtime) (hooks : HookLists F 
           ap (λ (i : Option (Slot V)). serve_from i (unwrap_or allowance (length d.idle)) n party pool) e
               ∙ serve_from-object n party pool slot (unwrap_or allowance (length d.idle)) more f
               ∙ ap (λ (q : Pool V C R S F A). (reply.More, record q { idle = other_idle d.mode d.idle })) (left.named new none),
-          IsCounted-set core d' gets n (stands old) (stands new) out out h k (IsOwned-like d (set gets n (stands new)) o d' refl refl) record {
+          IsCounted-set core d' gets n (stands old) (stands new) out out h k o record {
             going = omega (arith, left.going);
             creations = omega (arith, left.creations, left.creates_none);
             outside = omega (arith, left.outside, left.prepares_none);
@@ -138,7 +138,7 @@ module _ {V C R S F A : Type 0} (runtime : Option Runtime) (hooks : HookLists F 
           ap (λ (i : Option (Slot V)). serve_from i (unwrap_or allowance (length d.idle)) n party pool) i.1
               ∙ serve_from-going n party pool i.0 (unwrap_or allowance (length d.idle)) f
               ∙ ap (λ (q : Pool V C R S F A). (reply.Pending, q)) (left.named new none),
-          IsCounted-set core d' gets n (stands old) (stands new) out out h k (IsOwned-like d (set gets n (stands new)) (left.owned new none) d' refl refl) record {
+          IsCounted-set core d' gets n (stands old) (stands new) out out h k (left.owned new none) record {
             going = omega (arith, left.going);
             creations = omega (arith, left.creations, left.creates_none);
             outside = omega (arith, left.outside, left.prepares_none);
@@ -157,7 +157,7 @@ module _ {V C R S F A : Type 0} (runtime : Option Runtime) (hooks : HookLists F 
           ap (λ (i : Option (Slot V)). serve_from i (unwrap_or allowance (length d.idle)) n party pool) (next_idle-none d.mode d.idle empty)
               ∙ serve_from-create n party pool (unwrap_or allowance (length d.idle)) (subst (λ m. m < largest_usize) (sym (creating_same left)) less)
               ∙ ap (λ (q : Pool V C R S F A). (reply.More, q)) (left.named new none),
-          IsCounted-set core d' gets n (stands old) (stands new) out out h k (IsOwned-like d (set gets n (stands new)) (left.owned new none) d' refl refl) record {
+          IsCounted-set core d' gets n (stands old) (stands new) out out h k (left.owned new none) record {
             going = omega (arith, left.going);
             creations = omega (arith, left.creations, left.creates_none);
             outside = omega (arith, left.outside, left.prepares_none);

@@ -1,27 +1,23 @@
 -- The desk settles as the pool does.
-use Rattle.std.proofs.Common.{◌≡◌, ℕ, ◌+◌, List, ◌++◌, length, map, take, drop, refl, sym, ◌∙◌, arith, Option}
+use Rattle.std.proofs.Common.{◌≡◌, ℕ, ◌+◌, List, ◌++◌, length, map, take, drop, refl, ◌∙◌, arith, Option}
 use Rattle.std.specs.List.{filter, filter_map}
 use Rattle.std.proofs.lemmas.List.{take-map, drop-map, map-append, length-map}
 use Rattle.deadpool_parts.specs.declared.moment.Runtime.{Runtime}
 use Rattle.deadpool_parts.specs.declared.config.Timeouts.{Timeouts}
-use Rattle.deadpool_parts.proofs.Numbers.{has_number-moved}
+use Rattle.deadpool_parts.specs.Owners.{owner}
+use Rattle.deadpool_parts.proofs.Owners.{owned-granting}
 use Rattle.deadpool.specs.HookLists.{HookLists}
 use Rattle.deadpool.specs.DeskState.{DeskState, places, grants, settled}
-use Rattle.deadpool.specs.DeskSteps.{is_listed}
 use Rattle.deadpool.specs.Stages.{Getting}
 use Rattle.deadpool.specs.Pool.{Pool, Party, is_going, is_creating, prepared_by, places as pool_places, grants as pool_grants, settle}
-use Rattle.deadpool.specs.Image.{party_of, owner, image, IsOwned, IsCounted}
+use Rattle.deadpool.specs.Image.{party_of, has_ticket, queue_of, image, IsCounted}
 use Rattle.deadpool.specs.declared.managed.slot.Slot.{Slot}
-use Rattle.deadpool.proofs.Tickets.{IsOwned-like}
+use Rattle.deadpool.proofs.Tickets.{owned-same}
 
 module _ {V : Type 0} where
   -- the queue of a desk where the first n that wait have a place
   abbrev pub granting : ℕ → DeskState V → DeskState V
   granting n d = record d { granted = d.granted ++ take n d.waiting; waiting = drop n d.waiting }
-
-  -- a grant takes nobody out of the queue
-  pub is_listed-granting : (t n : ℕ) (d : DeskState V) → is_listed t (granting n d) ≡ is_listed t d
-  is_listed-granting t n d = has_number-moved t n d.granted d.waiting
 
 module _ {V C R S : Type 0} where
   -- the desk's counts are those of the parties
@@ -29,13 +25,6 @@ module _ {V C R S : Type 0} where
     pub going : d.going ≡ length (filter is_going parties)
     pub creations : d.creations ≡ length (filter is_creating parties)
     pub outside : d.outside ≡ length (filter_map prepared_by parties) + length out
-
-  -- a grant leaves each ticket to its owner
-  pub IsOwned-granting : (n : ℕ) (d : DeskState V) (gets : List (Option (Getting V C R S))) → IsOwned d gets → IsOwned (granting n d) gets
-  IsOwned-granting n d gets o = record {
-    owned = λ t k. o.owned t (sym (is_listed-granting t n d) ∙ k);
-    listed = λ m t g e h. let l = o.listed m t g e h in (is_listed-granting t n d ∙ l.0, l.1);
-  }
 
   -- what is counted has its counts
   pub counts_of : (d : DeskState V) (gets : List (Option (Getting V C R S))) (out : List (Slot V)) → IsCounted d gets out → HasCounts d (map party_of gets) out
@@ -46,7 +35,7 @@ module _ {V C R S : Type 0} where
       → d'.granted ≡ d.granted → d'.waiting ≡ d.waiting → d'.going ≡ d.going → d'.creations ≡ d.creations → d'.outside ≡ d.outside → IsCounted d' gets out
   same_counted d d' gets out k granted waiting going creations outside =
       record {
-        tickets = IsOwned-like d gets k.tickets d' granted waiting;
+        tickets = owned-same d d' gets k.tickets granted waiting;
         going = going ∙ k.going;
         creations = creations ∙ k.creations;
         outside = outside ∙ k.outside;
@@ -56,16 +45,16 @@ module _ {V C R S : Type 0} where
   -- what is counted is counted after a grant
   pub counted_settled : (d : DeskState V) (gets : List (Option (Getting V C R S))) (out : List (Slot V)) → IsCounted d gets out → IsCounted (settled d) gets out
   counted_settled d gets out k =
-      record { tickets = IsOwned-granting (grants d) d gets k.tickets; going = k.going; creations = k.creations; outside = k.outside; room = k.room }
+      record { tickets = owned-granting has_ticket (queue_of d) gets k.tickets (grants d); going = k.going; creations = k.creations; outside = k.outside; room = k.room }
 
 module _ {V C R S F A : Type 0} (runtime : Option Runtime) (hooks : HookLists F A) (timeouts : Timeouts) (first most : ℕ) where
   -- where the counts agree, the image of a settled desk is the image, settled
   pub settles : (core : DeskState V) (gets : List (Option (Getting V C R S))) (out : List (Slot V)) → HasCounts core (map party_of gets) out
       → image runtime hooks timeouts first most (settled core) gets out ≡ settle (image runtime hooks timeouts first most core gets out)
   settles core gets out k =
-      let l1 : length (map (owner gets) core.granted) ≡ length core.granted = length-map core.granted (owner gets) in
-      let l2 : length (map (owner gets) core.waiting) ≡ length core.waiting = length-map core.waiting (owner gets) in
+      let l1 : length (map (owner has_ticket gets) core.granted) ≡ length core.granted = length-map core.granted (owner has_ticket gets) in
+      let l2 : length (map (owner has_ticket gets) core.waiting) ≡ length core.waiting = length-map core.waiting (owner has_ticket gets) in
       let p : Pool V C R S F A = image runtime hooks timeouts first most core gets out in
       let same_places : places core ≡ pool_places p = omega (arith, l1, k.going, k.creations, k.outside) in
       let same : grants core ≡ pool_grants p = rw (l2, ← same_places) refl in
-      rw (map-append (owner gets) core.granted (take (grants core) core.waiting), ← take-map (owner gets) (grants core) core.waiting, ← drop-map (owner gets) (grants core) core.waiting, same) refl
+      rw (map-append (owner has_ticket gets) core.granted (take (grants core) core.waiting), ← take-map (owner has_ticket gets) (grants core) core.waiting, ← drop-map (owner has_ticket gets) (grants core) core.waiting, same) refl

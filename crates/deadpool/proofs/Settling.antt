@@ -1,12 +1,14 @@
 -- The pool that a desk and its gets stand for, as one get changes and as the desk settles.
-use Rattle.std.proofs.Common.{◌≡◌, ℕ, ◌+◌, ◌-◌, ◌≤◌, List, [], ◌∷◌, ◌++◌, true, false, cond, length, set, take, drop, map, min, refl, sym, ap, ◌∙◌, arith, inl, inr, Option, Some, append-nil, if◌then◌else◌, is_some}
+use Rattle.std.proofs.Common.{◌≡◌, ℕ, ◌+◌, ◌-◌, ◌≤◌, List, [], ◌∷◌, ◌++◌, false, cond, length, set, take, drop, map, min, refl, sym, ap, ◌∙◌, arith, inl, inr, Option, Some, append-nil, if◌then◌else◌, is_some}
 use Rattle.std.specs.List.{slice_get}
-use Rattle.std.proofs.lemmas.Bool.{cases_Bool, cases_lt, or_left, or_right}
-use Rattle.std.proofs.lemmas.List.{map-set, map-append, length-map, length-set}
+use Rattle.std.proofs.lemmas.Bool.{cases_Bool, cases_lt}
+use Rattle.std.proofs.lemmas.List.{map-set, length-map, length-set}
 use Rattle.std.proofs.lemmas.Option.{slice_get-map}
-use Rattle.deadpool_parts.specs.Numbers.{has_number}
 use Rattle.deadpool_parts.specs.declared.moment.Runtime.{Runtime}
 use Rattle.deadpool_parts.specs.declared.config.Timeouts.{Timeouts}
+use Rattle.deadpool_parts.specs.Owners.{owner}
+use Rattle.deadpool_parts.specs.Queue.{Queue}
+use Rattle.deadpool_parts.proofs.Owners.{absent, renamed-set, renamed-leaves, renamed-joins}
 use Rattle.deadpool.specs.HookLists.{HookLists}
 use Rattle.deadpool.specs.DeskState.{DeskState, places}
 use Rattle.deadpool.specs.DeskSteps.{is_listed, unqueued}
@@ -14,10 +16,10 @@ use Rattle.deadpool.specs.Stages.{Getting}
 use Rattle.deadpool.specs.Pool.{Pool, Party, is_going, is_creating, prepared_by, places as pool_places, grants as pool_grants, settle}
 use Rattle.deadpool.specs.Steps.{unqueued as pool_unqueued}
 use Rattle.deadpool.specs.Moves.{NobodyWaits}
-use Rattle.deadpool.specs.Image.{party_of, owner, is_under_way, image, IsOwned, IsCounted}
+use Rattle.deadpool.specs.Image.{party_of, has_ticket, queue_of, is_under_way, image, IsCounted}
 use Rattle.deadpool.specs.declared.managed.slot.Slot.{Slot}
 use Rattle.deadpool.proofs.Counts.{one_if, count-set, held-set}
-use Rattle.deadpool.proofs.Tickets.{NoTicket, OneTicket, queueing, owners-set, owners-absent, owners-unqueued, owners-queueing, owner-queueing}
+use Rattle.deadpool.proofs.Tickets.{Owns, NoTicket, OneTicket, queueing}
 
 module _ {V C R S F A : Type 0} where
   -- nobody who waits can be granted a place
@@ -66,7 +68,7 @@ module _ {V C R S : Type 0} where
 
   -- so the counts stay those of the gets
   pub IsCounted-set : (d d' : DeskState V) (gets : List (Option (Getting V C R S))) (n : ℕ) (old new : Option (Getting V C R S)) (out out' : List (Slot V))
-      → slice_get gets n ≡ Some old → IsCounted d gets out → IsOwned d' (set gets n new) → Shifts d d' old new out out' → IsCounted d' (set gets n new) out'
+      → slice_get gets n ≡ Some old → IsCounted d gets out → Owns d' (set gets n new) → Shifts d d' old new out out' → IsCounted d' (set gets n new) out'
   IsCounted-set d d' gets n old new out out' h k o s =
       let e : map party_of (set gets n new) ≡ set (map party_of gets) n (party_of new) = map-set party_of gets n new in
       let here : slice_get (map party_of gets) n ≡ Some (party_of old) = slice_get-map party_of gets n ∙ (rw h refl) in
@@ -90,7 +92,7 @@ module _ {V C R S F A : Type 0} (runtime : Option Runtime) (hooks : HookLists F 
   -- the pool has as many places held as the desk
   pub places-image : (d : DeskState V) (gets : List (Option (Getting V C R S))) (out : List (Slot V)) → IsCounted d gets out → pool_places (img d gets out) ≡ places d
   places-image d gets out k =
-      let l : length (map (owner gets) d.granted) ≡ length d.granted = length-map d.granted (owner gets) in
+      let l : length (map (owner has_ticket gets) d.granted) ≡ length d.granted = length-map d.granted (owner has_ticket gets) in
       omega (arith, l, k.creations, k.outside, k.going)
 
 -- another party stands at n
@@ -102,58 +104,36 @@ abbrev pub put_off : {V C R S F A : Type 0} → ℕ → Option (Party V C R S) �
 put_off n party p = put n party (pool_unqueued n p)
 
 module _ {V C R S F A : Type 0} (runtime : Option Runtime) (hooks : HookLists F A) (timeouts : Timeouts) (first most : ℕ)
-    (d : DeskState V) (gets : List (Option (Getting V C R S))) (out : List (Slot V)) (o : IsOwned d gets) (n : ℕ) (old new : Option (Getting V C R S)) (h : slice_get gets n ≡ Some old) where
+    (d : DeskState V) (gets : List (Option (Getting V C R S))) (out : List (Slot V)) (o : Owns d gets) (n : ℕ) (old new : Option (Getting V C R S)) (h : slice_get gets n ≡ Some old) where
   -- the pool with these gets
   abbrev in_pool : DeskState V → List (Option (Getting V C R S)) → Pool V C R S F A
   in_pool d' gets' = image runtime hooks timeouts first most d' gets' out
 
   -- the pool with another queue and other parties
-  abbrev with : List ℕ → List ℕ → List (Option (Party V C R S)) → Pool V C R S F A
-  with granted waiting parties = record (in_pool d gets) { granted = granted; waiting = waiting; parties = parties }
+  abbrev with : Queue → List (Option (Party V C R S)) → Pool V C R S F A
+  with q parties = record (in_pool d gets) { granted = q.granted; waiting = q.waiting; parties = parties }
 
   -- two such pools with the same parts
-  with_same : (g g' w w' : List ℕ) (p p' : List (Option (Party V C R S))) → g ≡ g' → w ≡ w' → p ≡ p' → with g w p ≡ with g' w' p'
-  with_same g g' w w' p p' e f q = ap (λ x. with x w p) e ∙ ap (λ x. with g' x p) f ∙ ap (with g' w') q
-
-  -- who was granted a place is in the queue
-  in_granted : (u : ℕ) → has_number u d.granted ≡ true → is_listed u d ≡ true
-  in_granted u k = or_left (has_number u d.granted) (has_number u d.waiting) k
-
-  -- and so is who waits
-  in_waiting : (u : ℕ) → has_number u d.waiting ≡ true → is_listed u d ≡ true
-  in_waiting u k = or_right (has_number u d.granted) (has_number u d.waiting) k
+  with_same : (q q' : Queue) → q ≡ q' → with q (set (map party_of gets) n (party_of new)) ≡ with q' (map party_of (set gets n new))
+  with_same q q' e = ap (λ x. with x (set (map party_of gets) n (party_of new))) e ∙ ap (with q') (sym (map-set party_of gets n new))
 
   -- a get without a ticket is in no queue
   pub unqueued-none : NoTicket old → pool_unqueued n (in_pool d gets) ≡ in_pool d gets
-  unqueued-none none =
-      with_same _ _ _ _ _ _ (owners-absent d gets o n old new h d.granted in_granted none) (owners-absent d gets o n old new h d.waiting in_waiting none) refl
+  unqueued-none none = ap (λ q. with q (map party_of gets)) (absent has_ticket (queue_of d) gets o n old new h none)
 
   -- a get without a ticket changes, and gets none
   pub put-image : NoTicket old → NoTicket new → put n (party_of new) (in_pool d gets) ≡ in_pool d (set gets n new)
-  put-image none no_new =
-      with_same _ _ _ _ _ _ (sym (owners-set d gets o n old new h d.granted none no_new)) (sym (owners-set d gets o n old new h d.waiting none no_new))
-      (sym (map-set party_of gets n new))
+  put-image none no_new = with_same _ _ (sym (renamed-set has_ticket (queue_of d) gets o n old new h none no_new))
 
   -- and it is in no queue
   pub put_off-image : NoTicket old → NoTicket new → put_off n (party_of new) (in_pool d gets) ≡ in_pool d (set gets n new)
   put_off-image none no_new = ap (put n (party_of new)) (unqueued-none none) ∙ put-image none no_new
 
   -- a queued get leaves the queue
-  pub put_off-unqueued : (t : ℕ) → owner gets t ≡ n → OneTicket t old → NoTicket new → put_off n (party_of new) (in_pool d gets) ≡ in_pool (unqueued t d) (set gets n new)
-  put_off-unqueued t mine one no_new =
-      with_same _ _ _ _ _ _
-      (sym (owners-unqueued d gets o n old new h t mine one no_new d.granted in_granted))
-      (sym (owners-unqueued d gets o n old new h t mine one no_new d.waiting in_waiting))
-      (sym (map-set party_of gets n new))
+  pub put_off-unqueued : (t : ℕ) → owner has_ticket gets t ≡ n → OneTicket t old → NoTicket new → put_off n (party_of new) (in_pool d gets) ≡ in_pool (unqueued t d) (set gets n new)
+  put_off-unqueued t mine one no_new = with_same _ _ (sym (renamed-leaves has_ticket (queue_of d) gets o n old new h t mine one no_new))
 
   -- a get joins the queue
   pub put-queueing : (t : ℕ) → is_listed t d ≡ false → NoTicket old → OneTicket t new
       → put n (party_of new) (record (in_pool d gets) { waiting = (in_pool d gets).waiting ++ n ∷ [] }) ≡ in_pool (queueing t d) (set gets n new)
-  put-queueing t fresh none one =
-      let at : ℕ → List ℕ = λ m. m ∷ [] in
-      with_same _ _ _ _ _ _
-      (sym (owners-queueing d gets o n old new h t fresh none one d.granted in_granted))
-      (sym (map-append (owner (set gets n new)) d.waiting (t ∷ [])
-      ∙ ap (λ ns. ns ++ owner (set gets n new) t ∷ []) (owners-queueing d gets o n old new h t fresh none one d.waiting in_waiting)
-      ∙ ap (λ m. map (owner gets) d.waiting ++ at m) (owner-queueing d gets o n old new h t fresh one)))
-      (sym (map-set party_of gets n new))
+  put-queueing t fresh none one = with_same _ _ (sym (renamed-joins has_ticket (queue_of d) gets o n old new h t fresh none one))

@@ -5,11 +5,12 @@ use Rattle.deadpool_parts.specs.Numbers.{largest_usize}
 use Rattle.deadpool_parts.specs.declared.status.Status.{Status}
 use Rattle.deadpool_parts.specs.declared.moment.Runtime.{Runtime}
 use Rattle.deadpool_parts.specs.declared.config.Timeouts.{Timeouts}
+use Rattle.deadpool_parts.specs.Owners.{owner}
 use Rattle.deadpool.specs.HookLists.{HookLists}
 use Rattle.deadpool.specs.DeskState.{DeskState, size, pending, status_of}
 use Rattle.deadpool.specs.Stages.{Getting}
 use Rattle.deadpool.specs.Pool.{Pool, size as pool_size, pending as pool_pending, status_of as pool_status}
-use Rattle.deadpool.specs.Image.{owner, image, IsCounted}
+use Rattle.deadpool.specs.Image.{has_ticket, image, IsCounted}
 use Rattle.deadpool.specs.declared.managed.slot.Slot.{Slot}
 
 module _ {V C R S F A : Type 0} (runtime : Option Runtime) (hooks : HookLists F A) (timeouts : Timeouts) (first most : ℕ) where
@@ -17,8 +18,8 @@ module _ {V C R S F A : Type 0} (runtime : Option Runtime) (hooks : HookLists F 
   pub stands : (core : DeskState V) (gets : List (Option (Getting V C R S))) (out : List (Slot V)) → IsCounted core gets out
       → status_of core ≡ pool_status (image runtime hooks timeouts first most core gets out)
   stands core gets out k =
-      let l1 = length-map core.granted (owner gets) in
-      let l2 = length-map core.waiting (owner gets) in
+      let l1 = length-map core.granted (owner has_ticket gets) in
+      let l2 = length-map core.waiting (owner has_ticket gets) in
       let p : Pool V C R S F A = image runtime hooks timeouts first most core gets out in
       let sizes : size core ≡ pool_size p = omega (arith, k.outside) in
       let waits : pending core ≡ pool_pending p = omega (arith, l1, l2, k.creations, k.going) in

@@ -1,16 +1,22 @@
 -- The pool in lists that a core, its gets and the objects out stand for.
-use Rattle.std.specs.Prelude.{ℕ, ◌+◌, ◌≤◌, ◌≡◌, List, [], ◌∷◌, length, map, slice_get, Option, Some, None, Bool, true, false, if◌then◌else◌, ◌==◌}
+use Rattle.std.specs.Prelude.{ℕ, ◌+◌, ◌≤◌, ◌≡◌, List, length, map, Option, Some, None, Bool, true, false, ◌==◌}
 use Rattle.std.specs.List.{filter, filter_map}
+use Rattle.deadpool_parts.specs.Owners.{owner, IsOwned}
+use Rattle.deadpool_parts.specs.Queue.{Queue}
 use Rattle.deadpool_parts.specs.declared.moment.Runtime.{Runtime}
 use Rattle.deadpool_parts.specs.declared.config.Timeouts.{Timeouts}
 use Rattle.deadpool.specs.HookLists.{HookLists}
 use Rattle.deadpool.specs.DeskState.{DeskState}
-use Rattle.deadpool.specs.DeskSteps.{is_listed}
 use Rattle.deadpool.specs.Stages.{Getting}
 use Rattle.deadpool.specs.Pool.{Pool, Party, Standing, unpolled, queued, going, creating, recycling, checking, finished, is_going, is_creating, prepared_by}
 use Rattle.deadpool.specs.declared.managed.slot.Slot.{Slot}
 use Rattle.deadpool.specs.declared.managed.get.Stage.{Stage}
 use Rattle.deadpool.specs.declared.managed.get.Stage.TheVariants as stage
+
+module _ {V : Type 0} where
+  -- a desk's queue
+  abbrev pub queue_of : DeskState V → Queue
+  queue_of d = record { granted = d.granted; waiting = d.waiting }
 
 module _ {V C R S : Type 0} where
   -- a ticket's number means nothing in the lists
@@ -35,11 +41,6 @@ module _ {V C R S : Type 0} where
   has_ticket t None = false
   has_ticket t (Some get) = holds_ticket t get.stage
 
-  -- the first get that has the ticket, by number
-  abbrev pub owner : List (Option (Getting V C R S)) → ℕ → ℕ
-  owner [] t = 0
-  owner (g ∷ gs) t = if has_ticket t g then 0 else (owner gs t + 1)
-
   -- the get has neither ended nor been cancelled
   abbrev pub is_under_way : Option (Getting V C R S) → Bool
   is_under_way None = false
@@ -49,14 +50,9 @@ module _ {V C R S : Type 0} where
       not_finished stage.Finished = false
       not_finished _ = true
 
-  -- the tickets of a queue are those of the queued gets, one each
-  pub record IsOwned (d : DeskState V) (gets : List (Option (Getting V C R S))) : Type 0 where
-    pub owned : (t : ℕ) → is_listed t d ≡ true → (g : Getting V C R S) × (slice_get gets (owner gets t) ≡ Some (Some g)) × (holds_ticket t g.stage ≡ true)
-    pub listed : (n t : ℕ) (g : Getting V C R S) → slice_get gets n ≡ Some (Some g) → holds_ticket t g.stage ≡ true → (is_listed t d ≡ true) × (owner gets t ≡ n)
-
   -- The desk's counts are the lengths of the lists, and the objects out have room where the parties have theirs.
   pub record IsCounted (d : DeskState V) (gets : List (Option (Getting V C R S))) (out : List (Slot V)) : Type 0 where
-    pub tickets : IsOwned d gets
+    pub tickets : IsOwned has_ticket (queue_of d) gets
     pub going : d.going ≡ length (filter is_going (map party_of gets))
     pub creations : d.creations ≡ length (filter is_creating (map party_of gets))
     pub outside : d.outside ≡ length (filter_map prepared_by (map party_of gets)) + length out
@@ -78,7 +74,7 @@ module _ {V C R S F A : Type 0} (runtime : Option Runtime) (hooks : HookLists F 
     most_parties = most;
     parties = map party_of gets;
     idle = d.idle;
-    waiting = map (owner gets) d.waiting;
-    granted = map (owner gets) d.granted;
+    waiting = map (owner has_ticket gets) d.waiting;
+    granted = map (owner has_ticket gets) d.granted;
     out = out;
   }

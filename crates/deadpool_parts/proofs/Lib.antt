@@ -10,6 +10,7 @@ pub mod GateTickets
 pub mod Lists
 pub mod Numbers
 pub mod Orders
+pub mod Owners
 pub mod Places
 pub mod Programs
 pub mod ReadsBack

@@ -5,8 +5,10 @@ pub mod GateNodes
 pub mod Moments
 pub mod Numbers
 pub mod Orders
+pub mod Owners
 pub mod PoolConfig
 pub mod Program
+pub mod Queue
 pub mod Result
 pub mod Runs
 pub mod Texts

@@ -6,12 +6,14 @@ use Rattle.futures.specs.declared.task.Poll.{Poll}
 use Rattle.deadpool_parts.specs.Numbers.{has_number}
 use Rattle.deadpool_parts.specs.declared.moment.Moment.{Moment}
 use Rattle.deadpool_parts.specs.declared.moment.Runtime.{Runtime}
+use Rattle.deadpool_parts.specs.Owners.{owner}
+use Rattle.deadpool_parts.specs.Queue.{is_listed, joined}
+use Rattle.deadpool_parts.proofs.Owners.{granted-renamed}
 use Rattle.deadpool_unmanaged.specs.Adds.{PollsAdd, stage_entered, turn_entered, stage_asked, turn_asked, held_by}
-use Rattle.deadpool_unmanaged.specs.Image.{image, party_of, owner, has_add, IsCounted}
+use Rattle.deadpool_unmanaged.specs.Image.{image, party_of, has_add, IsCounted}
 use Rattle.deadpool_unmanaged.specs.Laws.{IsLawful}
 use Rattle.deadpool_unmanaged.specs.Moves.{NobodyWaits}
 use Rattle.deadpool_unmanaged.specs.Pool.{Pool, new_add, queued_add, finished, free_room}
-use Rattle.deadpool_unmanaged.specs.Queue.{is_listed, joined}
 use Rattle.deadpool_unmanaged.specs.State.{State, free_room as room_left}
 use Rattle.deadpool_unmanaged.specs.StateSteps.{AddEnters, AddAsks, without_add, stored}
 use Rattle.deadpool_unmanaged.specs.Steps.{ended, store, enter_add, inquire_add}
@@ -32,7 +34,6 @@ use Rattle.deadpool_unmanaged.specs.declared.steps.AddEnterReply.{AddEnterReply}
 use Rattle.deadpool_unmanaged.specs.declared.steps.AddEnterReply.TheVariants as entered
 use Rattle.deadpool_unmanaged.proofs.Follows.{by_settling, by_resting}
 use Rattle.deadpool_unmanaged.proofs.GetPolls.{Polled, pool, by_seat, unchanged}
-use Rattle.deadpool_unmanaged.proofs.Owners.{granted-renamed}
 use Rattle.deadpool_unmanaged.proofs.Seats.{room-image, stores, counted-set, image-set, left-none, nobody-set, counted-without_add, image-without_add, counted-joined_add, image-joined_add}
 
 module _ {V : Type 0} (runtime : Option Runtime) (most next : ℕ) (d : State (Item V)) (seats : List (Option (Seat V))) (out : List (Item V)) (k : IsCounted d seats out)

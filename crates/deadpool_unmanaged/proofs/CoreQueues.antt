@@ -3,11 +3,11 @@ use Rattle.std.proofs.Common.{◌≡◌, ℕ, ◌+◌, ◌<◌, ◌≤◌, Bool,
 use Rattle.std.specs.List.{slice_get}
 use Rattle.deadpool_parts.specs.Gate.{Waiter, Line, arrived, without_waiter, granted_tickets, waiting_tickets, grant_count, IsApart}
 use Rattle.deadpool_parts.specs.Numbers.{has_number}
+use Rattle.deadpool_parts.specs.Queue.{joined, without, served}
 use Rattle.deadpool_parts.proofs.GateAnswers.{grant_count-length}
 use Rattle.deadpool_parts.proofs.GateTickets.{granted_tickets-arrived, waiting_tickets-arrived, granted_tickets-without_waiter, waiting_tickets-without_waiter}
 use Rattle.deadpool_parts.proofs.Numbers.{without_number-shorter, without_number-fewer}
 use Rattle.deadpool_unmanaged.specs.CoreFields.{queue_of, state_of, IsSound}
-use Rattle.deadpool_unmanaged.specs.Queue.{joined, without, served}
 use Rattle.deadpool_unmanaged.specs.State.{free_objects, free_room, settled}
 use Rattle.deadpool_unmanaged.specs.StateSteps.{without_get, without_add}
 use Rattle.deadpool_unmanaged.specs.Steps.{last_idle}

@@ -8,13 +8,15 @@ use Rattle.deadpool_parts.specs.Moments.{deadline_after, is_reached}
 use Rattle.deadpool_parts.specs.Numbers.{has_number}
 use Rattle.deadpool_parts.specs.declared.moment.Moment.{Moment}
 use Rattle.deadpool_parts.specs.declared.moment.Runtime.{Runtime}
+use Rattle.deadpool_parts.specs.Owners.{owner}
+use Rattle.deadpool_parts.specs.Queue.{Queue, is_listed, joined}
 use Rattle.deadpool_parts.proofs.Lists.{set-same}
+use Rattle.deadpool_parts.proofs.Owners.{renamed-set, granted-renamed}
 use Rattle.deadpool_unmanaged.specs.Gets.{PollsGet, stage_entered, turn_entered, stage_asked, turn_asked}
-use Rattle.deadpool_unmanaged.specs.Image.{image, party_of, owner, has_get, has_add, IsCounted}
+use Rattle.deadpool_unmanaged.specs.Image.{image, party_of, has_get, has_add, IsCounted}
 use Rattle.deadpool_unmanaged.specs.Laws.{IsLawful}
 use Rattle.deadpool_unmanaged.specs.Moves.{NobodyWaits, unsettled, by_party}
 use Rattle.deadpool_unmanaged.specs.Pool.{Pool, Party, new_get, queued_get, finished, free_objects}
-use Rattle.deadpool_unmanaged.specs.Queue.{Queue, is_listed, joined}
 use Rattle.deadpool_unmanaged.specs.State.{State, free_objects as objects_left}
 use Rattle.deadpool_unmanaged.specs.StateSteps.{GetEnters, GetAsks, without_get, handed}
 use Rattle.deadpool_unmanaged.specs.Steps.{lacks_runtime, ended, hand_out, with_item, poll, enter_get, inquire_get}
@@ -34,7 +36,6 @@ use Rattle.deadpool_unmanaged.specs.declared.steps.GetAskReply.TheVariants as as
 use Rattle.deadpool_unmanaged.specs.declared.steps.GetEnterReply.{GetEnterReply}
 use Rattle.deadpool_unmanaged.specs.declared.steps.GetEnterReply.TheVariants as entered
 use Rattle.deadpool_unmanaged.proofs.Follows.{Follows, by_settling, by_resting}
-use Rattle.deadpool_unmanaged.proofs.Owners.{renamed-set, granted-renamed}
 use Rattle.deadpool_unmanaged.proofs.Seats.{objects-image, hands_out, counted-handed, party-here, counted-set, image-set, left-none, nobody-set, counted-without_get, image-without_get, counted-joined_get, image-joined_get}
 
 module _ {V : Type 0} (runtime : Option Runtime) (most next : ℕ) (d : State (Item V)) (seats : List (Option (Seat V))) (out : List (Item V)) (k : IsCounted d seats out)

@@ -4,16 +4,16 @@ use Rattle.std.proofs.lemmas.Bool.{cases_Bool, cases_lt, cond_both, ltb-true}
 use Rattle.std.proofs.lemmas.Option.{slice_get_within}
 use Rattle.std.proofs.Math.ListN.{drop_of_length-le}
 use Rattle.std.specs.declared.time.Duration.{Duration}
+use Rattle.std.specs.List.{slice_get}
 use Rattle.deadpool_parts.specs.Moments.{deadline_after, is_reached}
 use Rattle.deadpool_parts.specs.declared.moment.Runtime.{Runtime}
 use Rattle.deadpool_parts.specs.Numbers.{has_number, largest_usize}
-use Rattle.deadpool_parts.proofs.Numbers.{without_number-shorter, without_number-fewer}
 use Rattle.deadpool_parts.specs.declared.moment.Moment.{Moment}
-use Rattle.std.specs.List.{slice_get}
+use Rattle.deadpool_parts.specs.Queue.{Queue, served}
+use Rattle.deadpool_parts.proofs.Numbers.{without_number-shorter, without_number-fewer}
 use Rattle.deadpool_unmanaged.specs.Laws.{HasRoom, IsLawful}
 use Rattle.deadpool_unmanaged.specs.Moves.{IsWithinLimit, unsettled, moved, by_party, by_seat, by_number, started}
 use Rattle.deadpool_unmanaged.specs.Pool.{Pool, Party, new_get, queued_get, new_add, queued_add, finished, opened, size, free_objects, free_room, settle, status_of}
-use Rattle.deadpool_unmanaged.specs.Queue.{Queue, served}
 use Rattle.deadpool_unmanaged.specs.Steps.{lacks_runtime, most_handles, find_item, without_item, with_item, last_idle, handed, hand_out, store, ended, enter_get, inquire_get, enter_add, inquire_add, poll, cancelled, try_get, try_store, back, take_out, closed, cloned, handle_dropped}
 use Rattle.deadpool_unmanaged.specs.declared.replay.moves.Item.{Item}
 use Rattle.deadpool_unmanaged.specs.declared.replay.moves.Move.{Move}

@@ -8,7 +8,6 @@ pub mod Items
 pub mod Lawful
 pub mod Lined
 pub mod OtherMoves
-pub mod Owners
 pub mod Parties
 pub mod Passes
 pub mod PassesMoves

@@ -6,11 +6,11 @@ use Rattle.std.proofs.lemmas.Bool.Decides.{eqb_tells}
 use Rattle.std.proofs.lemmas.List.{take-append-drop}
 use Rattle.deadpool_parts.specs.Numbers.{has_number, without_number}
 use Rattle.deadpool_parts.specs.Orders.{KeepsOrder}
+use Rattle.deadpool_parts.specs.Queue.{Queue, members, joined, without, served}
 use Rattle.deadpool_parts.proofs.Numbers.{has_number-append, has_number-without, without_number-append}
 use Rattle.deadpool_parts.proofs.Orders.{IsOnce-without, IsOnce-push, order_same, order_without, order_joined}
 use Rattle.deadpool_parts.proofs.Lists.{get-set_same, get-set_other, get-append, get-pushed}
 use Rattle.deadpool_unmanaged.specs.Pool.{Party}
-use Rattle.deadpool_unmanaged.specs.Queue.{Queue, members, joined, without, served}
 use Rattle.deadpool_unmanaged.specs.RunLaws.{IsLined}
 
 -- the members, as one leaves, joins, or some are granted what they ask for

@@ -6,7 +6,8 @@ use Rattle.std.proofs.lemmas.List.{length-map}
 use Rattle.deadpool_parts.specs.Numbers.{largest_usize}
 use Rattle.deadpool_parts.specs.declared.status.Status.{Status}
 use Rattle.deadpool_parts.specs.declared.moment.Runtime.{Runtime}
-use Rattle.deadpool_unmanaged.specs.Image.{image, owner, has_get, IsCounted}
+use Rattle.deadpool_parts.specs.Owners.{owner}
+use Rattle.deadpool_unmanaged.specs.Image.{image, has_get, IsCounted}
 use Rattle.deadpool_unmanaged.specs.Laws.{IsLawful}
 use Rattle.deadpool_unmanaged.specs.Moves.{unsettled}
 use Rattle.deadpool_unmanaged.specs.Pool.{Pool, free_objects, free_room, status_of as pool_status}

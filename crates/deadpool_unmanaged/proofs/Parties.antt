@@ -6,6 +6,7 @@ use Rattle.std.proofs.lemmas.Bool.Decides.{nat_tests}
 use Rattle.std.proofs.lemmas.List.{map-append}
 use Rattle.deadpool_parts.specs.Numbers.{largest_usize}
 use Rattle.deadpool_parts.specs.declared.moment.Runtime.{Runtime}
+use Rattle.deadpool_parts.proofs.Owners.{NoTicket, owned-push, renamed-push}
 use Rattle.deadpool_unmanaged.specs.Image.{image, party_of, has_get, has_add, IsCounted}
 use Rattle.deadpool_unmanaged.specs.Laws.{IsLawful}
 use Rattle.deadpool_unmanaged.specs.Moves.{NobodyWaits, unsettled, by_party}
@@ -25,7 +26,6 @@ use Rattle.deadpool_unmanaged.specs.declared.replay.trial.Seat.{Seat}
 use Rattle.deadpool_unmanaged.specs.declared.replay.trial.Seat.TheVariants as seat
 use Rattle.deadpool_unmanaged.specs.declared.steps.StepReply.TheVariants.{Done, Unknown}
 use Rattle.deadpool_unmanaged.proofs.Follows.{Follows, by_settling, by_resting}
-use Rattle.deadpool_unmanaged.proofs.Owners.{NoTicket, owned-push, renamed-push}
 use Rattle.deadpool_unmanaged.proofs.Seats.{party-here, counted-set, image-set, left-none, nobody-set, counted-without_get, image-without_get, counted-without_add, image-without_add}
 
 -- no handle is left

@@ -4,10 +4,12 @@ use Rattle.std.specs.List.{slice_get}
 use Rattle.std.proofs.lemmas.List.{map-set, length-map}
 use Rattle.std.proofs.lemmas.Option.{slice_get-map}
 use Rattle.deadpool_parts.specs.declared.moment.Runtime.{Runtime}
-use Rattle.deadpool_unmanaged.specs.Image.{image, party_of, owner, has_get, has_add, IsCounted}
+use Rattle.deadpool_parts.specs.Owners.{owner}
+use Rattle.deadpool_parts.specs.Queue.{renamed, is_listed, joined}
+use Rattle.deadpool_parts.proofs.Owners.{NoTicket, OneTicket, owned-set, renamed-set, absent, owned-leaves, renamed-leaves, owned-joins, renamed-joins}
+use Rattle.deadpool_unmanaged.specs.Image.{image, party_of, has_get, has_add, IsCounted}
 use Rattle.deadpool_unmanaged.specs.Moves.{NobodyWaits}
 use Rattle.deadpool_unmanaged.specs.Pool.{Pool, free_objects, free_room}
-use Rattle.deadpool_unmanaged.specs.Queue.{renamed, is_listed, joined}
 use Rattle.deadpool_unmanaged.specs.State.{State, free_objects as objects_left, free_room as room_left}
 use Rattle.deadpool_unmanaged.specs.StateSteps.{without_get, without_add, handed, stored}
 use Rattle.deadpool_unmanaged.specs.Steps.{left, last_idle, hand_out, store, with_item}
@@ -15,7 +17,6 @@ use Rattle.deadpool_unmanaged.specs.declared.replay.moves.Item.{Item}
 use Rattle.deadpool_unmanaged.specs.declared.replay.moves.Reply.TheVariants as reply
 use Rattle.deadpool_unmanaged.specs.declared.replay.trial.Seat.{Seat}
 use Rattle.deadpool_unmanaged.proofs.Lawful.{length-with_item}
-use Rattle.deadpool_unmanaged.proofs.Owners.{NoTicket, OneTicket, owned-set, renamed-set, absent, owned-leaves, renamed-leaves, owned-joins, renamed-joins}
 
 module _ {V : Type 0} (runtime : Option Runtime) (most next : ℕ) where
   abbrev img : State (Item V) → List (Option (Seat V)) → List (Item V) → Pool V

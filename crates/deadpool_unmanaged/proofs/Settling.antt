@@ -3,14 +3,15 @@ use Rattle.std.proofs.Common.{◌≡◌, ℕ, ◌<◌, List, [], Bool, true, con
 use Rattle.std.proofs.lemmas.Bool.{cases_Bool, cases_lt}
 use Rattle.std.proofs.lemmas.List.{take-map, drop-map, map-append, length-map}
 use Rattle.deadpool_parts.specs.declared.moment.Runtime.{Runtime}
-use Rattle.deadpool_unmanaged.specs.Image.{image, owner, has_get, has_add, IsCounted}
+use Rattle.deadpool_parts.specs.Owners.{owner}
+use Rattle.deadpool_parts.specs.Queue.{Queue, renamed, served}
+use Rattle.deadpool_parts.proofs.Owners.{owned-granting}
+use Rattle.deadpool_unmanaged.specs.Image.{image, has_get, has_add, IsCounted}
 use Rattle.deadpool_unmanaged.specs.Moves.{NobodyWaits}
 use Rattle.deadpool_unmanaged.specs.Pool.{Pool, settle, free_objects, free_room}
-use Rattle.deadpool_unmanaged.specs.Queue.{Queue, renamed, served}
 use Rattle.deadpool_unmanaged.specs.State.{State, settled, free_objects as objects_left, free_room as room_left}
 use Rattle.deadpool_unmanaged.specs.declared.replay.moves.Item.{Item}
 use Rattle.deadpool_unmanaged.specs.declared.replay.trial.Seat.{Seat}
-use Rattle.deadpool_unmanaged.proofs.Owners.{owned-granting}
 
 -- the same are granted under other names
 pub renamed-served : (f : ℕ → ℕ) (is_open : Bool) (free : ℕ) (q : Queue) → renamed f (served is_open free q) ≡ served is_open free (renamed f q)

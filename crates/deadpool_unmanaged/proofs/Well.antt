@@ -5,10 +5,10 @@ use Rattle.std.proofs.lemmas.Bool.{cases_Bool}
 use Rattle.std.proofs.lemmas.Bool.Decides.{eqb_tells}
 use Rattle.deadpool_parts.specs.Numbers.{has_number}
 use Rattle.deadpool_parts.specs.Runs.{all_states, Neighbours, Later}
+use Rattle.deadpool_parts.specs.Queue.{Queue, members, served}
 use Rattle.deadpool_parts.proofs.Orders.{IsOnce-append}
 use Rattle.deadpool_unmanaged.specs.Moves.{unsettled, moved}
 use Rattle.deadpool_unmanaged.specs.Pool.{Pool, Party, new_get, queued_get, new_add, queued_add, finished}
-use Rattle.deadpool_unmanaged.specs.Queue.{Queue, members, served}
 use Rattle.deadpool_unmanaged.specs.RunLaws.{IsWell, IsNumbered, CountsOn, IsLined, HasRoomForAll, IsListedOnce, Succeeds, EachState, EachStep, EachLater, EachMove, EndsWell, NoneReturns, copies, asks_for_object, asks_for_room, named, OthersStayInPool, OthersStayQueued, OthersStand}
 use Rattle.deadpool_unmanaged.specs.declared.replay.moves.Move.{Move}
 use Rattle.deadpool_unmanaged.specs.declared.replay.moves.Reply.{Reply}

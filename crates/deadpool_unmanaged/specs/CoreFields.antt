@@ -1,7 +1,7 @@
 -- The state that the fields of a `Core` are, and what they keep.
 use Rattle.std.specs.Prelude.{◌≡◌, ◌+◌, ◌≤◌, not, List, length, vec_capacity}
 use Rattle.deadpool_parts.specs.Gate.{Waiter, granted_tickets, waiting_tickets}
-use Rattle.deadpool_unmanaged.specs.Queue.{Queue}
+use Rattle.deadpool_parts.specs.Queue.{Queue}
 use Rattle.deadpool_unmanaged.specs.State.{State}
 use Rattle.deadpool_unmanaged.specs.declared.state.Core.TheInside.{Inside}
 

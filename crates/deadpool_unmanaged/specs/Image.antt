@@ -1,8 +1,9 @@
 -- The pool in lists that a core, its parties and the objects out stand for.
-use Rattle.std.specs.Prelude.{◌≡◌, ℕ, ◌+◌, Bool, true, false, ◌==◌, List, [], ◌∷◌, length, map, slice_get, Option, Some, None, if◌then◌else◌}
+use Rattle.std.specs.Prelude.{◌≡◌, ℕ, Bool, false, ◌==◌, List, length, map, Option, Some, None}
+use Rattle.deadpool_parts.specs.Owners.{owner, IsOwned}
+use Rattle.deadpool_parts.specs.Queue.{renamed}
 use Rattle.deadpool_parts.specs.declared.moment.Runtime.{Runtime}
 use Rattle.deadpool_unmanaged.specs.Pool.{Pool, Party, new_get, queued_get, new_add, queued_add, finished}
-use Rattle.deadpool_unmanaged.specs.Queue.{Queue, is_listed, renamed}
 use Rattle.deadpool_unmanaged.specs.State.{State}
 use Rattle.deadpool_unmanaged.specs.declared.add.AddStage.{AddStage}
 use Rattle.deadpool_unmanaged.specs.declared.add.AddStage.TheVariants as add
@@ -11,18 +12,6 @@ use Rattle.deadpool_unmanaged.specs.declared.get.GetStage.TheVariants as get
 use Rattle.deadpool_unmanaged.specs.declared.replay.moves.Item.{Item}
 use Rattle.deadpool_unmanaged.specs.declared.replay.trial.Seat.{Seat}
 use Rattle.deadpool_unmanaged.specs.declared.replay.trial.Seat.TheVariants as seat
-
--- tickets of a queue, and a table of those who may have one
-module _ {X : Type 0} (has : ℕ → X → Bool) where
-  -- the first that has the ticket, by number
-  abbrev pub owner : List X → ℕ → ℕ
-  owner [] t = 0
-  owner (x ∷ xs) t = if has t x then 0 else (owner xs t + 1)
-
-  -- the tickets of the queue are those of the table, one each
-  pub record IsOwned (q : Queue) (xs : List X) : Type 0 where
-    pub owned : (t : ℕ) → is_listed t q ≡ true → (x : X) × ((slice_get xs (owner xs t) ≡ Some x) × (has t x ≡ true))
-    pub listed : (n t : ℕ) (x : X) → slice_get xs n ≡ Some x → has t x ≡ true → (is_listed t q ≡ true) × (owner xs t ≡ n)
 
 -- the ticket is a queued get's
 abbrev pub holds_get : ℕ → GetStage → Bool

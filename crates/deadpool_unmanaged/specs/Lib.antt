@@ -6,7 +6,6 @@ pub mod Image
 pub mod Laws
 pub mod Moves
 pub mod Pool
-pub mod Queue
 pub mod RunLaws
 pub mod Script
 pub mod Scripts

@@ -6,10 +6,10 @@ use Rattle.deadpool_parts.specs.Numbers.{has_number}
 use Rattle.deadpool_parts.specs.Orders.{IsOnce, KeepsOrder}
 use Rattle.deadpool_parts.specs.Runs.{all_states, Each, Neighbours, Later}
 use Rattle.deadpool_parts.specs.declared.moment.Runtime.{Runtime}
+use Rattle.deadpool_parts.specs.Queue.{Queue, members}
 use Rattle.deadpool_unmanaged.specs.Laws.{IsLawful}
 use Rattle.deadpool_unmanaged.specs.Moves.{Makes, PoolRuns}
 use Rattle.deadpool_unmanaged.specs.Pool.{Pool, Party, queued_get, new_add, queued_add, opened}
-use Rattle.deadpool_unmanaged.specs.Queue.{Queue, members}
 use Rattle.deadpool_unmanaged.specs.declared.replay.moves.Item.{Item}
 use Rattle.deadpool_unmanaged.specs.declared.replay.moves.Move.{Move}
 use Rattle.deadpool_unmanaged.specs.declared.replay.moves.Move.TheVariants as move

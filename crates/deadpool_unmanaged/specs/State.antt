@@ -1,7 +1,7 @@
 -- The state of an unmanaged pool without names: tickets in its queues, and a count of the objects that are out.
 use Rattle.std.specs.Prelude.{ℕ, ◌+◌, ◌-◌, Bool, List, length}
 use Rattle.deadpool_parts.specs.declared.status.Status.{Status}
-use Rattle.deadpool_unmanaged.specs.Queue.{Queue, served}
+use Rattle.deadpool_parts.specs.Queue.{Queue, served}
 
 pub record State (T : Type 0) : Type 0 where
   pub limit : ℕ

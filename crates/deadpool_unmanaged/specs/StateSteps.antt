@@ -1,7 +1,7 @@
 -- The steps of a pool without names, each by its reply: when the reply comes, and the state after it.
 use Rattle.std.specs.Prelude.{◌≡◌, ℕ, ◌+◌, ◌-◌, ◌<◌, min, Bool, true, false, ◌&&◌, ◌==◌, nat_lt, if◌then◌else◌, [], ◌∷◌, ◌++◌, Some}
 use Rattle.deadpool_parts.specs.Numbers.{has_number}
-use Rattle.deadpool_unmanaged.specs.Queue.{is_listed, joined, without}
+use Rattle.deadpool_parts.specs.Queue.{is_listed, joined, without}
 use Rattle.deadpool_unmanaged.specs.State.{State, free_objects, free_room, settled}
 use Rattle.deadpool_unmanaged.specs.Steps.{last_idle, other_idle, most_handles}
 use Rattle.deadpool_unmanaged.specs.declared.steps.GetEnterReply.{GetEnterReply}

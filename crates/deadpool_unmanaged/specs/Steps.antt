@@ -6,8 +6,8 @@ use Rattle.deadpool_parts.specs.Moments.{deadline_after, is_reached, is_positive
 use Rattle.deadpool_parts.specs.Numbers.{has_number}
 use Rattle.deadpool_parts.specs.declared.moment.Moment.{Moment}
 use Rattle.deadpool_parts.specs.declared.moment.Runtime.{Runtime}
+use Rattle.deadpool_parts.specs.Queue.{joined, without}
 use Rattle.deadpool_unmanaged.specs.Pool.{Pool, Party, new_get, queued_get, new_add, queued_add, finished, free_objects, free_room}
-use Rattle.deadpool_unmanaged.specs.Queue.{joined, without}
 use Rattle.deadpool_unmanaged.specs.declared.error.PoolError.TheVariants.{Timeout, Closed, NoRuntimeSpecified, OutOfMemory}
 use Rattle.deadpool_unmanaged.specs.declared.replay.moves.Item.{Item}
 use Rattle.deadpool_unmanaged.specs.declared.replay.moves.Reply.{Reply}

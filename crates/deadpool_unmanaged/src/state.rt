@@ -1,6 +1,6 @@
 //! The state of an unmanaged pool on one thread: a line for objects, a line for room, and the idle objects.
 ghost use Rattle.std.specs.Prelude.{◌≡◌, ◌<◌, nat_lt, true, [], IfOk, IfSome, IfNone};
-ghost use Rattle.deadpool_unmanaged.specs.Queue.{nobody};
+ghost use Rattle.deadpool_parts.specs.Queue.{nobody};
 ghost use Rattle.deadpool_unmanaged.specs.State.{free_objects, free_room, settled, status_of};
 ghost use Rattle.deadpool_unmanaged.specs.StateSteps.{GetEnters, GetAsks, GetCancels, AddEnters, AddAsks, AddCancels, TakesBack, Takes, Clones, DropsHandle, Upgrades, handed, stored, shut};
 ghost use Rattle.deadpool_unmanaged.specs.Steps.{last_idle};

@@ -6,10 +6,10 @@ use Rattle.std.proofs.lemmas.Bool.Decides.{eqb_tells}
 use Rattle.std.proofs.lemmas.List.{map-append}
 use Rattle.std.proofs.lemmas.Option.{slice_get_within}
 use Rattle.deadpool_parts.specs.Numbers.{has_number, without_number}
+use Rattle.deadpool_parts.specs.Queue.{Queue, is_listed, joined, without, renamed, granting}
+use Rattle.deadpool_parts.specs.Owners.{owner, IsOwned}
 use Rattle.deadpool_parts.proofs.Numbers.{differs_sym, has_number-without, has_number-moved, has_number-joined, has_number-parted, without_number-same, map_same, Tells, has_number-map, without-map, absent-map}
 use Rattle.deadpool_parts.proofs.Lists.{get-set_same, get-set_other, get-append, get-pushed}
-use Rattle.deadpool_unmanaged.specs.Queue.{Queue, is_listed, joined, without, renamed, granting}
-use Rattle.deadpool_unmanaged.specs.Image.{owner, IsOwned}
 
 -- who is listed after one joins, leaves, or some are granted what they ask for
 pub is_listed-joined : (u t : ℕ) (q : Queue) → is_listed u (joined t q) ≡ (is_listed u q || eqb t u)
