@@ -8,29 +8,29 @@ use Rattle.deadpool_parts.specs.declared.moment.Runtime.{Runtime}
 use Rattle.deadpool_parts.specs.declared.config.Timeouts.{Timeouts}
 use Rattle.deadpool_parts.specs.Owners.{owner}
 use Rattle.deadpool_parts.proofs.Owners.{owned-set, owned-leaves}
-use Rattle.deadpool.specs.HookLists.{HookLists}
-use Rattle.deadpool.specs.DeskState.{DeskState, settled}
-use Rattle.deadpool.specs.DeskSteps.{is_listed, unqueued, Fails, Refuses, Cancels as DeskCancels}
-use Rattle.deadpool.specs.Stages.{Getting}
-use Rattle.deadpool.specs.Outside.{May}
-use Rattle.deadpool.specs.Prepare.{object_of}
-use Rattle.deadpool.specs.Get.{Made, no_step, cancelling, Makes, CancelsFrom, GivesUp}
+use Rattle.deadpool_managed.specs.HookLists.{HookLists}
+use Rattle.deadpool_managed.specs.DeskState.{DeskState, settled}
+use Rattle.deadpool_managed.specs.DeskSteps.{is_listed, unqueued, Fails, Refuses, Cancels as DeskCancels}
+use Rattle.deadpool_managed.specs.Stages.{Getting}
+use Rattle.deadpool_managed.specs.Outside.{May}
+use Rattle.deadpool_managed.specs.Prepare.{object_of}
+use Rattle.deadpool_managed.specs.Get.{Made, no_step, cancelling, Makes, CancelsFrom, GivesUp}
 use Rattle.deadpool.specs.Pool.{Pool, prepared_at}
 use Rattle.deadpool.specs.Steps.{removed}
 use Rattle.deadpool.specs.Party.{cancel}
 use Rattle.deadpool.specs.Moves.{NobodyWaits, by_party, moved}
 use Rattle.deadpool.specs.Laws.{IsLawful}
 use Rattle.deadpool.specs.Image.{party_of, standing_of, has_ticket, queue_of, image, IsCounted}
-use Rattle.deadpool.specs.declared.managed.slot.Slot.{Slot}
-use Rattle.deadpool.specs.declared.managed.get.Stage.{Stage}
-use Rattle.deadpool.specs.declared.managed.get.Stage.TheVariants as stage
-use Rattle.deadpool.specs.declared.managed.desk.StepReply.{StepReply}
-use Rattle.deadpool.specs.declared.managed.desk.StepReply.TheVariants as step
-use Rattle.deadpool.specs.declared.managed.desk.Held.{Held}
-use Rattle.deadpool.specs.declared.managed.desk.Held.TheVariants as held
+use Rattle.deadpool_managed.specs.declared.slot.Slot.{Slot}
+use Rattle.deadpool_managed.specs.declared.get.Stage.{Stage}
+use Rattle.deadpool_managed.specs.declared.get.Stage.TheVariants as stage
+use Rattle.deadpool_parts.specs.declared.replies.StepReply.{StepReply}
+use Rattle.deadpool_parts.specs.declared.replies.StepReply.TheVariants as step
+use Rattle.deadpool_managed.specs.declared.desk.Held.{Held}
+use Rattle.deadpool_managed.specs.declared.desk.Held.TheVariants as held
 use Rattle.deadpool.specs.declared.replay.moves.Move.TheVariants as move
 use Rattle.deadpool.specs.declared.replay.moves.Reply.TheVariants as reply
-use Rattle.deadpool.proofs.CoreDesk.{core_desk}
+use Rattle.deadpool_managed.proofs.CoreDesk.{core_desk}
 use Rattle.deadpool.proofs.Tickets.{NoTicket}
 use Rattle.deadpool.proofs.Settles.{counted_settled}
 use Rattle.deadpool.proofs.Settling.{goes, creates, prepares, Shifts, IsCounted-set, put_off-image, put_off-unqueued}

@@ -9,14 +9,14 @@ use Rattle.deadpool_parts.specs.declared.config.Timeouts.{Timeouts}
 use Rattle.deadpool_parts.specs.Owners.{owner}
 use Rattle.deadpool_parts.proofs.Numbers.{without_number-same}
 use Rattle.deadpool_parts.proofs.Owners.{renamed-set}
-use Rattle.deadpool.specs.HookLists.{HookLists}
-use Rattle.deadpool.specs.DeskState.{DeskState, places, settled}
-use Rattle.deadpool.specs.DeskSteps.{unqueued}
-use Rattle.deadpool.specs.Stages.{Getting}
+use Rattle.deadpool_managed.specs.HookLists.{HookLists}
+use Rattle.deadpool_managed.specs.DeskState.{DeskState, places, settled}
+use Rattle.deadpool_managed.specs.DeskSteps.{unqueued}
+use Rattle.deadpool_managed.specs.Stages.{Getting}
 use Rattle.deadpool.specs.Pool.{Pool, is_going, is_creating, prepared_by, places as pool_places, settle}
 use Rattle.deadpool.specs.Moves.{NobodyWaits}
 use Rattle.deadpool.specs.Image.{party_of, has_ticket, queue_of, image, IsCounted}
-use Rattle.deadpool.specs.declared.managed.slot.Slot.{Slot}
+use Rattle.deadpool_managed.specs.declared.slot.Slot.{Slot}
 use Rattle.deadpool.proofs.Counts.{count-set, held-set}
 use Rattle.deadpool.proofs.Tickets.{NoTicket}
 use Rattle.deadpool.proofs.Settles.{settles, counts_of}

@@ -14,29 +14,29 @@ use Rattle.deadpool_parts.specs.declared.errors.TimeoutType.TheVariants as phase
 use Rattle.deadpool_parts.specs.Owners.{owner}
 use Rattle.deadpool_parts.proofs.Lists.{set-same}
 use Rattle.deadpool_parts.proofs.Owners.{owned-set, owned-joins, owned-leaves, granted-renamed}
-use Rattle.deadpool.specs.HookLists.{HookLists}
-use Rattle.deadpool.specs.DeskState.{DeskState, places}
-use Rattle.deadpool.specs.DeskSteps.{is_listed, unqueued, Enters, Asks, GoesOn}
-use Rattle.deadpool.specs.Stages.{Getting}
-use Rattle.deadpool.specs.Outside.{May, Reserve}
-use Rattle.deadpool.specs.Get.{AfterEntered, AfterAsked, AfterGoingOn}
+use Rattle.deadpool_managed.specs.HookLists.{HookLists}
+use Rattle.deadpool_managed.specs.DeskState.{DeskState, places}
+use Rattle.deadpool_managed.specs.DeskSteps.{is_listed, unqueued, Enters, Asks, GoesOn}
+use Rattle.deadpool_managed.specs.Stages.{Getting}
+use Rattle.deadpool_managed.specs.Outside.{May, Reserve}
+use Rattle.deadpool_managed.specs.Get.{AfterEntered, AfterAsked, AfterGoingOn}
 use Rattle.deadpool.specs.Pool.{Pool, Party, unpolled, queued, going, places as pool_places}
 use Rattle.deadpool.specs.Steps.{unqueued as pool_unqueued, fail, rest, serve}
 use Rattle.deadpool.specs.Party.{enter, inquire, joined, advance_at}
 use Rattle.deadpool.specs.Moves.{NobodyWaits}
 use Rattle.deadpool.specs.Image.{party_of, standing_of, has_ticket, queue_of, image, IsCounted}
 use Rattle.deadpool.specs.TrialFields.{given, reply_to}
-use Rattle.deadpool.specs.declared.managed.slot.Slot.{Slot}
-use Rattle.deadpool.specs.declared.managed.get.Stage.{Stage}
-use Rattle.deadpool.specs.declared.managed.get.Stage.TheVariants as stage
-use Rattle.deadpool.specs.declared.managed.get.Turn.{Turn}
-use Rattle.deadpool.specs.declared.managed.get.Turn.TheVariants as turn
-use Rattle.deadpool.specs.declared.managed.desk.EnterReply.{EnterReply}
-use Rattle.deadpool.specs.declared.managed.desk.EnterReply.TheVariants as entered
-use Rattle.deadpool.specs.declared.managed.desk.AskReply.{AskReply}
-use Rattle.deadpool.specs.declared.managed.desk.AskReply.TheVariants as asked
-use Rattle.deadpool.specs.declared.managed.desk.AgainReply.{AgainReply}
-use Rattle.deadpool.specs.declared.managed.desk.AgainReply.TheVariants as again
+use Rattle.deadpool_managed.specs.declared.slot.Slot.{Slot}
+use Rattle.deadpool_managed.specs.declared.get.Stage.{Stage}
+use Rattle.deadpool_managed.specs.declared.get.Stage.TheVariants as stage
+use Rattle.deadpool_managed.specs.declared.get.Turn.{Turn}
+use Rattle.deadpool_managed.specs.declared.get.Turn.TheVariants as turn
+use Rattle.deadpool_managed.specs.declared.desk.EnterReply.{EnterReply}
+use Rattle.deadpool_managed.specs.declared.desk.EnterReply.TheVariants as entered
+use Rattle.deadpool_managed.specs.declared.desk.AskReply.{AskReply}
+use Rattle.deadpool_managed.specs.declared.desk.AskReply.TheVariants as asked
+use Rattle.deadpool_managed.specs.declared.desk.AgainReply.{AgainReply}
+use Rattle.deadpool_managed.specs.declared.desk.AgainReply.TheVariants as again
 use Rattle.deadpool.specs.declared.replay.moves.Reply.{Reply}
 use Rattle.deadpool.specs.declared.replay.moves.Reply.TheVariants as reply
 use Rattle.deadpool.proofs.NumberLists.{without-twice}

@@ -4,24 +4,24 @@ use Rattle.std.specs.Prelude.{nat_lt, nat_le, slice_get, filter, unwrap_or, is_n
 use Rattle.std.proofs.lemmas.Bool.{cond_both, eq-eqb}
 use Rattle.futures.specs.declared.task.Poll.{Poll}
 use Rattle.futures.specs.declared.task.Poll.TheVariants as poll
-use Rattle.deadpool_parts.specs.Moments.{deadline_after, is_reached, is_positive}
+use Rattle.deadpool_parts.specs.Moments.{deadline_after, is_reached, is_positive, lacks_runtime}
 use Rattle.deadpool_parts.specs.Numbers.{has_number, largest_usize}
 use Rattle.deadpool_parts.specs.Program.{Program, Return, Ask, Always}
 use Rattle.deadpool_parts.specs.declared.moment.Moment.{Moment}
 use Rattle.deadpool_parts.proofs.Programs.{Always-bind}
-use Rattle.deadpool.specs.Outside.{Asking}
-use Rattle.deadpool.specs.DeskState.{next_idle}
-use Rattle.deadpool.specs.Prepare.{create, prepare, check, lacks_runtime, with_value}
+use Rattle.deadpool_managed.specs.Outside.{Asking}
+use Rattle.deadpool_managed.specs.DeskState.{next_idle}
+use Rattle.deadpool_managed.specs.Prepare.{create, prepare, check, with_value}
 use Rattle.deadpool.specs.Pool.{Pool, Party, Standing, unpolled, queued, going, creating, recycling, checking, finished, prepared_at, creating_count, places, size, status_of}
 use Rattle.deadpool.specs.Steps.{find_slot, with_slot, closed, cloned, handle_dropped, serve_from, unqueued}
 use Rattle.deadpool.specs.Party.{joined, enter, inquire, hand_out, reviewed, checked, created, go_on_creating, advance_at, advance, cancel_with, cancel}
 use Rattle.deadpool.specs.Moves.{by_handle, started, put_at, back_at, take_at, resize, give_up, retain_with, retain, by_party, moved}
 use Rattle.deadpool.specs.RunLaws.{IsOutIfGiven, IsIdleIfKept}
-use Rattle.deadpool.specs.declared.managed.slot.Slot.{Slot}
-use Rattle.deadpool.specs.declared.managed.prepare.Verdict.{Verdict}
-use Rattle.deadpool.specs.declared.managed.prepare.Verdict.TheVariants as verdict
-use Rattle.deadpool.specs.declared.managed.prepare.Prepared.{Prepared}
-use Rattle.deadpool.specs.declared.managed.prepare.Prepared.TheVariants as prepared
+use Rattle.deadpool_managed.specs.declared.slot.Slot.{Slot}
+use Rattle.deadpool_managed.specs.declared.prepare.Verdict.{Verdict}
+use Rattle.deadpool_managed.specs.declared.prepare.Verdict.TheVariants as verdict
+use Rattle.deadpool_managed.specs.declared.prepare.Prepared.{Prepared}
+use Rattle.deadpool_managed.specs.declared.prepare.Prepared.TheVariants as prepared
 use Rattle.deadpool.specs.declared.replay.moves.Move.{Move}
 use Rattle.deadpool.specs.declared.replay.moves.Move.TheVariants as move
 use Rattle.deadpool.specs.declared.replay.moves.Reply.{Reply}

@@ -4,7 +4,7 @@ use Rattle.deadpool_parts.specs.Program.{Program, Return, Ask, Always}
 use Rattle.deadpool_parts.specs.declared.config.QueueMode.{QueueMode}
 use Rattle.deadpool_parts.specs.declared.config.Timeouts.{Timeouts}
 use Rattle.deadpool_parts.specs.declared.moment.Runtime.{Runtime}
-use Rattle.deadpool.specs.HookLists.{HookLists}
+use Rattle.deadpool_managed.specs.HookLists.{HookLists}
 use Rattle.deadpool.specs.Pool.{Pool, opened, reach}
 use Rattle.deadpool.specs.Moves.{moved}
 use Rattle.deadpool.specs.Laws.{IsLawful}

@@ -10,9 +10,9 @@ use Rattle.deadpool_parts.specs.Numbers.{has_number}
 use Rattle.deadpool_parts.specs.declared.config.QueueMode.{QueueMode}
 use Rattle.deadpool_parts.specs.declared.config.QueueMode.TheVariants.{Fifo, Lifo}
 use Rattle.deadpool_parts.specs.Orders.{IsOnce}
-use Rattle.deadpool.specs.DeskState.{next_idle, other_idle}
+use Rattle.deadpool_managed.specs.DeskState.{next_idle, other_idle}
 use Rattle.deadpool.specs.Steps.{find_slot, without_slot, with_slot, with_put}
-use Rattle.deadpool.specs.declared.managed.slot.Slot.{Slot}
+use Rattle.deadpool_managed.specs.declared.slot.Slot.{Slot}
 use Rattle.deadpool.proofs.Counts.{one_if, length-cond}
 
 -- how often the number stands in the list

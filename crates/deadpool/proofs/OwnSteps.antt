@@ -3,14 +3,15 @@ use Rattle.std.proofs.Common.{◌≡◌, ℕ, ◌+◌, ◌-◌, List, [], Bool, 
 use Rattle.std.proofs.lemmas.List.{drop_all}
 use Rattle.deadpool_parts.specs.declared.moment.Runtime.{Runtime}
 use Rattle.deadpool_parts.specs.declared.config.Timeouts.{Timeouts}
-use Rattle.deadpool.specs.HookLists.{HookLists}
-use Rattle.deadpool.specs.DeskState.{DeskState, size, settled}
-use Rattle.deadpool.specs.Stages.{Getting}
+use Rattle.deadpool_managed.specs.HookLists.{HookLists}
+use Rattle.deadpool_managed.specs.DeskState.{DeskState, size, settled}
+use Rattle.deadpool_managed.specs.Stages.{Getting}
 use Rattle.deadpool.specs.Pool.{Pool, places, size as pool_size, settle}
-use Rattle.deadpool.specs.Steps.{resized, closed, cloned, handle_dropped, most_handles}
+use Rattle.deadpool.specs.Steps.{resized, closed, cloned, handle_dropped}
 use Rattle.deadpool.specs.Image.{image, IsCounted}
-use Rattle.deadpool.specs.declared.managed.slot.Slot.{Slot}
+use Rattle.deadpool_managed.specs.declared.slot.Slot.{Slot}
 use Rattle.deadpool.proofs.Settles.{settles, counts_of, same_counted, counted_settled}
+use Rattle.deadpool_parts.specs.Numbers.{most_handles}
 
 -- below a limit of 0 no place is free
 none_free : (b : Bool) (n m : ℕ) → (if b then min n (0 - m) else 0) ≡ 0

@@ -11,7 +11,7 @@ use Rattle.deadpool_parts.proofs.Orders.{order_same, order_joined}
 use Rattle.deadpool.specs.Pool.{Pool, Party, prepared_by, preparing, grants, settle}
 use Rattle.deadpool.specs.Laws.{queue}
 use Rattle.deadpool.specs.RunLaws.{HasFewIdle, numbers}
-use Rattle.deadpool.specs.declared.managed.slot.Slot.{Slot}
+use Rattle.deadpool_managed.specs.declared.slot.Slot.{Slot}
 use Rattle.deadpool.proofs.Counts.{one_if, count-set}
 use Rattle.deadpool.proofs.NumberCounts.{times, held, is_at, times-map, held-append, held-filter_map}
 

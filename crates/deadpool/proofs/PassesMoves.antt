@@ -3,20 +3,20 @@ use Rattle.std.proofs.Common.{◌≡◌, ◌≢◌, ℕ, zero, suc, ◌+◌, ◌
 use Rattle.std.specs.Prelude.{nat_lt, nat_le, slice_get, filter, unwrap_or, ◌==◌, if◌then◌else◌}
 use Rattle.std.proofs.lemmas.Bool.{cases_Bool, cond_both, eqb-false, ne_eqb, leb-true}
 use Rattle.std.proofs.lemmas.List.{take_min}
-use Rattle.deadpool_parts.specs.Numbers.{has_number}
+use Rattle.deadpool_parts.specs.Numbers.{has_number, most_handles}
 use Rattle.deadpool_parts.specs.Program.{Return, Always}
 use Rattle.deadpool_parts.specs.declared.config.Timeouts.{Timeouts}
 use Rattle.deadpool_parts.proofs.Programs.{Always-bind}
 use Rattle.deadpool_parts.proofs.Lists.{get-append}
 use Rattle.deadpool_parts.proofs.Orders.{order_same}
-use Rattle.deadpool.specs.Outside.{Asking}
+use Rattle.deadpool_managed.specs.Outside.{Asking}
 use Rattle.deadpool.specs.Pool.{Pool, Party, unpolled, size, status_of}
-use Rattle.deadpool.specs.Steps.{find_slot, without_slot, with_put, resized, closed, cloned, handle_dropped, most_handles}
+use Rattle.deadpool.specs.Steps.{find_slot, without_slot, with_put, resized, closed, cloned, handle_dropped}
 use Rattle.deadpool.specs.Party.{advance, cancel}
 use Rattle.deadpool.specs.Moves.{by_handle, started, put_at, back_at, take_at, resize, give_up, retain_with, retain, upgrade, by_party, moved}
 use Rattle.deadpool.specs.Laws.{MarksQueued, queue}
 use Rattle.deadpool.specs.RunLaws.{sets_limit, named, prepared_in, may_leave}
-use Rattle.deadpool.specs.declared.managed.slot.Slot.{Slot}
+use Rattle.deadpool_managed.specs.declared.slot.Slot.{Slot}
 use Rattle.deadpool.specs.declared.replay.moves.Move.{Move}
 use Rattle.deadpool.specs.declared.replay.moves.Move.TheVariants as move
 use Rattle.deadpool.specs.declared.replay.moves.Reply.{Reply}

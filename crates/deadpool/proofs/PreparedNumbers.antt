@@ -4,24 +4,24 @@ use Rattle.std.specs.declared.time.Duration.{Duration}
 use Rattle.std.proofs.lemmas.Bool.{cond_both}
 use Rattle.futures.specs.declared.task.Poll.{Poll}
 use Rattle.futures.specs.declared.task.Poll.TheVariants as poll
-use Rattle.deadpool_parts.specs.Moments.{deadline_after, is_reached}
+use Rattle.deadpool_parts.specs.Moments.{deadline_after, is_reached, lacks_runtime}
 use Rattle.deadpool_parts.specs.Program.{Program, Return, Ask, Always, ◌>>=◌}
 use Rattle.deadpool_parts.specs.declared.moment.Moment.{Moment}
 use Rattle.deadpool_parts.specs.declared.moment.Runtime.{Runtime}
 use Rattle.deadpool_parts.specs.declared.errors.RecycleError.{RecycleError}
 use Rattle.deadpool_parts.proofs.Programs.{Always-bind}
-use Rattle.deadpool.specs.HookLists.{HookLists}
-use Rattle.deadpool.specs.Outside.{Asking}
-use Rattle.deadpool.specs.Calls.{pass, start}
-use Rattle.deadpool.specs.Prepare.{approved, approve, recycled, poll_recycling, begin_recycling, reviewed, prepare, object_of, with_value, lacks_runtime}
-use Rattle.deadpool.specs.declared.managed.slot.Slot.{Slot}
-use Rattle.deadpool.specs.declared.managed.prepare.Position.{Position}
-use Rattle.deadpool.specs.declared.managed.prepare.Verdict.{Verdict}
-use Rattle.deadpool.specs.declared.managed.prepare.Verdict.TheVariants as verdict
-use Rattle.deadpool.specs.declared.managed.prepare.Preparation.{Preparation}
-use Rattle.deadpool.specs.declared.managed.prepare.Preparation.TheVariants.{PreRecycle, Recycle, PostRecycle}
-use Rattle.deadpool.specs.declared.managed.prepare.Prepared.{Prepared}
-use Rattle.deadpool.specs.declared.managed.prepare.Prepared.TheVariants.{Accepted, GivenUp, Pending}
+use Rattle.deadpool_managed.specs.HookLists.{HookLists}
+use Rattle.deadpool_managed.specs.Outside.{Asking}
+use Rattle.deadpool_managed.specs.Calls.{pass, start}
+use Rattle.deadpool_managed.specs.Prepare.{approved, approve, recycled, poll_recycling, begin_recycling, reviewed, prepare, object_of, with_value}
+use Rattle.deadpool_managed.specs.declared.slot.Slot.{Slot}
+use Rattle.deadpool_managed.specs.declared.prepare.Position.{Position}
+use Rattle.deadpool_managed.specs.declared.prepare.Verdict.{Verdict}
+use Rattle.deadpool_managed.specs.declared.prepare.Verdict.TheVariants as verdict
+use Rattle.deadpool_managed.specs.declared.prepare.Preparation.{Preparation}
+use Rattle.deadpool_managed.specs.declared.prepare.Preparation.TheVariants.{PreRecycle, Recycle, PostRecycle}
+use Rattle.deadpool_managed.specs.declared.prepare.Prepared.{Prepared}
+use Rattle.deadpool_managed.specs.declared.prepare.Prepared.TheVariants.{Accepted, GivenUp, Pending}
 
 -- what always holds after the first, where so much always holds of what that gave
 pub Always-then : {Q : Type 0} {Answer : Q → Type 0} {A B : Type 0} (given : A → Type 0) (P : B → Type 0) (p : Program Q Answer A) (f : A → Program Q Answer B)

@@ -2,13 +2,13 @@
 use Rattle.std.proofs.Common.{ℕ, List, arith, Option}
 use Rattle.deadpool_parts.specs.declared.moment.Runtime.{Runtime}
 use Rattle.deadpool_parts.specs.declared.config.Timeouts.{Timeouts}
-use Rattle.deadpool.specs.HookLists.{HookLists}
-use Rattle.deadpool.specs.DeskState.{DeskState}
-use Rattle.deadpool.specs.Stages.{Getting}
+use Rattle.deadpool_managed.specs.HookLists.{HookLists}
+use Rattle.deadpool_managed.specs.DeskState.{DeskState}
+use Rattle.deadpool_managed.specs.Stages.{Getting}
 use Rattle.deadpool.specs.Steps.{with_put}
 use Rattle.deadpool.specs.Image.{image, IsCounted}
 use Rattle.deadpool.specs.Laws.{IsLawful}
-use Rattle.deadpool.specs.declared.managed.slot.Slot.{Slot}
+use Rattle.deadpool_managed.specs.declared.slot.Slot.{Slot}
 use Rattle.deadpool.proofs.SlotLists.{length-with_put}
 
 module _ {V C R S : Type 0} where

@@ -1,7 +1,7 @@
 -- One move more.
 use Rattle.std.proofs.Common.{◌≡◌, ◌∷◌, [], List, subst, sym, refl}
 use Rattle.deadpool_parts.specs.Runs.{last_of}
-use Rattle.deadpool.specs.Outside.{May}
+use Rattle.deadpool_managed.specs.Outside.{May}
 use Rattle.deadpool.specs.Pool.{Pool}
 use Rattle.deadpool.specs.Moves.{Makes, PoolRuns}
 use Rattle.deadpool.specs.declared.replay.moves.Move.{Move}

@@ -4,7 +4,7 @@ use Rattle.deadpool_parts.specs.Program.{Gives, Always}
 use Rattle.deadpool_parts.specs.Runs.{last_of, all_states, Each, Neighbours, Later}
 use Rattle.deadpool_parts.specs.declared.moment.Moment.{Moment}
 use Rattle.deadpool_parts.proofs.Programs.{Always-Gives}
-use Rattle.deadpool.specs.Outside.{May}
+use Rattle.deadpool_managed.specs.Outside.{May}
 use Rattle.deadpool.specs.Pool.{Pool}
 use Rattle.deadpool.specs.Moves.{moved, Polls, Makes, PoolRuns}
 use Rattle.deadpool.specs.RunLaws.{EachReply}

@@ -1,7 +1,7 @@
 -- What is true of every state of every run of a managed pool that begins lawful.
 use Rattle.std.proofs.Common.{List}
 use Rattle.deadpool_parts.specs.Runs.{all_states, Each, Neighbours}
-use Rattle.deadpool.specs.Outside.{May}
+use Rattle.deadpool_managed.specs.Outside.{May}
 use Rattle.deadpool.specs.Pool.{Pool}
 use Rattle.deadpool.specs.Moves.{moved, PoolRuns, NobodyWaits, WithinReach}
 use Rattle.deadpool.specs.Laws.{IsLawful}

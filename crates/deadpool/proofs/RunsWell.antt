@@ -5,7 +5,7 @@ use Rattle.deadpool_parts.specs.Numbers.{has_number}
 use Rattle.deadpool_parts.specs.Program.{Always}
 use Rattle.deadpool_parts.specs.declared.moment.Moment.{Moment}
 use Rattle.deadpool_parts.specs.Runs.{all_states, Each, Neighbours}
-use Rattle.deadpool.specs.Outside.{May}
+use Rattle.deadpool_managed.specs.Outside.{May}
 use Rattle.deadpool.specs.Pool.{Pool, size, reach}
 use Rattle.deadpool.specs.Moves.{moved, PoolRuns}
 use Rattle.deadpool.specs.Laws.{IsLawful}

@@ -8,23 +8,23 @@ use Rattle.deadpool_parts.specs.declared.config.QueueMode.TheVariants.{Fifo, Lif
 use Rattle.deadpool_parts.specs.declared.config.Timeouts.{Timeouts}
 use Rattle.deadpool_parts.specs.declared.errors.PoolError.TheVariants.{NumbersExhausted}
 use Rattle.deadpool_parts.specs.declared.moment.Runtime.{Runtime}
-use Rattle.deadpool.specs.Calls.{start}
-use Rattle.deadpool.specs.HookLists.{HookLists}
-use Rattle.deadpool.specs.DeskState.{DeskState, next_idle, other_idle, settled}
-use Rattle.deadpool.specs.DeskSteps.{Serves}
-use Rattle.deadpool.specs.Stages.{Getting}
-use Rattle.deadpool.specs.Get.{AfterServing}
+use Rattle.deadpool_managed.specs.Calls.{start}
+use Rattle.deadpool_managed.specs.HookLists.{HookLists}
+use Rattle.deadpool_managed.specs.DeskState.{DeskState, next_idle, other_idle, settled}
+use Rattle.deadpool_managed.specs.DeskSteps.{Serves}
+use Rattle.deadpool_managed.specs.Stages.{Getting}
+use Rattle.deadpool_managed.specs.Get.{AfterServing}
 use Rattle.deadpool.specs.Pool.{Pool, Party, Standing, going, creating, recycling, creating_count, settle}
 use Rattle.deadpool.specs.Steps.{unqueued as pool_unqueued, fail, rest, go_on, serve_from, serve}
 use Rattle.deadpool.specs.Image.{party_of, image, IsCounted}
 use Rattle.deadpool.specs.TrialFields.{given, reply_to}
-use Rattle.deadpool.specs.declared.managed.slot.Slot.{Slot}
-use Rattle.deadpool.specs.declared.managed.prepare.Preparation.TheVariants.{PreRecycle}
-use Rattle.deadpool.specs.declared.managed.get.Stage.{Stage}
-use Rattle.deadpool.specs.declared.managed.get.Stage.TheVariants as stage
-use Rattle.deadpool.specs.declared.managed.get.Turn.{Turn}
-use Rattle.deadpool.specs.declared.managed.desk.Serving.{Serving}
-use Rattle.deadpool.specs.declared.managed.desk.Serving.TheVariants as serving
+use Rattle.deadpool_managed.specs.declared.slot.Slot.{Slot}
+use Rattle.deadpool_managed.specs.declared.prepare.Preparation.TheVariants.{PreRecycle}
+use Rattle.deadpool_managed.specs.declared.get.Stage.{Stage}
+use Rattle.deadpool_managed.specs.declared.get.Stage.TheVariants as stage
+use Rattle.deadpool_managed.specs.declared.get.Turn.{Turn}
+use Rattle.deadpool_managed.specs.declared.desk.Serving.{Serving}
+use Rattle.deadpool_managed.specs.declared.desk.Serving.TheVariants as serving
 use Rattle.deadpool.specs.declared.replay.moves.Reply.{Reply}
 use Rattle.deadpool.specs.declared.replay.moves.Reply.TheVariants as reply
 use Rattle.deadpool.proofs.Tickets.{Owns, NoTicket}

@@ -9,15 +9,15 @@ use Rattle.deadpool_parts.specs.declared.config.Timeouts.{Timeouts}
 use Rattle.deadpool_parts.specs.Owners.{owner}
 use Rattle.deadpool_parts.specs.Queue.{Queue}
 use Rattle.deadpool_parts.proofs.Owners.{absent, renamed-set, renamed-leaves, renamed-joins}
-use Rattle.deadpool.specs.HookLists.{HookLists}
-use Rattle.deadpool.specs.DeskState.{DeskState, places}
-use Rattle.deadpool.specs.DeskSteps.{is_listed, unqueued}
-use Rattle.deadpool.specs.Stages.{Getting}
+use Rattle.deadpool_managed.specs.HookLists.{HookLists}
+use Rattle.deadpool_managed.specs.DeskState.{DeskState, places}
+use Rattle.deadpool_managed.specs.DeskSteps.{is_listed, unqueued}
+use Rattle.deadpool_managed.specs.Stages.{Getting}
 use Rattle.deadpool.specs.Pool.{Pool, Party, is_going, is_creating, prepared_by, places as pool_places, grants as pool_grants, settle}
 use Rattle.deadpool.specs.Steps.{unqueued as pool_unqueued}
 use Rattle.deadpool.specs.Moves.{NobodyWaits}
 use Rattle.deadpool.specs.Image.{party_of, has_ticket, queue_of, is_under_way, image, IsCounted}
-use Rattle.deadpool.specs.declared.managed.slot.Slot.{Slot}
+use Rattle.deadpool_managed.specs.declared.slot.Slot.{Slot}
 use Rattle.deadpool.proofs.Counts.{one_if, count-set, held-set}
 use Rattle.deadpool.proofs.Tickets.{Owns, NoTicket, OneTicket, queueing}
 

@@ -5,7 +5,7 @@ use Rattle.std.proofs.Math.Numerals.{one-add}
 use Rattle.std.proofs.lemmas.Bool.{cases_Bool}
 use Rattle.deadpool_parts.proofs.Places.{place_is, found_at_place}
 use Rattle.deadpool.specs.Steps.{find_slot, without_slot, with_slot, with_put}
-use Rattle.deadpool.specs.declared.managed.slot.Slot.{Slot}
+use Rattle.deadpool_managed.specs.declared.slot.Slot.{Slot}
 
 module _ {V : Type 0} where
   -- the first object with the number is removed

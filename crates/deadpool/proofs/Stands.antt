@@ -6,12 +6,12 @@ use Rattle.deadpool_parts.specs.declared.status.Status.{Status}
 use Rattle.deadpool_parts.specs.declared.moment.Runtime.{Runtime}
 use Rattle.deadpool_parts.specs.declared.config.Timeouts.{Timeouts}
 use Rattle.deadpool_parts.specs.Owners.{owner}
-use Rattle.deadpool.specs.HookLists.{HookLists}
-use Rattle.deadpool.specs.DeskState.{DeskState, size, pending, status_of}
-use Rattle.deadpool.specs.Stages.{Getting}
+use Rattle.deadpool_managed.specs.HookLists.{HookLists}
+use Rattle.deadpool_managed.specs.DeskState.{DeskState, size, pending, status_of}
+use Rattle.deadpool_managed.specs.Stages.{Getting}
 use Rattle.deadpool.specs.Pool.{Pool, size as pool_size, pending as pool_pending, status_of as pool_status}
 use Rattle.deadpool.specs.Image.{has_ticket, image, IsCounted}
-use Rattle.deadpool.specs.declared.managed.slot.Slot.{Slot}
+use Rattle.deadpool_managed.specs.declared.slot.Slot.{Slot}
 
 module _ {V C R S F A : Type 0} (runtime : Option Runtime) (hooks : HookLists F A) (timeouts : Timeouts) (first most : ℕ) where
   -- a desk's status is that of its image

@@ -4,13 +4,13 @@ use Rattle.std.proofs.lemmas.List.{map-append}
 use Rattle.deadpool_parts.specs.declared.moment.Runtime.{Runtime}
 use Rattle.deadpool_parts.specs.declared.config.Timeouts.{Timeouts}
 use Rattle.deadpool_parts.proofs.Owners.{owned-push, renamed-push}
-use Rattle.deadpool.specs.HookLists.{HookLists}
-use Rattle.deadpool.specs.DeskState.{DeskState}
-use Rattle.deadpool.specs.Stages.{Getting}
+use Rattle.deadpool_managed.specs.HookLists.{HookLists}
+use Rattle.deadpool_managed.specs.DeskState.{DeskState}
+use Rattle.deadpool_managed.specs.Stages.{Getting}
 use Rattle.deadpool.specs.Pool.{Party, unpolled, is_going, is_creating, prepared_by}
 use Rattle.deadpool.specs.Image.{party_of, has_ticket, queue_of, is_under_way, image, IsCounted}
-use Rattle.deadpool.specs.declared.managed.slot.Slot.{Slot}
-use Rattle.deadpool.specs.declared.managed.get.Stage.TheVariants as stage
+use Rattle.deadpool_managed.specs.declared.slot.Slot.{Slot}
+use Rattle.deadpool_managed.specs.declared.get.Stage.TheVariants as stage
 use Rattle.deadpool.proofs.Counts.{count-push, held-push}
 
 module _ {V C R S : Type 0} where

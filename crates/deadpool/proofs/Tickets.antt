@@ -1,8 +1,8 @@
 -- The gets that a queue's tickets stand for, where the queue is a desk's.
 use Rattle.std.proofs.Common.{◌≡◌, ℕ, List, ◌∷◌, [], ◌++◌, false, eqb, Option}
 use Rattle.deadpool_parts.specs.Owners.{IsOwned}
-use Rattle.deadpool.specs.DeskState.{DeskState}
-use Rattle.deadpool.specs.Stages.{Getting}
+use Rattle.deadpool_managed.specs.DeskState.{DeskState}
+use Rattle.deadpool_managed.specs.Stages.{Getting}
 use Rattle.deadpool.specs.Image.{has_ticket, queue_of}
 
 module _ {V : Type 0} where

@@ -5,21 +5,21 @@ use Rattle.std.proofs.lemmas.Bool.{cases_Bool}
 use Rattle.deadpool_parts.specs.Program.{Gives, Return, ask, ◌>>=◌}
 use Rattle.deadpool_parts.specs.declared.moment.Runtime.{Runtime}
 use Rattle.deadpool_parts.specs.declared.config.Timeouts.{Timeouts}
-use Rattle.deadpool.specs.HookLists.{HookLists}
-use Rattle.deadpool.specs.Outside.{Asking, May, Reserve}
-use Rattle.deadpool.specs.DeskState.{DeskState}
-use Rattle.deadpool.specs.DeskSteps.{Takes, Resizes, Closes, Clones, DropsHandle, Upgrades, resized as resized_core}
-use Rattle.deadpool.specs.Stages.{Getting}
+use Rattle.deadpool_managed.specs.HookLists.{HookLists}
+use Rattle.deadpool_managed.specs.Outside.{Asking, May, Reserve}
+use Rattle.deadpool_managed.specs.DeskState.{DeskState}
+use Rattle.deadpool_managed.specs.DeskSteps.{Takes, Resizes, Closes, Clones, DropsHandle, Upgrades, resized as resized_core}
+use Rattle.deadpool_managed.specs.Stages.{Getting}
 use Rattle.deadpool.specs.Pool.{Pool}
-use Rattle.deadpool.specs.Steps.{find_slot, without_slot, resized, closed, cloned, handle_dropped, most_handles}
+use Rattle.deadpool.specs.Steps.{find_slot, without_slot, resized, closed, cloned, handle_dropped}
 use Rattle.deadpool.specs.Moves.{moved, by_handle}
 use Rattle.deadpool.specs.Image.{image, IsCounted}
 use Rattle.deadpool.specs.TrialFields.{reply_to_take, reply_to_handle}
-use Rattle.deadpool.specs.declared.managed.slot.Slot.{Slot}
-use Rattle.deadpool.specs.declared.managed.desk.TakeReply.{TakeReply}
-use Rattle.deadpool.specs.declared.managed.desk.TakeReply.TheVariants as taking
-use Rattle.deadpool.specs.declared.managed.desk.HandleReply.{HandleReply}
-use Rattle.deadpool.specs.declared.managed.desk.HandleReply.TheVariants as handle
+use Rattle.deadpool_managed.specs.declared.slot.Slot.{Slot}
+use Rattle.deadpool_managed.specs.declared.desk.TakeReply.{TakeReply}
+use Rattle.deadpool_managed.specs.declared.desk.TakeReply.TheVariants as taking
+use Rattle.deadpool_parts.specs.declared.replies.HandleReply.{HandleReply}
+use Rattle.deadpool_parts.specs.declared.replies.HandleReply.TheVariants as handle
 use Rattle.deadpool.specs.declared.replay.moves.Move.TheVariants as move
 use Rattle.deadpool.specs.declared.replay.moves.Reply.{Reply}
 use Rattle.deadpool.specs.declared.replay.moves.Reply.TheVariants as reply
@@ -27,6 +27,7 @@ use Rattle.deadpool.proofs.Ends.{Gives-same}
 use Rattle.deadpool.proofs.Takes.{takes, one_outside}
 use Rattle.deadpool.proofs.OwnSteps.{resizes, closes, clones, drops_handle}
 use Rattle.deadpool.proofs.TrialSteps.{no_handle, some_handle}
+use Rattle.deadpool_parts.specs.Numbers.{most_handles}
 
 -- a number above zero is not zero, and zero is
 above_zero : (n : ℕ) → 0 < n → (n == 0) ≡ false

@@ -8,17 +8,17 @@ use Rattle.deadpool_parts.specs.Program.{Gives, Return, ask, ◌>>=◌}
 use Rattle.deadpool_parts.proofs.Programs.{Gives-bind}
 use Rattle.deadpool_parts.specs.declared.moment.Runtime.{Runtime}
 use Rattle.deadpool_parts.specs.declared.config.Timeouts.{Timeouts}
-use Rattle.deadpool.specs.HookLists.{HookLists}
-use Rattle.deadpool.specs.Outside.{May, Asking, Detach, Reserve}
-use Rattle.deadpool.specs.DeskState.{DeskState}
-use Rattle.deadpool.specs.Retained.{Retained}
-use Rattle.deadpool.specs.Retains.{Reviews, Retains}
-use Rattle.deadpool.specs.Stages.{Getting}
+use Rattle.deadpool_managed.specs.HookLists.{HookLists}
+use Rattle.deadpool_managed.specs.Outside.{May, Asking, Detach, Reserve}
+use Rattle.deadpool_managed.specs.DeskState.{DeskState}
+use Rattle.deadpool_managed.specs.Retained.{Retained}
+use Rattle.deadpool_managed.specs.Retains.{Reviews, Retains}
+use Rattle.deadpool_managed.specs.Stages.{Getting}
 use Rattle.deadpool.specs.Pool.{Pool}
 use Rattle.deadpool.specs.Moves.{give_up, retain, retain_with}
 use Rattle.deadpool.specs.Image.{image, IsCounted}
-use Rattle.deadpool.specs.declared.managed.retain.Retainer.{Ghosts as RetainerOf}
-use Rattle.deadpool.specs.declared.managed.slot.Slot.{Slot}
+use Rattle.deadpool_managed.specs.declared.retain.Retainer.{Ghosts as RetainerOf}
+use Rattle.deadpool_managed.specs.declared.slot.Slot.{Slot}
 use Rattle.deadpool.specs.declared.replay.moves.Reply.{Reply}
 use Rattle.deadpool.specs.declared.replay.moves.Reply.TheVariants as reply
 use Rattle.deadpool.proofs.Ends.{Gives-same}

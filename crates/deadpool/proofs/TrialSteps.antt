@@ -9,30 +9,30 @@ use Rattle.deadpool_parts.specs.declared.moment.Runtime.{Runtime}
 use Rattle.deadpool_parts.specs.declared.config.Timeouts.{Timeouts}
 use Rattle.deadpool_parts.proofs.Programs.{Always-Gives}
 use Rattle.deadpool_parts.proofs.Lists.{set-same}
-use Rattle.deadpool.specs.HookLists.{HookLists}
-use Rattle.deadpool.specs.Outside.{May, may}
-use Rattle.deadpool.specs.DeskState.{DeskState}
-use Rattle.deadpool.specs.DeskSteps.{TakesBack}
-use Rattle.deadpool.specs.Stages.{Getting}
-use Rattle.deadpool.specs.Get.{Made, Makes, AdvancesFrom, CancelsFrom}
+use Rattle.deadpool_managed.specs.HookLists.{HookLists}
+use Rattle.deadpool_managed.specs.Outside.{May, may}
+use Rattle.deadpool_managed.specs.DeskState.{DeskState}
+use Rattle.deadpool_managed.specs.DeskSteps.{TakesBack}
+use Rattle.deadpool_managed.specs.Stages.{Getting}
+use Rattle.deadpool_managed.specs.Get.{Made, Makes, AdvancesFrom, CancelsFrom}
 use Rattle.deadpool.specs.Pool.{Pool}
 use Rattle.deadpool.specs.Steps.{find_slot, without_slot}
 use Rattle.deadpool.specs.Moves.{moved}
 use Rattle.deadpool.specs.Laws.{IsLawful}
 use Rattle.deadpool.specs.Image.{image, IsCounted}
 use Rattle.deadpool.specs.TrialFields.{AdvancedGet, AdvancesGet, given, reply_to, reply_to_back}
-use Rattle.deadpool.specs.declared.managed.slot.Slot.{Slot}
-use Rattle.deadpool.specs.declared.managed.manager.Manager.{Ghosts as ManagerOf}
-use Rattle.deadpool.specs.declared.managed.hooks.SyncHook.{Ghosts as SyncHookOf}
-use Rattle.deadpool.specs.declared.managed.hooks.AsyncHook.{Ghosts as AsyncHookOf}
-use Rattle.deadpool.specs.declared.managed.get.Turn.{Turn}
-use Rattle.deadpool.specs.declared.managed.desk.Desk.{Ghosts as DeskOf}
-use Rattle.deadpool.specs.declared.managed.desk.BackReply.{BackReply}
+use Rattle.deadpool_managed.specs.declared.slot.Slot.{Slot}
+use Rattle.deadpool_managed.specs.declared.manager.Manager.{Ghosts as ManagerOf}
+use Rattle.deadpool_managed.specs.declared.hooks.SyncHook.{Ghosts as SyncHookOf}
+use Rattle.deadpool_managed.specs.declared.hooks.AsyncHook.{Ghosts as AsyncHookOf}
+use Rattle.deadpool_managed.specs.declared.get.Turn.{Turn}
+use Rattle.deadpool_managed.specs.declared.desk.Desk.{Ghosts as DeskOf}
+use Rattle.deadpool_managed.specs.declared.desk.BackReply.{BackReply}
 use Rattle.deadpool.specs.declared.replay.moves.Move.{Move}
 use Rattle.deadpool.specs.declared.replay.moves.Move.TheVariants as move
 use Rattle.deadpool.specs.declared.replay.moves.Reply.{Reply}
 use Rattle.deadpool.specs.declared.replay.moves.Reply.TheVariants as reply
-use Rattle.deadpool.proofs.CoreDesk.{core_desk}
+use Rattle.deadpool_managed.proofs.CoreDesk.{core_desk}
 use Rattle.deadpool.proofs.Simulation.{simulates}
 use Rattle.deadpool.proofs.Cancels.{cancels}
 use Rattle.deadpool.proofs.Backs.{backs}

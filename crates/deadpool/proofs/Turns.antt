@@ -2,7 +2,7 @@
 use Rattle.std.proofs.Common.{◌≡◌, ℕ, ◌∷◌, [], List, false, subst, refl}
 use Rattle.deadpool_parts.specs.Program.{Gives}
 use Rattle.deadpool_parts.specs.declared.moment.Moment.{Moment}
-use Rattle.deadpool.specs.Outside.{May}
+use Rattle.deadpool_managed.specs.Outside.{May}
 use Rattle.deadpool.specs.Pool.{Pool}
 use Rattle.deadpool.specs.Moves.{moved, Polls, is_more}
 use Rattle.deadpool.specs.declared.replay.moves.Move.TheVariants as move

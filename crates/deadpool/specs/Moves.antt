@@ -6,11 +6,11 @@ use Rattle.deadpool_parts.specs.Program.{Return, ask, ◌>>=◌, Gives}
 use Rattle.deadpool_parts.specs.Runs.{Runs}
 use Rattle.deadpool_parts.specs.declared.moment.Moment.{Moment}
 use Rattle.deadpool_parts.specs.declared.config.Timeouts.{Timeouts}
-use Rattle.deadpool.specs.Outside.{Asking, May, Detach, Reserve}
+use Rattle.deadpool_managed.specs.Outside.{Asking, May, Detach, Reserve}
 use Rattle.deadpool.specs.Pool.{Pool, Party, unpolled, places, size, reach, settle, status_of}
 use Rattle.deadpool.specs.Steps.{find_slot, without_slot, with_put, resized, closed, cloned, handle_dropped}
 use Rattle.deadpool.specs.Party.{advance, cancel}
-use Rattle.deadpool.specs.declared.managed.slot.Slot.{Slot}
+use Rattle.deadpool_managed.specs.declared.slot.Slot.{Slot}
 use Rattle.deadpool.specs.declared.replay.moves.Move.{Move}
 use Rattle.deadpool.specs.declared.replay.moves.Move.TheVariants as move
 use Rattle.deadpool.specs.declared.replay.moves.Reply.{Reply}

@@ -2,23 +2,23 @@
 use Rattle.std.specs.Prelude.{ℕ, ◌+◌, Bool, true, false, [], ◌∷◌, ◌++◌, Option, Some, None, Result, Ok, Err, if◌then◌else◌, nat_lt, not}
 use Rattle.futures.specs.declared.task.Poll.{Poll}
 use Rattle.futures.specs.declared.task.Poll.TheVariants as poll
-use Rattle.deadpool_parts.specs.Moments.{deadline_after, is_reached}
+use Rattle.deadpool_parts.specs.Moments.{deadline_after, is_reached, lacks_runtime, cannot_wait}
 use Rattle.deadpool_parts.specs.Numbers.{has_number}
 use Rattle.deadpool_parts.specs.Program.{Return, ask, ◌>>=◌}
 use Rattle.deadpool_parts.specs.declared.moment.Moment.{Moment}
 use Rattle.deadpool_parts.specs.declared.errors.PoolError.TheVariants.{Timeout, Backend, Closed, NoRuntimeSpecified, PostCreateHook, OutOfMemory}
 use Rattle.deadpool_parts.specs.declared.errors.TimeoutType.TheVariants as phase
-use Rattle.deadpool.specs.Calls.{start}
-use Rattle.deadpool.specs.Metrics.{new_metrics}
-use Rattle.deadpool.specs.Outside.{Asking, Detach, Reserve}
-use Rattle.deadpool.specs.Prepare.{create, prepare, check, cannot_wait, lacks_runtime, with_value}
+use Rattle.deadpool_managed.specs.Calls.{start}
+use Rattle.deadpool_managed.specs.Metrics.{new_metrics}
+use Rattle.deadpool_managed.specs.Outside.{Asking, Detach, Reserve}
+use Rattle.deadpool_managed.specs.Prepare.{create, prepare, check, with_value}
 use Rattle.deadpool.specs.Pool.{Pool, Party, Standing, unpolled, queued, going, creating, recycling, checking, finished, prepared_at, places}
 use Rattle.deadpool.specs.Steps.{to, unqueued, removed, fail, rest, go_on, serve, with_slot}
-use Rattle.deadpool.specs.declared.managed.slot.Slot.{Slot}
-use Rattle.deadpool.specs.declared.managed.prepare.Verdict.{Verdict}
-use Rattle.deadpool.specs.declared.managed.prepare.Verdict.TheVariants as verdict
-use Rattle.deadpool.specs.declared.managed.prepare.Prepared.{Prepared}
-use Rattle.deadpool.specs.declared.managed.prepare.Prepared.TheVariants as prepared
+use Rattle.deadpool_managed.specs.declared.slot.Slot.{Slot}
+use Rattle.deadpool_managed.specs.declared.prepare.Verdict.{Verdict}
+use Rattle.deadpool_managed.specs.declared.prepare.Verdict.TheVariants as verdict
+use Rattle.deadpool_managed.specs.declared.prepare.Prepared.{Prepared}
+use Rattle.deadpool_managed.specs.declared.prepare.Prepared.TheVariants as prepared
 use Rattle.deadpool.specs.declared.replay.moves.Reply.{Reply}
 use Rattle.deadpool.specs.declared.replay.moves.Reply.TheVariants.{Pending, Object, Cancelled}
 

@@ -20,12 +20,12 @@ use Rattle.deadpool_parts.specs.declared.errors.PoolError.{PoolError}
 use Rattle.deadpool_parts.specs.declared.errors.HookError.TheVariants.{Message}
 use Rattle.deadpool_parts.specs.declared.errors.RecycleError.TheVariants.{Backend}
 use Rattle.deadpool.specs.Moves.{moved, is_more, retain}
-use Rattle.deadpool.specs.Outside.{Question, Answer, Asking, BeginCreation, PollCreation, BeginRecycling, PollRecycling, CallHook, BeginHook, PollHook, Detach, Reserve}
+use Rattle.deadpool_managed.specs.Outside.{Question, Answer, Asking, BeginCreation, PollCreation, BeginRecycling, PollRecycling, CallHook, BeginHook, PollHook, Detach, Reserve}
 use Rattle.deadpool.specs.Pool.{Pool, opened}
 use Rattle.deadpool.specs.Rank.{rank_at}
 use Rattle.deadpool.specs.Steps.{find_slot}
-use Rattle.deadpool.specs.declared.managed.hooks.Hook.TheVariants.{AsyncFn}
-use Rattle.deadpool.specs.declared.managed.slot.Slot.{Slot}
+use Rattle.deadpool_managed.specs.declared.hooks.Hook.TheVariants.{AsyncFn}
+use Rattle.deadpool_managed.specs.declared.slot.Slot.{Slot}
 use Rattle.deadpool.specs.declared.replay.moves.Move.{Move}
 use Rattle.deadpool.specs.declared.replay.moves.Move.TheVariants as move
 use Rattle.deadpool.specs.declared.replay.moves.Reply.{Reply}

@@ -1,20 +1,16 @@
 -- The steps of a managed pool that ask nobody.
 use Rattle.std.specs.Prelude.{ℕ, ◌+◌, ◌-◌, min, max, false, List, [], ◌∷◌, length, drop, Option, Some, None, if◌then◌else◌, nat_lt, ◌==◌, slice_set, unwrap_or}
 use Rattle.std.specs.List.{find}
-use Rattle.deadpool_parts.specs.Numbers.{without_number, largest_usize}
+use Rattle.deadpool_parts.specs.Numbers.{without_number, largest_usize, most_handles}
 use Rattle.deadpool_parts.specs.declared.errors.PoolError.{PoolError}
 use Rattle.deadpool_parts.specs.declared.errors.PoolError.TheVariants.{NumbersExhausted}
-use Rattle.deadpool.specs.Calls.{start}
-use Rattle.deadpool.specs.DeskState.{next_idle, other_idle}
+use Rattle.deadpool_managed.specs.Calls.{start}
+use Rattle.deadpool_managed.specs.DeskState.{next_idle, other_idle}
 use Rattle.deadpool.specs.Pool.{Pool, Party, Standing, going, creating, recycling, finished, creating_count, size, settle}
-use Rattle.deadpool.specs.declared.managed.slot.Slot.{Slot}
-use Rattle.deadpool.specs.declared.managed.prepare.Preparation.TheVariants.{PreRecycle}
+use Rattle.deadpool_managed.specs.declared.slot.Slot.{Slot}
+use Rattle.deadpool_managed.specs.declared.prepare.Preparation.TheVariants.{PreRecycle}
 use Rattle.deadpool.specs.declared.replay.moves.Reply.{Reply}
 use Rattle.deadpool.specs.declared.replay.moves.Reply.TheVariants.{More, Pending, Failed}
-
--- a count of handles that has come here stays here
-abbrev pub most_handles : ℕ
-most_handles = 18446744073709551615
 
 module _ {V : Type 0} where
   -- a list by rising number, with one more object

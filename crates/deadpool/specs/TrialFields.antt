@@ -2,22 +2,22 @@
 use Rattle.std.specs.Prelude.{◌≡◌, true, false, List, Option, Some, None, Ok, Err, ⊤}
 use Rattle.deadpool_parts.specs.declared.moment.Moment.{Moment}
 use Rattle.deadpool_parts.specs.declared.moment.Runtime.{Runtime}
-use Rattle.deadpool.specs.HookLists.{HookLists}
-use Rattle.deadpool.specs.Stages.{Getting}
-use Rattle.deadpool.specs.Get.{Made, Makes, AdvancesFrom}
-use Rattle.deadpool.specs.declared.managed.desk.Desk.{Ghosts as DeskOf}
+use Rattle.deadpool_managed.specs.HookLists.{HookLists}
+use Rattle.deadpool_managed.specs.Stages.{Getting}
+use Rattle.deadpool_managed.specs.Get.{Made, Makes, AdvancesFrom}
+use Rattle.deadpool_managed.specs.declared.desk.Desk.{Ghosts as DeskOf}
 use Rattle.deadpool_parts.specs.Program.{Return, ask, ◌>>=◌}
-use Rattle.deadpool.specs.Outside.{Asking, May, Detach}
+use Rattle.deadpool_managed.specs.Outside.{Asking, May, Detach}
 use Rattle.deadpool.specs.Steps.{with_slot}
-use Rattle.deadpool.specs.declared.managed.slot.Slot.{Slot}
-use Rattle.deadpool.specs.declared.managed.get.Turn.{Turn}
-use Rattle.deadpool.specs.declared.managed.get.Turn.TheVariants.{More, Pending, Done}
-use Rattle.deadpool.specs.declared.managed.desk.HandleReply.{HandleReply}
-use Rattle.deadpool.specs.declared.managed.desk.HandleReply.TheVariants as handle
-use Rattle.deadpool.specs.declared.managed.desk.TakeReply.{TakeReply}
-use Rattle.deadpool.specs.declared.managed.desk.TakeReply.TheVariants as taking
-use Rattle.deadpool.specs.declared.managed.desk.BackReply.{BackReply}
-use Rattle.deadpool.specs.declared.managed.desk.BackReply.TheVariants as back
+use Rattle.deadpool_managed.specs.declared.slot.Slot.{Slot}
+use Rattle.deadpool_managed.specs.declared.get.Turn.{Turn}
+use Rattle.deadpool_managed.specs.declared.get.Turn.TheVariants.{More, Pending, Done}
+use Rattle.deadpool_parts.specs.declared.replies.HandleReply.{HandleReply}
+use Rattle.deadpool_parts.specs.declared.replies.HandleReply.TheVariants as handle
+use Rattle.deadpool_managed.specs.declared.desk.TakeReply.{TakeReply}
+use Rattle.deadpool_managed.specs.declared.desk.TakeReply.TheVariants as taking
+use Rattle.deadpool_managed.specs.declared.desk.BackReply.{BackReply}
+use Rattle.deadpool_managed.specs.declared.desk.BackReply.TheVariants as back
 use Rattle.deadpool.specs.declared.replay.moves.Reply.{Reply}
 use Rattle.deadpool.specs.declared.replay.moves.Reply.TheVariants as reply
 

@@ -1,9 +1,9 @@
-//! Deadlines of a get's phases.
+//! Deadlines of the phases of a get or an add, and the runtime that they need.
 ghost use Rattle.std.specs.Prelude.{◌≡◌};
 ghost use Rattle.std.specs.Duration.{as_nanos};
-ghost use Rattle.deadpool_parts.specs.Moments.{deadline_after, is_reached, is_positive, moment_after, nanos_between};
+ghost use Rattle.deadpool_parts.specs.Moments.{deadline_after, is_reached, is_positive, lacks_runtime, cannot_wait, moment_after, nanos_between};
 
-use crate::Moment;
+use crate::{Moment, Runtime};
 use std::time::Duration;
 
 /// The moment so much later, or the greatest moment.
@@ -41,6 +41,20 @@ pub fn is_positive(timeout: Option<Duration>) -> bool
         Some(duration) => duration.as_nanos() > 0,
         None => false,
     }
+}
+
+/// Whether a timeout is set that nothing is there to serve.
+pub fn lacks_runtime(runtime: Option<Runtime>, timeout: Option<Duration>) -> bool
+    ensures { result ≡ lacks_runtime runtime timeout }
+{
+    timeout.is_some() && runtime.is_none()
+}
+
+/// Whether a wait above zero is set that nothing is there to end. A wait of zero needs no runtime.
+pub fn cannot_wait(runtime: Option<Runtime>, wait: Option<Duration>) -> bool
+    ensures { result ≡ cannot_wait runtime wait }
+{
+    is_positive(wait) && runtime.is_none()
 }
 
 const NANOS_PER_SECOND: u128 = 1_000_000_000;

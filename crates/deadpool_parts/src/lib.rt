@@ -6,7 +6,9 @@ pub mod deadline;
 pub mod errors;
 pub mod gate;
 mod moment;
+mod replies;
 mod status;
 
 pub use moment::{Clock, Moment, Runtime};
+pub use replies::{HandleReply, StepReply};
 pub use status::Status;

@@ -1,5 +1,6 @@
 //! Pools on one thread, by the moves of a trial.
 mod calls;
+mod drops;
 mod gets;
 mod hooks;
 mod managers;
@@ -74,6 +75,15 @@ impl<M: Manager + Drop, F: SyncHook<M> + Drop, A: AsyncHook<M> + Drop> Bench<M, 
         }
     }
 
+    /// Starts a get that has to wait, and gives its number and the status then.
+    pub fn waits(&mut self) -> Result<(usize, Status), Fail> {
+        let party = self.start()?;
+        match self.poll(party, 0)? {
+            None => Ok((party, self.status()?)),
+            Some(_) => Err(Fail::new("not pending")),
+        }
+    }
+
     /// Starts a get and polls it once, which is to end it.
     pub fn get(&mut self) -> Result<Result<usize, PoolError<M::Error>>, Fail> {
         let party = self.start()?;
@@ -86,6 +96,19 @@ impl<M: Manager + Drop, F: SyncHook<M> + Drop, A: AsyncHook<M> + Drop> Bench<M, 
             Ok(number) => Ok(number),
             Err(_) => Err(Fail::new("no object")),
         }
+    }
+
+    /// So many objects are created, and come back.
+    pub fn idle(&mut self, count: usize) -> Result<(), Fail> {
+        for number in 0..count {
+            if self.object()? != number {
+                return Err(Fail::new("not a new object"));
+            }
+        }
+        for number in 0..count {
+            self.keep(number)?;
+        }
+        Ok(())
     }
 
     /// An object comes back, and is kept.

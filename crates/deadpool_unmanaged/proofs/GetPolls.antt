@@ -4,7 +4,7 @@ use Rattle.std.specs.List.{slice_get}
 use Rattle.std.specs.declared.time.Duration.{Duration}
 use Rattle.std.proofs.lemmas.Bool.{cases_Bool, lt-ltb, le-ltb, not-true}
 use Rattle.futures.specs.declared.task.Poll.{Poll}
-use Rattle.deadpool_parts.specs.Moments.{deadline_after, is_reached}
+use Rattle.deadpool_parts.specs.Moments.{deadline_after, is_reached, cannot_wait}
 use Rattle.deadpool_parts.specs.Numbers.{has_number}
 use Rattle.deadpool_parts.specs.declared.moment.Moment.{Moment}
 use Rattle.deadpool_parts.specs.declared.moment.Runtime.{Runtime}
@@ -19,7 +19,7 @@ use Rattle.deadpool_unmanaged.specs.Moves.{NobodyWaits, unsettled, by_party}
 use Rattle.deadpool_unmanaged.specs.Pool.{Pool, Party, new_get, queued_get, finished, free_objects}
 use Rattle.deadpool_unmanaged.specs.State.{State, free_objects as objects_left}
 use Rattle.deadpool_unmanaged.specs.StateSteps.{GetEnters, GetAsks, without_get, handed}
-use Rattle.deadpool_unmanaged.specs.Steps.{lacks_runtime, ended, hand_out, with_item, poll, enter_get, inquire_get}
+use Rattle.deadpool_unmanaged.specs.Steps.{ended, hand_out, with_item, poll, enter_get, inquire_get}
 use Rattle.deadpool_unmanaged.specs.TrialFields.{got, given, reply_to}
 use Rattle.deadpool_unmanaged.specs.declared.error.PoolError.{PoolError}
 use Rattle.deadpool_unmanaged.specs.declared.error.PoolError.TheVariants.{Timeout, Closed, NoRuntimeSpecified, OutOfMemory}
@@ -90,7 +90,7 @@ module _ {V : Type 0} (runtime : Option Runtime) (most next : ℕ) (d : State (I
     none_free : objects_left d ≡ 0 → nat_lt 0 (free_objects pool) ≡ false
     none_free none = le-ltb 0 (free_objects pool) (omega (arith, none, objects-image runtime most next d seats out))
 
-    entered_so : (answer : GetEnterReply (Item V)) (d' : State (Item V)) → lacks_runtime runtime wait ≡ false → GetEnters d (not (is_reached (deadline_after now wait) now)) answer d'
+    entered_so : (answer : GetEnterReply (Item V)) (d' : State (Item V)) → cannot_wait runtime wait ≡ false → GetEnters d (not (is_reached (deadline_after now wait) now)) answer d'
         → Polled (reply_to (got (turn_entered answer))) d' (Some (seat.Get (stage_entered (deadline_after now wait) answer))) (given (got (turn_entered answer)) out)
     entered_so entered.Closed d' has e = new_fails true Closed d' e.1 (rw (has, e.0) refl)
     entered_so entered.Full d' has e =

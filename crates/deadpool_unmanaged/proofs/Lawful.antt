@@ -5,16 +5,16 @@ use Rattle.std.proofs.lemmas.Option.{slice_get_within}
 use Rattle.std.proofs.Math.ListN.{drop_of_length-le}
 use Rattle.std.specs.declared.time.Duration.{Duration}
 use Rattle.std.specs.List.{slice_get}
-use Rattle.deadpool_parts.specs.Moments.{deadline_after, is_reached}
+use Rattle.deadpool_parts.specs.Moments.{deadline_after, is_reached, cannot_wait}
 use Rattle.deadpool_parts.specs.declared.moment.Runtime.{Runtime}
-use Rattle.deadpool_parts.specs.Numbers.{has_number, largest_usize}
+use Rattle.deadpool_parts.specs.Numbers.{has_number, largest_usize, most_handles}
 use Rattle.deadpool_parts.specs.declared.moment.Moment.{Moment}
 use Rattle.deadpool_parts.specs.Queue.{Queue, served}
 use Rattle.deadpool_parts.proofs.Numbers.{without_number-shorter, without_number-fewer}
 use Rattle.deadpool_unmanaged.specs.Laws.{HasRoom, IsLawful}
 use Rattle.deadpool_unmanaged.specs.Moves.{IsWithinLimit, unsettled, moved, by_party, by_seat, by_number, started}
 use Rattle.deadpool_unmanaged.specs.Pool.{Pool, Party, new_get, queued_get, new_add, queued_add, finished, opened, size, free_objects, free_room, settle, status_of}
-use Rattle.deadpool_unmanaged.specs.Steps.{lacks_runtime, most_handles, find_item, without_item, with_item, last_idle, handed, hand_out, store, ended, enter_get, inquire_get, enter_add, inquire_add, poll, cancelled, try_get, try_store, back, take_out, closed, cloned, handle_dropped}
+use Rattle.deadpool_unmanaged.specs.Steps.{find_item, without_item, with_item, last_idle, handed, hand_out, store, ended, enter_get, inquire_get, enter_add, inquire_add, poll, cancelled, try_get, try_store, back, take_out, closed, cloned, handle_dropped}
 use Rattle.deadpool_unmanaged.specs.declared.replay.moves.Item.{Item}
 use Rattle.deadpool_unmanaged.specs.declared.replay.moves.Move.{Move}
 use Rattle.deadpool_unmanaged.specs.declared.replay.moves.Move.TheVariants as move
@@ -96,7 +96,7 @@ module _ {V : Type 0} where
   enter_get_keeps found n wait now p room =
       let ends = ended_keeps n p room in
       let P : Reply V × Pool V → Type 0 = λ x. Keeps p x.1 in
-      cond_both (lacks_runtime p.runtime wait) _ _ P (λ _. ends)
+      cond_both (cannot_wait p.runtime wait) _ _ P (λ _. ends)
       (λ _. cond_both (not p.is_open) _ _ P (λ _. ends)
       (λ _. cond_both (nat_lt 0 (free_objects p)) _ _ P (λ _. hand_out_keeps p (ended n p) ends)
       (λ _. cond_both (is_reached (deadline_after now wait) now) _ _ P (λ _. ends)

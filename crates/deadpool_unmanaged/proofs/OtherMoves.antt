@@ -3,7 +3,7 @@ use Rattle.std.proofs.Common.{◌≡◌, ◌≢◌, ℕ, ◌+◌, ◌-◌, ◌<�
 use Rattle.std.proofs.lemmas.Bool.{cases_Bool, lt-ltb, le-ltb}
 use Rattle.std.proofs.lemmas.Bool.Decides.{nat_tests}
 use Rattle.std.proofs.lemmas.List.{length-map}
-use Rattle.deadpool_parts.specs.Numbers.{largest_usize}
+use Rattle.deadpool_parts.specs.Numbers.{largest_usize, most_handles}
 use Rattle.deadpool_parts.specs.declared.status.Status.{Status}
 use Rattle.deadpool_parts.specs.declared.moment.Runtime.{Runtime}
 use Rattle.deadpool_parts.specs.Owners.{owner}
@@ -13,7 +13,7 @@ use Rattle.deadpool_unmanaged.specs.Moves.{unsettled}
 use Rattle.deadpool_unmanaged.specs.Pool.{Pool, free_objects, free_room, status_of as pool_status}
 use Rattle.deadpool_unmanaged.specs.State.{State, settled, status_of}
 use Rattle.deadpool_unmanaged.specs.StateSteps.{GetEnters, AddEnters, TakesBack, Takes, Clones, DropsHandle, Upgrades, handed, stored, shut, one_handle_more}
-use Rattle.deadpool_unmanaged.specs.Steps.{find_item, with_item, without_item, most_handles, hand_out}
+use Rattle.deadpool_unmanaged.specs.Steps.{find_item, with_item, without_item, hand_out}
 use Rattle.deadpool_unmanaged.specs.TrialFields.{IsAtOnce, IsKnown, reply_to_back, reply_to_handle, reply_to_try_add}
 use Rattle.deadpool_unmanaged.specs.declared.error.PoolError.TheVariants.{Timeout, Closed}
 use Rattle.deadpool_unmanaged.specs.declared.replay.moves.Item.{Item}
@@ -27,8 +27,8 @@ use Rattle.deadpool_unmanaged.specs.declared.steps.AddEnterReply.TheVariants as 
 use Rattle.deadpool_unmanaged.specs.declared.steps.BackReply.{BackReply}
 use Rattle.deadpool_unmanaged.specs.declared.steps.BackReply.TheVariants as back_reply
 use Rattle.deadpool_unmanaged.specs.declared.steps.GetEnterReply.TheVariants as get
-use Rattle.deadpool_unmanaged.specs.declared.steps.HandleReply.{HandleReply}
-use Rattle.deadpool_unmanaged.specs.declared.steps.HandleReply.TheVariants as handle
+use Rattle.deadpool_parts.specs.declared.replies.HandleReply.{HandleReply}
+use Rattle.deadpool_parts.specs.declared.replies.HandleReply.TheVariants as handle
 use Rattle.deadpool_unmanaged.specs.declared.steps.TakeReply.{TakeReply}
 use Rattle.deadpool_unmanaged.specs.declared.steps.TakeReply.TheVariants as taking
 use Rattle.deadpool_unmanaged.proofs.Follows.{Follows, by_settling, by_resting}

@@ -24,7 +24,7 @@ use Rattle.deadpool_unmanaged.specs.declared.replay.moves.Reply.{Reply}
 use Rattle.deadpool_unmanaged.specs.declared.replay.moves.Reply.TheVariants as reply
 use Rattle.deadpool_unmanaged.specs.declared.replay.trial.Seat.{Seat}
 use Rattle.deadpool_unmanaged.specs.declared.replay.trial.Seat.TheVariants as seat
-use Rattle.deadpool_unmanaged.specs.declared.steps.StepReply.TheVariants.{Done, Unknown}
+use Rattle.deadpool_parts.specs.declared.replies.StepReply.TheVariants.{Done, Unknown}
 use Rattle.deadpool_unmanaged.proofs.Follows.{Follows, by_settling, by_resting}
 use Rattle.deadpool_unmanaged.proofs.Seats.{party-here, counted-set, image-set, left-none, nobody-set, counted-without_get, image-without_get, counted-without_add, image-without_add}
 

@@ -3,14 +3,14 @@ use Rattle.std.proofs.Common.{◌≡◌, ◌≢◌, ℕ, ◌+◌, ◌-◌, ◌<�
 use Rattle.std.specs.List.{slice_get}
 use Rattle.std.specs.declared.time.Duration.{Duration}
 use Rattle.std.proofs.lemmas.Bool.{cond_both, ltb-true}
-use Rattle.deadpool_parts.specs.Moments.{deadline_after, is_reached}
+use Rattle.deadpool_parts.specs.Moments.{deadline_after, is_reached, cannot_wait}
 use Rattle.deadpool_parts.specs.Numbers.{has_number}
 use Rattle.deadpool_parts.specs.declared.moment.Moment.{Moment}
 use Rattle.deadpool_parts.proofs.Numbers.{without_number-shorter, without_number-fewer}
 use Rattle.deadpool_parts.proofs.Lists.{get-set_same, get-set_other}
 use Rattle.deadpool_unmanaged.specs.Pool.{Pool, Party, new_get, queued_get, new_add, queued_add, finished, free_objects, free_room}
 use Rattle.deadpool_unmanaged.specs.RunLaws.{IsWell, CountsOn, KeepsPromises, IsEmptyIfClosed, brings, brought_by, asks_for_object, asks_for_room, copies, so_many, brought_in}
-use Rattle.deadpool_unmanaged.specs.Steps.{lacks_runtime, last_idle, other_idle, left, handed, hand_out, store, ended, enter_get, inquire_get, enter_add, inquire_add, poll, cancelled}
+use Rattle.deadpool_unmanaged.specs.Steps.{last_idle, other_idle, left, handed, hand_out, store, ended, enter_get, inquire_get, enter_add, inquire_add, poll, cancelled}
 use Rattle.deadpool_unmanaged.specs.declared.replay.moves.Item.{Item}
 use Rattle.deadpool_unmanaged.specs.declared.replay.moves.Reply.{Reply}
 use Rattle.deadpool_unmanaged.proofs.Copies.{so_many-push, so_many-with, so_many-last, so_many-cons_option, so_many-set}
@@ -156,7 +156,7 @@ module _ {V : Type 0} where
     enter_get_passes wait here =
         let ends = ended_passes n (new_get wait) p well here in
         let shorter = without_number-shorter n p.gets.granted in
-        cond_both (lacks_runtime p.runtime wait) _ _ (P (new_get wait)) (λ _. ends)
+        cond_both (cannot_wait p.runtime wait) _ _ (P (new_get wait)) (λ _. ends)
         (λ _. cond_both (not p.is_open) _ _ (P (new_get wait)) (λ _. ends)
         (λ _. cond_both (nat_lt 0 (free_objects p)) _ _ (P (new_get wait)) (λ free. hand_out_passes (Some n) [] p (ended n p) ends (λ is some. omega (arith, shorter, ltb-true 0 (free_objects p) free)))
         (λ _. cond_both (is_reached (deadline_after now wait) now) _ _ (P (new_get wait)) (λ _. ends)

@@ -12,7 +12,7 @@ use Rattle.deadpool_unmanaged.specs.declared.steps.AddAskReply.{AddAskReply}
 use Rattle.deadpool_unmanaged.specs.declared.steps.AddAskReply.TheVariants as asked
 use Rattle.deadpool_unmanaged.specs.declared.steps.AddEnterReply.{AddEnterReply}
 use Rattle.deadpool_unmanaged.specs.declared.steps.AddEnterReply.TheVariants as entered
-use Rattle.deadpool_unmanaged.specs.declared.steps.StepReply.{StepReply}
+use Rattle.deadpool_parts.specs.declared.replies.StepReply.{StepReply}
 
 module _ {T : Type 0} where
   -- the object that an add still has

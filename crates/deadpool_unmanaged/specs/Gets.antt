@@ -2,12 +2,11 @@
 use Rattle.std.specs.Prelude.{◌≡◌, ℕ, true, false, not, ◌⊎◌, Option, Result, Ok, Err}
 use Rattle.futures.specs.declared.task.Poll.{Poll}
 use Rattle.futures.specs.declared.task.Poll.TheVariants.{Ready, Pending}
-use Rattle.deadpool_parts.specs.Moments.{deadline_after, is_reached}
+use Rattle.deadpool_parts.specs.Moments.{deadline_after, is_reached, cannot_wait}
 use Rattle.deadpool_parts.specs.declared.moment.Moment.{Moment}
 use Rattle.deadpool_parts.specs.declared.moment.Runtime.{Runtime}
 use Rattle.deadpool_unmanaged.specs.State.{State}
 use Rattle.deadpool_unmanaged.specs.StateSteps.{GetEnters, GetAsks, GetCancels}
-use Rattle.deadpool_unmanaged.specs.Steps.{lacks_runtime}
 use Rattle.deadpool_unmanaged.specs.declared.error.PoolError.{PoolError}
 use Rattle.deadpool_unmanaged.specs.declared.error.PoolError.TheVariants.{Timeout, Closed, NoRuntimeSpecified, OutOfMemory}
 use Rattle.deadpool_unmanaged.specs.declared.get.GetStage.{GetStage}
@@ -16,7 +15,7 @@ use Rattle.deadpool_unmanaged.specs.declared.steps.GetAskReply.{GetAskReply}
 use Rattle.deadpool_unmanaged.specs.declared.steps.GetAskReply.TheVariants as asked
 use Rattle.deadpool_unmanaged.specs.declared.steps.GetEnterReply.{GetEnterReply}
 use Rattle.deadpool_unmanaged.specs.declared.steps.GetEnterReply.TheVariants as entered
-use Rattle.deadpool_unmanaged.specs.declared.steps.StepReply.{StepReply}
+use Rattle.deadpool_parts.specs.declared.replies.StepReply.{StepReply}
 
 module _ {T : Type 0} where
   -- where a get stands whose entry was answered so, and what its poll comes to
@@ -46,8 +45,8 @@ module _ {T : Type 0} where
   -- One poll from a stage: no step, an entry or an asking. With no runtime to end its wait a get does not enter.
   abbrev pub PollsGet : Option Runtime → Moment → GetStage → State T → Poll (Result T PoolError) → GetStage → State T → Type 0
   PollsGet runtime now (Unpolled wait) d turn after d' =
-      ((lacks_runtime runtime wait ≡ true) × (turn ≡ Ready (Err NoRuntimeSpecified)) × (after ≡ Finished) × (d' ≡ d))
-      ⊎ ((lacks_runtime runtime wait ≡ false)
+      ((cannot_wait runtime wait ≡ true) × (turn ≡ Ready (Err NoRuntimeSpecified)) × (after ≡ Finished) × (d' ≡ d))
+      ⊎ ((cannot_wait runtime wait ≡ false)
       × ((answer : GetEnterReply T)
       × (GetEnters d (not (is_reached (deadline_after now wait) now)) answer d' × (turn ≡ turn_entered answer) × (after ≡ stage_entered (deadline_after now wait) answer))))
   PollsGet runtime now (Queued ticket deadline) d turn after d' =

@@ -1,9 +1,9 @@
 -- The steps of a pool without names, each by its reply: when the reply comes, and the state after it.
 use Rattle.std.specs.Prelude.{◌≡◌, ℕ, ◌+◌, ◌-◌, ◌<◌, min, Bool, true, false, ◌&&◌, ◌==◌, nat_lt, if◌then◌else◌, [], ◌∷◌, ◌++◌, Some}
-use Rattle.deadpool_parts.specs.Numbers.{has_number}
+use Rattle.deadpool_parts.specs.Numbers.{has_number, most_handles}
 use Rattle.deadpool_parts.specs.Queue.{is_listed, joined, without}
 use Rattle.deadpool_unmanaged.specs.State.{State, free_objects, free_room, settled}
-use Rattle.deadpool_unmanaged.specs.Steps.{last_idle, other_idle, most_handles}
+use Rattle.deadpool_unmanaged.specs.Steps.{last_idle, other_idle}
 use Rattle.deadpool_unmanaged.specs.declared.steps.GetEnterReply.{GetEnterReply}
 use Rattle.deadpool_unmanaged.specs.declared.steps.GetEnterReply.TheVariants as get
 use Rattle.deadpool_unmanaged.specs.declared.steps.GetAskReply.{GetAskReply}
@@ -12,14 +12,14 @@ use Rattle.deadpool_unmanaged.specs.declared.steps.AddEnterReply.{AddEnterReply}
 use Rattle.deadpool_unmanaged.specs.declared.steps.AddEnterReply.TheVariants as add
 use Rattle.deadpool_unmanaged.specs.declared.steps.AddAskReply.{AddAskReply}
 use Rattle.deadpool_unmanaged.specs.declared.steps.AddAskReply.TheVariants as add_ask
-use Rattle.deadpool_unmanaged.specs.declared.steps.StepReply.{StepReply}
-use Rattle.deadpool_unmanaged.specs.declared.steps.StepReply.TheVariants as step
+use Rattle.deadpool_parts.specs.declared.replies.StepReply.{StepReply}
+use Rattle.deadpool_parts.specs.declared.replies.StepReply.TheVariants as step
 use Rattle.deadpool_unmanaged.specs.declared.steps.BackReply.{BackReply}
 use Rattle.deadpool_unmanaged.specs.declared.steps.BackReply.TheVariants as back
 use Rattle.deadpool_unmanaged.specs.declared.steps.TakeReply.{TakeReply}
 use Rattle.deadpool_unmanaged.specs.declared.steps.TakeReply.TheVariants as taking
-use Rattle.deadpool_unmanaged.specs.declared.steps.HandleReply.{HandleReply}
-use Rattle.deadpool_unmanaged.specs.declared.steps.HandleReply.TheVariants as handle
+use Rattle.deadpool_parts.specs.declared.replies.HandleReply.{HandleReply}
+use Rattle.deadpool_parts.specs.declared.replies.HandleReply.TheVariants as handle
 
 module _ {T : Type 0} where
   -- the next object goes out

@@ -1,25 +1,16 @@
 -- The steps of an unmanaged pool, before anybody is granted anything.
-use Rattle.std.specs.Prelude.{ℕ, ◌+◌, ◌-◌, min, Bool, false, not, ◌&&◌, ◌==◌, List, [], ◌∷◌, ◌++◌, length, take, Option, Some, None, is_some, if◌then◌else◌, nat_lt, slice_get, slice_set}
+use Rattle.std.specs.Prelude.{ℕ, ◌+◌, ◌-◌, min, Bool, false, not, ◌==◌, List, [], ◌∷◌, ◌++◌, length, take, Option, Some, None, if◌then◌else◌, nat_lt, slice_get, slice_set}
 use Rattle.std.specs.List.{find}
 use Rattle.std.specs.declared.time.Duration.{Duration}
-use Rattle.deadpool_parts.specs.Moments.{deadline_after, is_reached, is_positive}
-use Rattle.deadpool_parts.specs.Numbers.{has_number}
+use Rattle.deadpool_parts.specs.Moments.{deadline_after, is_reached, cannot_wait}
+use Rattle.deadpool_parts.specs.Numbers.{has_number, most_handles}
 use Rattle.deadpool_parts.specs.declared.moment.Moment.{Moment}
-use Rattle.deadpool_parts.specs.declared.moment.Runtime.{Runtime}
 use Rattle.deadpool_parts.specs.Queue.{joined, without}
 use Rattle.deadpool_unmanaged.specs.Pool.{Pool, Party, new_get, queued_get, new_add, queued_add, finished, free_objects, free_room}
 use Rattle.deadpool_unmanaged.specs.declared.error.PoolError.TheVariants.{Timeout, Closed, NoRuntimeSpecified, OutOfMemory}
 use Rattle.deadpool_unmanaged.specs.declared.replay.moves.Item.{Item}
 use Rattle.deadpool_unmanaged.specs.declared.replay.moves.Reply.{Reply}
 use Rattle.deadpool_unmanaged.specs.declared.replay.moves.Reply.TheVariants as reply
-
--- a count of handles that has come here stays here
-abbrev pub most_handles : ℕ
-most_handles = 18446744073709551615
-
--- a wait that a runtime would have to end, and none is there
-abbrev pub lacks_runtime : Option Runtime → Option Duration → Bool
-lacks_runtime runtime wait = is_positive wait && not (is_some runtime)
 
 module _ {T : Type 0} where
   -- the object that goes out next, and the others
@@ -76,7 +67,7 @@ module _ {V : Type 0} where
   abbrev pub enter_get : Bool → ℕ → Option Duration → Moment → Pool V → Reply V × Pool V
   enter_get found n wait now p =
       let deadline = deadline_after now wait in
-      if lacks_runtime p.runtime wait then (reply.Failed NoRuntimeSpecified, ended n p)
+      if cannot_wait p.runtime wait then (reply.Failed NoRuntimeSpecified, ended n p)
       else if not p.is_open then (reply.Failed Closed, ended n p)
       else if nat_lt 0 (free_objects p) then hand_out (ended n p)
       else if is_reached deadline now then (reply.Failed Timeout, ended n p)

@@ -23,8 +23,8 @@ use Rattle.deadpool_unmanaged.specs.declared.steps.AddEnterReply.{AddEnterReply}
 use Rattle.deadpool_unmanaged.specs.declared.steps.AddEnterReply.TheVariants as add
 use Rattle.deadpool_unmanaged.specs.declared.steps.BackReply.{BackReply}
 use Rattle.deadpool_unmanaged.specs.declared.steps.BackReply.TheVariants as back
-use Rattle.deadpool_unmanaged.specs.declared.steps.HandleReply.{HandleReply}
-use Rattle.deadpool_unmanaged.specs.declared.steps.HandleReply.TheVariants as handle
+use Rattle.deadpool_parts.specs.declared.replies.HandleReply.{HandleReply}
+use Rattle.deadpool_parts.specs.declared.replies.HandleReply.TheVariants as handle
 
 module _ {V : Type 0} where
   -- what a get's poll comes to

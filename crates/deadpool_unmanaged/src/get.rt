@@ -1,12 +1,11 @@
 //! A get, as a state that its owner polls.
 ghost use Rattle.std.specs.Prelude.{◌≡◌};
 ghost use Rattle.deadpool_unmanaged.specs.Gets.{PollsGet, CancelsGet, stage_entered, turn_entered, stage_asked, turn_asked};
-ghost use Rattle.deadpool_unmanaged.specs.Steps.{lacks_runtime};
 
 use crate::state::Core;
 use crate::steps::{GetAskReply, GetEnterReply};
 use crate::{Moment, PoolError, Runtime};
-use deadpool_parts::deadline::{deadline_after, is_positive, is_reached};
+use deadpool_parts::deadline::{cannot_wait, deadline_after, is_reached};
 use deadpool_parts::gate::Ticket;
 use futures::task::Poll;
 use std::marker::Model;
@@ -41,13 +40,6 @@ impl Model for GetState {
     ghost inverse = { λ stage. record { stage = stage } };
 }
 
-// Whether a wait has to be ended by a runtime, and none is there.
-fn lacks_runtime(runtime: Option<Runtime>, wait: Option<Duration>) -> bool
-    ensures { result ≡ lacks_runtime runtime wait }
-{
-    is_positive(wait) && runtime.is_none()
-}
-
 impl GetState {
     /// A get that was not polled yet, which may wait so long; none set is without an end. Nothing happens before its first
     /// poll.
@@ -71,7 +63,7 @@ impl GetState {
     {
         match mem::replace(&mut self.stage, GetStage::Finished) {
             GetStage::Unpolled(wait) => {
-                if lacks_runtime(runtime, wait) {
+                if cannot_wait(runtime, wait) {
                     return Poll::Ready(Err(PoolError::NoRuntimeSpecified));
                 }
                 let deadline = deadline_after(now, wait);

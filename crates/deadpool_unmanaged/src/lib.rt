@@ -15,11 +15,8 @@ mod tests;
 pub use add::{AddStage, AddState};
 pub use config::PoolConfig;
 pub use deadpool_parts::errors::ConfigError;
-pub use deadpool_parts::{Clock, Moment, Runtime, Status, gate};
+pub use deadpool_parts::{Clock, HandleReply, Moment, Runtime, Status, StepReply, gate};
 pub use error::PoolError;
 pub use get::{GetStage, GetState};
 pub use state::Core;
-pub use steps::{
-    AddAskReply, AddEnterReply, BackReply, GetAskReply, GetEnterReply, HandleReply, StepReply,
-    TakeReply,
-};
+pub use steps::{AddAskReply, AddEnterReply, BackReply, GetAskReply, GetEnterReply, TakeReply};

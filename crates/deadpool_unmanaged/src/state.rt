@@ -5,11 +5,8 @@ ghost use Rattle.deadpool_unmanaged.specs.State.{free_objects, free_room, settle
 ghost use Rattle.deadpool_unmanaged.specs.StateSteps.{GetEnters, GetAsks, GetCancels, AddEnters, AddAsks, AddCancels, TakesBack, Takes, Clones, DropsHandle, Upgrades, handed, stored, shut};
 ghost use Rattle.deadpool_unmanaged.specs.Steps.{last_idle};
 
-use crate::Status;
-use crate::steps::{
-    AddAskReply, AddEnterReply, BackReply, GetAskReply, GetEnterReply, HandleReply, StepReply,
-    TakeReply,
-};
+use crate::steps::{AddAskReply, AddEnterReply, BackReply, GetAskReply, GetEnterReply, TakeReply};
+use crate::{HandleReply, Status, StepReply};
 use deadpool_parts::gate::{Ask, Entry, Gate, Ticket, Withdrawn};
 use std::alloc::{AllocError, Global};
 use std::marker::Model;

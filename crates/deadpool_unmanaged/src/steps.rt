@@ -53,13 +53,6 @@ pub enum AddAskReply<T> {
     Unknown(T),
 }
 
-/// The reply to a step that gives something back.
-#[derive(Clone, Copy, Debug, PartialEq, Eq)]
-pub enum StepReply {
-    Done,
-    Unknown,
-}
-
 /// What becomes of an object that comes back.
 #[derive(Drop)]
 pub enum BackReply<T> {
@@ -75,12 +68,4 @@ pub enum BackReply<T> {
 pub enum TakeReply {
     Taken,
     Unknown,
-}
-
-/// The reply to a step on the count of handles.
-#[derive(Clone, Copy, Debug, PartialEq, Eq)]
-pub enum HandleReply {
-    Done,
-    /// The pool has no handle left, and nothing has changed.
-    NoHandle,
 }

@@ -1,7 +1,7 @@
 //! What is true of every state of every run from a pool that is well, of each two neighbours in it, and of each move, whatever
 //! the manager and the hooks answer. A function here does nothing: its contract is the law.
 ghost use Rattle.deadpool.specs.Laws.{MarksQueued};
-ghost use Rattle.deadpool.specs.Outside.{may};
+ghost use Rattle.deadpool_managed.specs.Outside.{may};
 ghost use Rattle.deadpool.specs.RunLaws.{OpensWell, EachState, EachStep, EachLater, EachMove, EachReply, EndsWell, StaysWithin, HasFewIdle, IsEmptyIfClosed, IsNumbered, CountsOn, NoneReturns, KeepsQueue, OthersStayInPool, OthersStayQueued, OthersStand, IsOutIfGiven, IsIdleIfKept, IsListedOnce};
 
 use crate::managed::{AsyncHook, Manager, SyncHook};

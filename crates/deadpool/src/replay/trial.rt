@@ -6,22 +6,21 @@ ghost use Rattle.futures.specs.Task.{Keeps};
 ghost use Rattle.deadpool_parts.specs.Program.{Gives};
 ghost use Rattle.deadpool_parts.specs.Runs.{last_of, all_states, Each, Neighbours};
 ghost use Rattle.deadpool_parts.specs.declared.errors.BuildError.{BuildError};
-ghost use Rattle.deadpool.specs.Building.{lacks_any_runtime};
-ghost use Rattle.deadpool.specs.Outside.{may};
+ghost use Rattle.deadpool_managed.specs.Building.{lacks_any_runtime};
+ghost use Rattle.deadpool_managed.specs.Outside.{may};
 ghost use Rattle.deadpool.specs.Pool.{Pool, opened};
 ghost use Rattle.deadpool.specs.Steps.{find_slot, without_slot, with_slot, with_put};
 ghost use Rattle.deadpool.specs.Moves.{moved, Polls, Makes, PoolRuns, NobodyWaits, WithinReach};
 ghost use Rattle.deadpool.specs.Rank.{rank_at};
 ghost use Rattle.deadpool.specs.TrialFields.{AdvancesGet, given, reply_to, IsTaken, reply_to_back, reply_to_take, reply_to_handle};
 ghost use Rattle.deadpool_parts.specs.Numbers.{has_number};
-ghost use Rattle.deadpool.specs.Answers.{LeavesOrKeeps};
+ghost use Rattle.deadpool_managed.specs.Answers.{LeavesOrKeeps};
 ghost use Rattle.deadpool.specs.declared.replay.moves.Move.TheVariants as move;
 
 use crate::Moment;
-use crate::managed::desk::{BackReply, HandleReply, TakeReply};
 use crate::managed::{
-    AsyncHook, BuildError, Core, Desk, Environment, GetState, Manager, Metrics, PoolBuilder,
-    Retainer, Slot, SyncHook, Timeouts, Turn,
+    AsyncHook, BackReply, BuildError, Core, Desk, Environment, GetState, HandleReply, Manager,
+    Metrics, OpenPool, PoolBuilder, Retainer, Slot, SyncHook, TakeReply, Timeouts, Turn,
 };
 use crate::replay::{Move, Reply};
 use futures::task::Context;
@@ -78,41 +77,16 @@ impl<M: Manager + Drop, F: SyncHook<M> + Drop, A: AsyncHook<M> + Drop, C: Drop> 
         ensures pool { IfOk result (λ t. t.pool ≡ opened builder.max_size builder.queue_mode builder.runtime builder.hooks builder.timeouts first_number parties) }
         ensures manager { IfOk result (λ t. t.manager ≡ builder.manager) }
     {
-        if builder.lacks_runtime() {
-            return Err(BuildError::NoRuntimeSpecified);
-        }
-        match Self::open(builder, parties, first_number) {
-            Ok(trial) => Ok(trial),
-            Err(_) => Err(BuildError::OutOfMemory),
-        }
-    }
-
-    // The pool and its tables.
-    fn open(
-        builder: PoolBuilder<M, F, A, C>,
-        parties: usize,
-        first_number: usize,
-    ) -> Result<Self, AllocError>
-        ensures pool { IfOk result (λ t. t.pool ≡ opened builder.max_size builder.queue_mode builder.runtime builder.hooks builder.timeouts first_number parties) }
-        ensures manager { IfOk result (λ t. t.manager ≡ builder.manager) }
-    {
-        let PoolBuilder {
-            alloc,
-            manager,
-            hooks,
-            clock,
-            max_size,
+        let OpenPool {
+            core,
+            environment,
             timeouts,
-            queue_mode,
-            runtime,
-        } = builder;
+            clock,
+            alloc,
+        } = builder.open(first_number)?;
         Ok(Trial {
-            core: Core::new(alloc, max_size, queue_mode, first_number)?,
-            environment: Environment {
-                manager,
-                hooks,
-                runtime,
-            },
+            core,
+            environment,
             timeouts,
             parties: Vec::with_capacity(alloc, parties)?,
             out: Vec::with_capacity(alloc, parties)?,

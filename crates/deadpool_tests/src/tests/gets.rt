@@ -49,9 +49,7 @@ fn objects_that_are_not_recycled_are_detached(rt: HostRuntime) -> Result<(), Fai
     };
     let builder = PoolBuilder::<_, NoHook, NoHook, _>::new(rt.alloc(), manager, ());
     let mut bench = Bench::new(&rt, builder.max_size(2))?;
-    let (first, second) = (bench.object()?, bench.object()?);
-    bench.keep(first)?;
-    bench.keep(second)?;
+    bench.idle(2)?;
     assert_eq!(rt; bench.status()?, stands(2, 2, 2, 0));
     assert_eq!(rt; (recycled.get(), detached.get()), (0, 0));
 
@@ -75,19 +73,13 @@ fn a_refused_creation_gives_its_place_to_the_next(rt: HostRuntime) -> Result<(),
     };
     let builder = PoolBuilder::<_, NoHook, NoHook, _>::new(rt.alloc(), manager, ());
     let mut bench = Bench::new(&rt, builder.max_size(1))?;
-    let first = bench.start()?;
-    assert!(rt; bench.poll(first, 0)?.is_none());
-    assert_eq!(rt; bench.status()?, stands(1, 0, 0, 1));
-    let second = bench.start()?;
-    assert!(rt; bench.poll(second, 0)?.is_none());
-    assert_eq!(rt; bench.status()?, stands(1, 0, 0, 2));
+    let (first, status) = bench.waits()?;
+    assert_eq!(rt; status, stands(1, 0, 0, 1));
+    let (second, status) = bench.waits()?;
+    assert_eq!(rt; status, stands(1, 0, 0, 2));
 
-    assert!(rt;
-        matches!(
-            bench.poll(first, 0)?,
-            Some(Err(PoolError::Backend(Refused)))
-        )
-    );
+    let refused = bench.poll(first, 0)?;
+    assert!(rt; matches!(refused, Some(Err(PoolError::Backend(Refused)))));
     assert_eq!(rt; bench.status()?, stands(1, 0, 0, 1));
     assert!(rt; matches!(bench.poll(second, 0)?, Some(Ok(0))));
     assert_eq!(rt; bench.status()?, stands(1, 1, 0, 0));

@@ -2,8 +2,8 @@
 use super::managers::{Counter, Draining};
 use super::{Bench, stands};
 use deadpool::managed::{
-    BackReply, BuildError, Core, Desk, Environment, GetState, Hooks, Manager, NoHook, PoolBuilder,
-    PoolError, QueueMode, Slot, TimeoutType, Timeouts, Turn,
+    BackReply, BuildError, Core, Desk, EnterReply, Environment, GetState, Hooks, Manager, NoHook,
+    PoolBuilder, PoolError, QueueMode, Serving, Slot, TimeoutType, Timeouts, Turn,
 };
 use deadpool::replay::{Move, Reply, Trial};
 use deadpool::{Moment, Runtime};
@@ -133,6 +133,30 @@ fn a_get_over_a_desk(rt: HostRuntime) -> Result<(), Fail> {
         .enter(|cx| poll_over(&mut first, &mut core, &environment, 0, cx))?
         .ok_or("pending")?;
     assert_eq!(rt; (slot.number, slot.value), (7, 0));
+    assert!(rt; matches!(core.back(slot), BackReply::Kept));
+
+    let mut second = GetState::new(NO_TIMEOUTS);
+    let slot = task
+        .enter(|cx| poll_over(&mut second, &mut core, &environment, 20, cx))?
+        .ok_or("pending")?;
+    assert_eq!(rt; (slot.number, slot.value), (7, 0));
+    let moments = (slot.metrics.created, slot.metrics.recycled);
+    assert_eq!(rt; moments, (Moment(0), Some(Moment(20))));
+    Ok(())
+}
+
+#[test]
+fn a_get_that_is_given_up_leaves_its_place_to_the_next(rt: HostRuntime) -> Result<(), Fail> {
+    let task = MockTask::new(&rt)?;
+    let mut core = Core::new(rt.alloc(), 1, QueueMode::Fifo, 0)?;
+    let environment = Environment {
+        manager: Counter::new(),
+        hooks: Hooks::<_, NoHook, NoHook>::new(rt.alloc()),
+        runtime: Some(Runtime::Clock),
+    };
+    let EnterReply::Served(Serving::Create) = core.enter(false) else {
+        return Err(Fail::new("no creation"));
+    };
 
     // Two wait, the first of them until a moment. It is given up, and the other has the place.
     let mut second = GetState::new(Timeouts {
@@ -151,18 +175,14 @@ fn a_get_over_a_desk(rt: HostRuntime) -> Result<(), Fail> {
     );
     assert_eq!(rt; second.deadline(), Some(Moment(15)));
     assert_eq!(rt; third.deadline(), None);
-    assert_eq!(rt; core.status(), stands(1, 1, 0, 2));
+    assert_eq!(rt; core.status(), stands(1, 0, 0, 3));
     second.cancel(&mut core, &environment);
-    assert_eq!(rt; core.status(), stands(1, 1, 0, 1));
-    assert!(rt; matches!(core.back(slot), BackReply::Kept));
+    assert_eq!(rt; core.status(), stands(1, 0, 0, 2));
+    core.failed();
     let slot = task
         .enter(|cx| poll_over(&mut third, &mut core, &environment, 20, cx))?
         .ok_or("pending")?;
-    assert_eq!(rt; (slot.number, slot.value), (7, 0));
-    assert_eq!(rt;
-        (slot.metrics.created, slot.metrics.recycled),
-        (Moment(0), Some(Moment(20)))
-    );
+    assert_eq!(rt; (slot.number, slot.value), (0, 0));
     assert_eq!(rt; core.status(), stands(1, 1, 0, 0));
     Ok(())
 }

@@ -64,6 +64,14 @@ impl Bench {
         }
     }
 
+    /// An add that does not wait, and finds room.
+    fn try_add(&mut self, value: u64) -> Result<usize, Fail> {
+        match self.make(Move::TryAdd(value))? {
+            Reply::Added(number) => Ok(number),
+            _ => Err(Fail::new("not added")),
+        }
+    }
+
     /// A get that ends in its first poll.
     fn get_at_once(&mut self) -> Result<usize, Fail> {
         let party = self.start(Move::Get(None))?;
@@ -98,6 +106,30 @@ impl Bench {
     fn size(&mut self) -> Result<usize, Fail> {
         Ok(self.status()?.size)
     }
+
+    /// Whether a move is refused since the pool is closed.
+    fn is_refused(&mut self, next: Move<u64>) -> Result<bool, Fail> {
+        Ok(matches!(self.make(next)?, Reply::Failed(PoolError::Closed)))
+    }
+
+    /// Starts a get or an add that has to wait, and gives its number.
+    fn waits(&mut self, next: Move<u64>) -> Result<usize, Fail> {
+        let party = self.start(next)?;
+        match self.poll(party)? {
+            Reply::Pending => Ok(party),
+            _ => Err(Fail::new("not pending")),
+        }
+    }
+
+    /// The values that leave the pool one after another, each with the size that is left.
+    fn removes(&mut self, left: &[(u64, usize)]) -> Result<(), Fail> {
+        for (value, size) in left {
+            if self.try_remove()? != *value || self.size()? != *size {
+                return Err(Fail::new("another object left, or another size"));
+            }
+        }
+        Ok(())
+    }
 }
 
 #[test]
@@ -118,19 +150,19 @@ fn a_closed_pool_refuses_all(rt: HostRuntime) -> Result<(), Fail> {
     let mut bench = Bench::new(rt.alloc(), 1)?;
     bench.add_at_once(0)?;
     let number = bench.get_at_once()?;
-    let waiting = bench.start(Move::Get(None))?;
-    assert!(rt; matches!(bench.poll(waiting)?, Reply::Pending));
+    let waiting = bench.waits(Move::Get(None))?;
     assert_eq!(rt; bench.status()?, stands(1, 1, 0, 1));
-    assert!(rt; matches!(bench.make(Move::Close)?, Reply::Done));
+    bench.make(Move::Close)?;
 
-    assert!(rt; matches!(bench.poll(waiting)?, Reply::Failed(PoolError::Closed)));
     let late = bench.start(Move::Get(None))?;
-    assert!(rt; matches!(bench.poll(late)?, Reply::Failed(PoolError::Closed)));
-    assert!(rt; matches!(bench.make(Move::TryGet)?, Reply::Failed(PoolError::Closed)));
+    for party in [waiting, late] {
+        assert!(rt; bench.is_refused(Move::Poll(party, Moment(0)))?);
+    }
+    assert!(rt; bench.is_refused(Move::TryGet)?);
     assert_eq!(rt; bench.status()?, stands(1, 1, 0, 0));
 
     assert!(rt; matches!(bench.make(Move::Back(number))?, Reply::Dropped));
-    assert!(rt; matches!(bench.make(Move::TryGet)?, Reply::Failed(PoolError::Closed)));
+    assert!(rt; bench.is_refused(Move::TryGet)?);
     assert_eq!(rt; bench.status()?, stands(1, 0, 0, 0));
     Ok(())
 }
@@ -138,50 +170,39 @@ fn a_closed_pool_refuses_all(rt: HostRuntime) -> Result<(), Fail> {
 #[test]
 fn adds_and_removals(rt: HostRuntime) -> Result<(), Fail> {
     let mut bench = Bench::new(rt.alloc(), 2)?;
-    bench.add_at_once(1)?;
-    assert_eq!(rt; bench.size()?, 1);
-    bench.add_at_once(2)?;
-    assert_eq!(rt; bench.size()?, 2);
+    for (value, size) in [(1, 1), (2, 2)] {
+        bench.add_at_once(value)?;
+        assert_eq!(rt; bench.size()?, size);
+    }
 
     // The third waits, and is given up.
-    let third = bench.start(Move::Add(3))?;
-    assert!(rt; matches!(bench.poll(third)?, Reply::Pending));
+    let third = bench.waits(Move::Add(3))?;
     assert!(rt; matches!(bench.make(Move::Cancel(third))?, Reply::Cancelled));
     assert_eq!(rt; bench.size()?, 2);
 
-    assert_eq!(rt; bench.try_remove()?, 2);
-    assert_eq!(rt; bench.size()?, 1);
+    bench.removes(&[(2, 1)])?;
     bench.add_at_once(3)?;
     assert_eq!(rt; bench.size()?, 2);
-    assert_eq!(rt; bench.try_remove()?, 3);
-    assert_eq!(rt; bench.size()?, 1);
-    assert_eq!(rt; bench.try_remove()?, 1);
-    assert_eq!(rt; bench.size()?, 0);
-    Ok(())
+    bench.removes(&[(3, 1), (1, 0)])
 }
 
 #[test]
 fn adds_and_removals_that_do_not_wait(rt: HostRuntime) -> Result<(), Fail> {
     let mut bench = Bench::new(rt.alloc(), 2)?;
-    assert!(rt; matches!(bench.make(Move::TryAdd(1))?, Reply::Added(0)));
-    assert_eq!(rt; bench.size()?, 1);
-    assert!(rt; matches!(bench.make(Move::TryAdd(2))?, Reply::Added(1)));
-    assert_eq!(rt; bench.size()?, 2);
+    for (value, number, size) in [(1, 0, 1), (2, 1, 2)] {
+        assert_eq!(rt; bench.try_add(value)?, number);
+        assert_eq!(rt; bench.size()?, size);
+    }
 
     let refused = bench.make(Move::TryAdd(3))?;
     assert!(rt; matches!(refused, Reply::Refused(PoolError::Timeout, 3)));
     assert_eq!(rt; bench.size()?, 2);
 
-    assert_eq!(rt; bench.try_remove()?, 2);
-    assert_eq!(rt; bench.size()?, 1);
+    bench.removes(&[(2, 1)])?;
     // The one that was refused had the number 2.
-    assert!(rt; matches!(bench.make(Move::TryAdd(3))?, Reply::Added(3)));
+    assert_eq!(rt; bench.try_add(3)?, 3);
     assert_eq!(rt; bench.size()?, 2);
-    assert_eq!(rt; bench.try_remove()?, 3);
-    assert_eq!(rt; bench.size()?, 1);
-    assert_eq!(rt; bench.try_remove()?, 1);
-    assert_eq!(rt; bench.size()?, 0);
-    Ok(())
+    bench.removes(&[(3, 1), (1, 0)])
 }
 
 #[test]

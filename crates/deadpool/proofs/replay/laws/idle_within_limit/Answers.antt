@@ -1,4 +1,4 @@
-use Rattle.deadpool.specs.Outside.{may}
+use Rattle.deadpool_managed.specs.Outside.{may}
 use Rattle.deadpool.specs.RunLaws.{HasFewIdle}
 use Rattle.deadpool.proofs.RunsWell.{each_state}
 use Rattle.deadpool.proofs.replay.laws.idle_within_limit.Goals as goal

@@ -1,4 +1,4 @@
-use Rattle.deadpool.specs.Outside.{may}
+use Rattle.deadpool_managed.specs.Outside.{may}
 use Rattle.deadpool.specs.RunLaws.{OthersStayInPool}
 use Rattle.deadpool.proofs.RunsWell.{each_move}
 use Rattle.deadpool.proofs.Well.{moved_numbers}

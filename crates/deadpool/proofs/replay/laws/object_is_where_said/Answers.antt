@@ -1,4 +1,4 @@
-use Rattle.deadpool.specs.Outside.{may}
+use Rattle.deadpool_managed.specs.Outside.{may}
 use Rattle.deadpool.specs.RunLaws.{IsOutIfGiven, IsIdleIfKept}
 use Rattle.deadpool.proofs.RunsHave.{each_reply}
 use Rattle.deadpool.proofs.Given.{moved_gives, moved_keeps}

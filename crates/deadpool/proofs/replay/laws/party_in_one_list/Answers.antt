@@ -1,4 +1,4 @@
-use Rattle.deadpool.specs.Outside.{may}
+use Rattle.deadpool_managed.specs.Outside.{may}
 use Rattle.deadpool.specs.RunLaws.{IsListedOnce}
 use Rattle.deadpool.proofs.OneList.{listed_once}
 use Rattle.deadpool.proofs.RunsWell.{each_state}

@@ -4,7 +4,7 @@ use Rattle.std.proofs.lemmas.List.{length-map}
 use Rattle.std.proofs.lemmas.Option.{slice_get_read, slice_get_past, slice_get-map}
 use Rattle.std.specs.Option.{option_map}
 use Rattle.deadpool.specs.Image.{party_of}
-use Rattle.deadpool.specs.Outside.{may}
+use Rattle.deadpool_managed.specs.Outside.{may}
 use Rattle.deadpool.proofs.Falls.{advance_falls}
 use Rattle.deadpool.proofs.TrialSteps.{out_fits, turned, not_turned}
 use Rattle.deadpool.proofs.replay.trial.Trial.advance.Goals as goal

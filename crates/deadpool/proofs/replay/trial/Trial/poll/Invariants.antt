@@ -1,7 +1,7 @@
 use Rattle.std.proofs.Common.{◌≡◌, List}
 use Rattle.futures.specs.Task.{Keeps}
 use Rattle.deadpool_parts.specs.Runs.{last_of}
-use Rattle.deadpool.specs.Outside.{may}
+use Rattle.deadpool_managed.specs.Outside.{may}
 use Rattle.deadpool.specs.Pool.{Pool}
 use Rattle.deadpool.specs.Moves.{Polls}
 use Rattle.deadpool.specs.Rank.{rank_at}

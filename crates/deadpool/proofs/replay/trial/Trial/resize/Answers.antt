@@ -1,5 +1,5 @@
 use Rattle.std.proofs.Common.{refl}
-use Rattle.deadpool.specs.Outside.{may}
+use Rattle.deadpool_managed.specs.Outside.{may}
 use Rattle.deadpool.specs.declared.replay.moves.Move.TheVariants as move
 use Rattle.deadpool.proofs.TrialSteps.{leads_to_lawful, some_handle, no_handle}
 use Rattle.deadpool.proofs.TrialOwnSteps.{resized_ok, resized_err}

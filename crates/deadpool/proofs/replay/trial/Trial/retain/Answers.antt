@@ -1,9 +1,9 @@
 use Rattle.std.proofs.Common.{◌≡◌, ◌∙◌, refl}
 use Rattle.std.specs.Prelude.{⊤}
 use Rattle.deadpool_parts.specs.Numbers.{has_number}
-use Rattle.deadpool.specs.Answers.{LeavesOrKeeps}
-use Rattle.deadpool.specs.Outside.{may}
-use Rattle.deadpool.specs.declared.managed.retain.Retainer.{Ghosts as RetainerOf}
+use Rattle.deadpool_managed.specs.Answers.{LeavesOrKeeps}
+use Rattle.deadpool_managed.specs.Outside.{may}
+use Rattle.deadpool_managed.specs.declared.retain.Retainer.{Ghosts as RetainerOf}
 use Rattle.deadpool.specs.declared.replay.trial.Keeping.{Keeping}
 use Rattle.deadpool.specs.declared.replay.moves.Move.TheVariants as move
 use Rattle.deadpool.proofs.TrialSteps.{leads_to_lawful, some_handle}

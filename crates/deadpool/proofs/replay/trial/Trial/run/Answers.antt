@@ -2,7 +2,7 @@ use Rattle.std.proofs.Common.{rules, ◌≡◌, [], ◌∷◌, length, vec_len, 
 use Rattle.std.specs.Vec.Iter.{into_iter_items, into_iter_len}
 use Rattle.deadpool_parts.proofs.Lists.{none_left, one_less}
 use Rattle.deadpool.specs.Laws.{IsLawful}
-use Rattle.deadpool.specs.Outside.{may}
+use Rattle.deadpool_managed.specs.Outside.{may}
 use Rattle.deadpool.specs.Moves.{Makes}
 use Rattle.deadpool.proofs.Runs.{runs_more, runs_end}
 use Rattle.deadpool.proofs.RunsLawful.{runs_lawful}

@@ -1,6 +1,6 @@
 use Rattle.std.proofs.Common.{◌≡◌, ◌∙◌, Some, None, refl, sym}
 use Rattle.deadpool.specs.Steps.{find_slot}
-use Rattle.deadpool.specs.Outside.{may}
+use Rattle.deadpool_managed.specs.Outside.{may}
 use Rattle.deadpool.specs.declared.replay.moves.Move.TheVariants as move
 use Rattle.deadpool.proofs.SlotLists.{none_out}
 use Rattle.deadpool.proofs.TrialSteps.{leads_to_lawful}

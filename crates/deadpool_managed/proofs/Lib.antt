@@ -1,0 +1,10 @@
+pub mod CoreDesk
+pub mod CoreQueue
+pub mod FirstPoll
+pub mod FirstPollAtOnce
+pub mod FirstPollComes
+pub mod FirstPollTakes
+pub mod HookLists
+pub mod IdleLists
+pub mod Polls
+pub mod Reviewing

@@ -1,0 +1,17 @@
+pub mod Allowance
+pub mod Answers
+pub mod Bounds
+pub mod Building
+pub mod Calls
+pub mod CoreFields
+pub mod DeskState
+pub mod DeskSteps
+pub mod FirstPoll
+pub mod Get
+pub mod HookLists
+pub mod Metrics
+pub mod Outside
+pub mod Prepare
+pub mod Retained
+pub mod Retains
+pub mod Stages
