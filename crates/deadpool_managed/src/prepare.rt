@@ -11,8 +11,7 @@ ghost use Rattle.deadpool_managed.specs.declared.prepare.Preparation.TheVariants
 ghost use Rattle.deadpool_managed.specs.Prepare.{prepare, begin_recycling, poll_recycling, approve, check, with_value, object_of, IsReadyPreparation, IsReadyPrepared};
 
 use crate::{
-    AsyncHook, Environment, Hook, HookError, HookResult, Manager, Metrics, Moment, Runtime, Slot,
-    SyncHook,
+    AsyncHook, Environment, Hook, HookError, HookResult, Manager, Metrics, Moment, Slot, SyncHook,
 };
 use deadpool_parts::deadline::{deadline_after, is_reached, lacks_runtime};
 use futures::task::{Context, Poll};

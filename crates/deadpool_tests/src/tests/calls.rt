@@ -1,5 +1,5 @@
 //! Calls of a manager, which no contract counts.
-use super::managers::{Calls, Counted, Refused};
+use super::managers::{Calls, Counted};
 use super::watched::Watched;
 use super::{Bench, stands};
 use deadpool::Moment;

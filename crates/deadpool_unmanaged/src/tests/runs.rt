@@ -2,7 +2,6 @@
 use crate::replay::{Move, Reply, Trial};
 use crate::{Moment, PoolError, Status};
 use std::alloc::Global;
-use std::process::Abort;
 use std::test::Fail;
 
 /// Makes one move.
