@@ -25,7 +25,7 @@ use Rattle.deadpool_managed.specs.Outside.{May}
 use Rattle.deadpool_managed.specs.Prepare.{create, prepare, check, with_value}
 use Rattle.deadpool_managed.specs.Get.{Made, no_step, discarding, creating, failing, refusing, Makes, AfterCreation, AfterPrepared, AfterChecked, AdvancesCreation, ended_by}
 use Rattle.deadpool.specs.Pool.{Pool, Party}
-use Rattle.deadpool.specs.Steps.{fail, rest, go_on, with_slot}
+use Rattle.deadpool.specs.Steps.{fail, rest, go_on, with_slot, slot_number}
 use Rattle.deadpool.specs.Party.{created, reviewed, checked, hand_out, advance_at}
 use Rattle.deadpool.specs.Image.{party_of, standing_of, image, IsCounted, has_ticket, queue_of}
 use Rattle.deadpool.specs.TrialFields.{given, reply_to}
@@ -45,12 +45,12 @@ use Rattle.deadpool_parts.specs.declared.replies.StepReply.TheVariants as step
 use Rattle.deadpool_managed.specs.declared.desk.CreatedReply.TheVariants as numbered
 use Rattle.deadpool.specs.declared.replay.moves.Reply.{Reply}
 use Rattle.deadpool.specs.declared.replay.moves.Reply.TheVariants as reply
-use Rattle.deadpool.proofs.SlotLists.{length-with_slot}
 use Rattle.deadpool.proofs.Tickets.{NoTicket, owned-same}
 use Rattle.deadpool.proofs.Settles.{counted_settled}
 use Rattle.deadpool.proofs.Settling.{goes, creates, prepares, lasts, Shifts, put, put_off, IsCounted-set, put-image, put_off-image}
 use Rattle.deadpool.proofs.Ends.{Gives-same, holds_creation, holds_object, ends_free}
 use Rattle.deadpool_managed.proofs.CoreDesk.{core_desk}
+use Rattle.deadpool_parts.proofs.Numbered.{length-with_numbered}
 
 module _ {V E C R S F A : Type 0} (may : May V E C R S F A) (runtime : Option Runtime) (hooks : HookLists F A) (timeouts : Timeouts) (first most n : ℕ) (now : Moment)
     (core core' : DeskState V) (gets : List (Option (Getting V C R S))) (out : List (Slot V)) (own : Timeouts) (k : IsCounted core gets out) where
@@ -200,7 +200,7 @@ module _ {V E C R S F A : Type 0} (may : May V E C R S F A) (runtime : Option Ru
     -- the object is handed out
     object_given : (slot : Slot V) → Pairs core stage.Finished (turn.Done (Ok slot)) (hand_out n (party old) slot pool)
     object_given slot =
-        let longer = length-with_slot slot out in (
+        let longer = length-with_numbered slot_number slot out in (
           ap (λ (q : Pool V C R S F A). (reply.Object slot.number, record q { out = with_slot slot out })) (put_as old h none stage.Finished (λ u. refl)),
           moves_on old h none core stage.Finished (with_slot slot out) refl refl (λ u. refl)
               record { going = omega (arith, goes_none); creations = omega (arith, creates_none); outside = omega (arith, prepares_one, longer); room = omega (arith, lasts_still, longer) },

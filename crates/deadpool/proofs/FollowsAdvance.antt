@@ -18,7 +18,7 @@ use Rattle.deadpool_managed.specs.Outside.{Asking}
 use Rattle.deadpool_managed.specs.DeskState.{next_idle, other_idle}
 use Rattle.deadpool_managed.specs.Prepare.{create, prepare, check, with_value}
 use Rattle.deadpool.specs.Pool.{Pool, Party, Standing, unpolled, queued, going, creating, recycling, checking, finished, goes, creates, prepared_at, creating_count, places, size}
-use Rattle.deadpool.specs.Steps.{to, unqueued, ended, serve_from, with_slot}
+use Rattle.deadpool.specs.Steps.{to, unqueued, ended, serve_from, with_slot, slot_number}
 use Rattle.deadpool.specs.Party.{joined, enter, inquire, hand_out, reviewed, checked, created, go_on_creating, advance_at, advance, cancel_with, cancel}
 use Rattle.deadpool.specs.Laws.{queue, waits_at, is_queued}
 use Rattle.deadpool_managed.specs.declared.slot.Slot.{Slot}
@@ -34,9 +34,9 @@ use Rattle.deadpool_managed.specs.declared.prepare.Prepared.TheVariants as prepa
 use Rattle.deadpool.specs.declared.replay.moves.Reply.{Reply}
 use Rattle.deadpool.proofs.Counts.{one_if}
 use Rattle.deadpool.proofs.NumberLists.{has_number-push, has_number-last, without_number-once, IsOnce-left}
-use Rattle.deadpool.proofs.SlotLists.{length-with_slot}
 use Rattle.deadpool.proofs.Follows.{MarksOthers, IsOrderly, Follows, unqueued_gone, unqueued_orderly, unqueued_marks, not_queued, set_marks, counts, standing_at, holds, makes, left_follows, same_places_follow}
 use Rattle.deadpool_managed.proofs.IdleLists.{other_idle-shorter}
+use Rattle.deadpool_parts.proofs.Numbered.{length-with_numbered}
 
 -- where no object is served, none is idle
 pub next_idle-none : {V : Type 0} (mode : QueueMode) (idle : List (Slot V)) → next_idle mode idle ≡ None → length idle ≡ 0
@@ -181,7 +181,7 @@ module _ {V C R S F A : Type 0} (E : Type 0) (most n : ℕ) (timeouts : Timeouts
   handed_follows : (old : Standing V C R S) (slot : Slot V) (p : Pool V C R S F A) → Follows most p → slice_get p.parties n ≡ Some (Some (standing_at timeouts old))
       → waits_at old ≡ false → holds old ≡ 1 → makes old ≡ 1 → After {E = E} most (hand_out n (standing_at timeouts old) slot p)
   handed_follows old slot p f h other one made =
-      let longer = length-with_slot slot p.out in
+      let longer = length-with_numbered slot_number slot p.out in
       same_places_follow most n timeouts old finished p.next p.idle (with_slot slot p.out) p f h other (omega (arith, one, longer)) (omega (arith, made, longer))
 
   -- by what came of a preparation

@@ -8,7 +8,7 @@ use Rattle.deadpool_parts.specs.declared.config.Timeouts.{Timeouts}
 use Rattle.deadpool_parts.proofs.Programs.{Always-bind}
 use Rattle.deadpool_managed.specs.Outside.{Asking}
 use Rattle.deadpool.specs.Pool.{Pool, Party, unpolled, is_going, is_creating, prepared_by, size, reach, status_of}
-use Rattle.deadpool.specs.Steps.{find_slot, without_slot, with_put, resized, closed, cloned, handle_dropped}
+use Rattle.deadpool.specs.Steps.{find_slot, without_slot, with_put, resized, closed, cloned, handle_dropped, slot_number}
 use Rattle.deadpool.specs.Party.{advance, cancel}
 use Rattle.deadpool.specs.Moves.{by_handle, started, put_at, back_at, take_at, resize, give_up, retain_with, retain, upgrade, by_party, moved}
 use Rattle.deadpool.specs.Laws.{IsLawful, is_queued}
@@ -18,9 +18,10 @@ use Rattle.deadpool.specs.declared.replay.moves.Move.TheVariants as move
 use Rattle.deadpool.specs.declared.replay.moves.Reply.{Reply}
 use Rattle.deadpool.specs.declared.replay.moves.Reply.TheVariants as reply
 use Rattle.deadpool.proofs.Counts.{count-push, held-push, filter-shorter}
-use Rattle.deadpool.proofs.SlotLists.{length-with_put, length-without_slot}
+use Rattle.deadpool.proofs.SlotLists.{length-with_put}
 use Rattle.deadpool.proofs.Follows.{IsOrderly, Follows, Follows-self, standing_at, settle_follows}
 use Rattle.deadpool.proofs.FollowsAdvance.{After, advance_follows, cancel_follows}
+use Rattle.deadpool_parts.proofs.Numbered.{length-without_numbered}
 
 module _ {V C R S : Type 0} where
   -- where a party starts that is not queued, the same are queued
@@ -54,7 +55,7 @@ module _ {V C R S F A : Type 0} (most : ℕ) where
       → length idle ≤ length p.idle + 1 → IsOrderly most (record p { idle = idle; out = without_slot n p.out })
   without_slot_orderly n slot p idle f found one =
       let k = f.orderly in
-      let fewer = length-without_slot n p.out slot found in
+      let fewer = length-without_numbered slot_number n p.out slot found in
       let places_few = k.few_places in
       let objects_few = k.few_objects in
       record { once = k.once; few_places = omega (arith, fewer, places_few); few_objects = omega (arith, fewer, one, objects_few) }

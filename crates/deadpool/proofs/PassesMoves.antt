@@ -11,7 +11,7 @@ use Rattle.deadpool_parts.proofs.Lists.{get-append}
 use Rattle.deadpool_parts.proofs.Orders.{order_same}
 use Rattle.deadpool_managed.specs.Outside.{Asking}
 use Rattle.deadpool.specs.Pool.{Pool, Party, unpolled, size, status_of}
-use Rattle.deadpool.specs.Steps.{find_slot, without_slot, with_put, resized, closed, cloned, handle_dropped}
+use Rattle.deadpool.specs.Steps.{find_slot, without_slot, with_put, resized, closed, cloned, handle_dropped, slot_number}
 use Rattle.deadpool.specs.Party.{advance, cancel}
 use Rattle.deadpool.specs.Moves.{by_handle, started, put_at, back_at, take_at, resize, give_up, retain_with, retain, upgrade, by_party, moved}
 use Rattle.deadpool.specs.Laws.{MarksQueued, queue}
@@ -22,10 +22,10 @@ use Rattle.deadpool.specs.declared.replay.moves.Move.TheVariants as move
 use Rattle.deadpool.specs.declared.replay.moves.Reply.{Reply}
 use Rattle.deadpool.specs.declared.replay.moves.Reply.TheVariants as reply
 use Rattle.deadpool.proofs.Counts.{count-push, filter-shorter}
-use Rattle.deadpool.proofs.SlotLists.{length-without_slot}
 use Rattle.deadpool.proofs.NumberCounts.{held, held-cons, held-append, held-without_slot, held-found, held-with_put, held-drop, held-parts, held-split}
 use Rattle.deadpool.proofs.Passes.{Passes, prepares, passes_self, settle_passes, objects_pass}
 use Rattle.deadpool.proofs.PassesAdvance.{Passed, advance_passes, cancel_passes}
+use Rattle.deadpool_parts.proofs.Numbered.{length-without_numbered}
 
 module _ {V : Type 0} where
   -- the objects with the number
@@ -65,7 +65,7 @@ module _ {V C R S F A : Type 0} where
       → Passes false None (numbered n p.out) p (record p { idle = p.idle ++ slot ∷ []; out = without_slot n p.out })
   kept_passes n slot p h fits =
       let longer = length-append p.idle (slot ∷ []) in
-      let fewer = length-without_slot n p.out slot h in
+      let fewer = length-without_numbered slot_number n p.out slot h in
       let same : (m : ℕ) → held m (p.idle ++ slot ∷ []) + held m (without_slot n p.out) ≡ held m p.idle + held m p.out = λ m.
       let less = held-without_slot m n slot p.out h in
       let more = held-append m p.idle (slot ∷ []) in

@@ -6,21 +6,21 @@ use Rattle.deadpool_managed.specs.HookLists.{HookLists}
 use Rattle.deadpool_managed.specs.DeskState.{DeskState, settled}
 use Rattle.deadpool_managed.specs.Stages.{Getting}
 use Rattle.deadpool.specs.Pool.{settle}
-use Rattle.deadpool.specs.Steps.{find_slot, without_slot}
+use Rattle.deadpool.specs.Steps.{find_slot, without_slot, slot_number}
 use Rattle.deadpool.specs.Image.{image, IsCounted}
 use Rattle.deadpool_managed.specs.declared.slot.Slot.{Slot}
 use Rattle.deadpool.proofs.Settles.{settles, counts_of, counted_settled}
-use Rattle.deadpool.proofs.SlotLists.{length-without_slot}
+use Rattle.deadpool_parts.proofs.Numbered.{length-without_numbered}
 
 module _ {V C R S : Type 0} (core : DeskState V) (gets : List (Option (Getting V C R S))) (out : List (Slot V)) (n : ℕ) (slot : Slot V) (k : IsCounted core gets out) (h : find_slot n out ≡ Some slot) where
   -- an object that is out has a place
   pub one_outside : (core.outside - 1) + 1 ≡ core.outside
-  one_outside = omega (arith, k.outside, length-without_slot n out slot h)
+  one_outside = omega (arith, k.outside, length-without_numbered slot_number n out slot h)
 
   -- the desk that counts one object less, whatever is idle
   pub taken_counted : (idle : List (Slot V)) → IsCounted (record core { idle = idle; outside = core.outside - 1 }) gets (without_slot n out)
   taken_counted idle =
-      let less = length-without_slot n out slot h in
+      let less = length-without_numbered slot_number n out slot h in
       record {
         tickets = record { owned = k.tickets.owned; listed = k.tickets.listed };
         going = k.going;

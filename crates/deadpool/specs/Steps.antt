@@ -1,6 +1,6 @@
 -- The steps of a managed pool that ask nobody.
 use Rattle.std.specs.Prelude.{ℕ, ◌+◌, ◌-◌, min, max, false, List, [], ◌∷◌, length, drop, Option, Some, None, if◌then◌else◌, nat_lt, ◌==◌, slice_set, unwrap_or}
-use Rattle.std.specs.List.{find}
+use Rattle.deadpool_parts.specs.Numbered.{with_numbered, find_numbered, without_numbered}
 use Rattle.deadpool_parts.specs.Numbers.{without_number, largest_usize, most_handles}
 use Rattle.deadpool_parts.specs.declared.errors.PoolError.{PoolError}
 use Rattle.deadpool_parts.specs.declared.errors.PoolError.TheVariants.{NumbersExhausted}
@@ -13,19 +13,20 @@ use Rattle.deadpool.specs.declared.replay.moves.Reply.{Reply}
 use Rattle.deadpool.specs.declared.replay.moves.Reply.TheVariants.{More, Pending, Failed}
 
 module _ {V : Type 0} where
+  abbrev pub slot_number : Slot V → ℕ
+  slot_number s = s.number
+
   -- a list by rising number, with one more object
   abbrev pub with_slot : Slot V → List (Slot V) → List (Slot V)
-  with_slot s [] = s ∷ []
-  with_slot s (t ∷ ts) = if nat_lt s.number t.number then s ∷ t ∷ ts else t ∷ with_slot s ts
+  with_slot s xs = with_numbered slot_number s xs
 
   -- the object with the number
   abbrev pub find_slot : ℕ → List (Slot V) → Option (Slot V)
-  find_slot n xs = find (λ s. s.number == n) xs
+  find_slot n xs = find_numbered slot_number n xs
 
   -- the objects without the one that has the number
   abbrev pub without_slot : ℕ → List (Slot V) → List (Slot V)
-  without_slot n [] = []
-  without_slot n (s ∷ ss) = if s.number == n then ss else s ∷ without_slot n ss
+  without_slot n xs = without_numbered slot_number n xs
 
   -- the objects, where the one with the number has another value
   abbrev pub with_put : ℕ → V → List (Slot V) → List (Slot V)

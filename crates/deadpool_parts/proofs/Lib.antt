@@ -8,6 +8,7 @@ pub mod GateListed
 pub mod GatePlaces
 pub mod GateTickets
 pub mod Lists
+pub mod Numbered
 pub mod Numbers
 pub mod Orders
 pub mod Owners

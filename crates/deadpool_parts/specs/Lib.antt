@@ -3,6 +3,7 @@ pub mod GateFields
 pub mod GateLinks
 pub mod GateNodes
 pub mod Moments
+pub mod Numbered
 pub mod Numbers
 pub mod Orders
 pub mod Owners

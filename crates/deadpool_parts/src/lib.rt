@@ -8,6 +8,7 @@ pub mod gate;
 mod moment;
 mod replies;
 mod status;
+pub mod tables;
 
 pub use moment::{Clock, Moment, Runtime};
 pub use replies::{HandleReply, StepReply};

@@ -4,7 +4,6 @@ pub mod Copies
 pub mod CoreQueues
 pub mod Follows
 pub mod GetPolls
-pub mod Items
 pub mod Lawful
 pub mod Lined
 pub mod OtherMoves

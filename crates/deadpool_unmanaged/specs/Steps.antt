@@ -1,6 +1,6 @@
 -- The steps of an unmanaged pool, before anybody is granted anything.
 use Rattle.std.specs.Prelude.{ℕ, ◌+◌, ◌-◌, min, Bool, false, not, ◌==◌, List, [], ◌∷◌, ◌++◌, length, take, Option, Some, None, if◌then◌else◌, nat_lt, slice_get, slice_set}
-use Rattle.std.specs.List.{find}
+use Rattle.deadpool_parts.specs.Numbered.{with_numbered, find_numbered, without_numbered}
 use Rattle.std.specs.declared.time.Duration.{Duration}
 use Rattle.deadpool_parts.specs.Moments.{deadline_after, is_reached, cannot_wait}
 use Rattle.deadpool_parts.specs.Numbers.{has_number, most_handles}
@@ -21,19 +21,20 @@ module _ {T : Type 0} where
   other_idle idle = take (length idle - 1) idle
 
 module _ {V : Type 0} where
+  abbrev pub item_number : Item V → ℕ
+  item_number s = s.number
+
   -- a list by rising number, with one more object
   abbrev pub with_item : Item V → List (Item V) → List (Item V)
-  with_item s [] = s ∷ []
-  with_item s (t ∷ ts) = if nat_lt s.number t.number then s ∷ t ∷ ts else t ∷ with_item s ts
+  with_item s items = with_numbered item_number s items
 
   -- the object with the number
   abbrev pub find_item : ℕ → List (Item V) → Option (Item V)
-  find_item n items = find (λ s. s.number == n) items
+  find_item n items = find_numbered item_number n items
 
   -- the objects without the one that has the number
   abbrev pub without_item : ℕ → List (Item V) → List (Item V)
-  without_item n [] = []
-  without_item n (s ∷ ss) = if s.number == n then ss else s ∷ without_item n ss
+  without_item n items = without_numbered item_number n items
 
   -- the party stands elsewhere
   abbrev pub to : ℕ → Party V → Pool V → Pool V

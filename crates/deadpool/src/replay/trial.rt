@@ -23,6 +23,7 @@ use crate::managed::{
     Metrics, OpenPool, PoolBuilder, Retainer, Slot, SyncHook, TakeReply, Timeouts, Turn,
 };
 use crate::replay::{Move, Reply};
+use deadpool_parts::tables::{append, index_of, put_in, take_out};
 use futures::task::Context;
 use std::alloc::Global;
 use std::marker::Model;
@@ -378,58 +379,6 @@ where
     }
 }
 
-// Appends an item that there is room for.
-fn append<X: Drop>(items: &mut Vec<X>, item: X)
-    requires { vec_len items.old < vec_capacity items.old }
-    ensures items { items.new.items ≡ items.old.items ++ item ∷ [] }
-    ensures len { vec_len items.new ≡ vec_len items.old + 1 }
-    ensures capacity { vec_capacity items.old ≤ vec_capacity items.new }
-{
-    match items.push(item) {
-        Ok(()) => {}
-        Err(_) => unreachable!(),
-    }
-}
-
-// Where the object with the number is.
-fn index_of<T>(out: &Vec<Slot<T>>, number: usize) -> Option<usize>
-    ensures { result ≡ position (λ slot. slot.number == number) out.now.items }
-{
-    out.iter().position(|slot| slot.number == number)
-}
-
-// Where the first object with a greater number is.
-fn index_above<T>(out: &Vec<Slot<T>>, number: usize) -> Option<usize>
-    ensures { result ≡ position (λ slot. nat_lt number slot.number) out.now.items }
-{
-    out.iter().position(|slot| slot.number > number)
-}
-
-// Takes the object with the number from those that are out.
-fn take_out<T: Drop>(out: &mut Vec<Slot<T>>, number: usize) -> Option<Slot<T>>
-    ensures slot { result ≡ find_slot number out.old.items }
-    ensures out { out.new.items ≡ without_slot number out.old.items }
-    ensures capacity { vec_capacity out.new ≡ vec_capacity out.old }
-{
-    match index_of(out, number) {
-        Some(at) => Some(out.remove(at)),
-        None => None,
-    }
-}
-
-// Puts an object among those that are out. There is room for it.
-fn put_out<T: Drop>(out: &mut Vec<Slot<T>>, slot: Slot<T>)
-    requires { vec_len out.old < vec_capacity out.old }
-    ensures out { out.new.items ≡ with_slot slot out.old.items }
-    ensures capacity { vec_capacity out.old ≤ vec_capacity out.new }
-{
-    let at = index_above(out, slot.number).unwrap_or(out.len());
-    match out.insert(at, slot) {
-        Ok(()) => {}
-        Err(_) => unreachable!(),
-    }
-}
-
 // Keeps the object that a turn gives, for which there is room, and says what the turn came to.
 fn hand_out<T: Drop, E>(out: &mut Vec<Slot<T>>, turn: Turn<T, E>) -> Reply<T, E>
     requires { length (given turn out.old.items) ≤ vec_capacity out.old }
@@ -443,7 +392,7 @@ fn hand_out<T: Drop, E>(out: &mut Vec<Slot<T>>, turn: Turn<T, E>) -> Reply<T, E>
         Turn::Done(Err(cause)) => Reply::Failed(cause),
         Turn::Done(Ok(slot)) => {
             let number = slot.number;
-            put_out(out, slot);
+            put_in(out, slot);
             Reply::Object(number)
         }
     }

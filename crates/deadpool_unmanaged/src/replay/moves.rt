@@ -1,5 +1,6 @@
 //! What a run is made of: objects, moves and their replies.
 use crate::{Moment, PoolError, Status};
+use deadpool_parts::tables::Numbered;
 use std::time::Duration;
 
 /// An object: its number in its trial, and its value. Numbers are drawn from 0 on, over all the runs of the trial: one for
@@ -9,6 +10,14 @@ use std::time::Duration;
 pub struct Item<T> {
     pub number: usize,
     pub value: T,
+}
+
+impl<T> Numbered for Item<T> {
+    ghost number_of = { λ item. item.number };
+
+    fn number(&self) -> usize {
+        self.number
+    }
 }
 
 /// One move of a run. Parties are numbered from 0 in order of their start, and objects in order of being handed in.

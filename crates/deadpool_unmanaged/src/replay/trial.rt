@@ -16,6 +16,7 @@ use crate::{
     AddEnterReply, AddState, BackReply, Core, GetEnterReply, GetState, HandleReply, Moment,
     PoolError, Runtime, TakeReply,
 };
+use deadpool_parts::tables::{append, put_in, take_out};
 use futures::task::Poll;
 use std::alloc::{AllocError, Global};
 use std::marker::Model;
@@ -199,7 +200,7 @@ impl<T: Drop> Trial<T> {
         match self.core.get_enter(false) {
             GetEnterReply::Object(item) => {
                 let number = item.number;
-                put_out(&mut self.out, item);
+                put_in(&mut self.out, item);
                 Reply::Object(number)
             }
             GetEnterReply::Closed => Reply::Failed(PoolError::Closed),
@@ -418,58 +419,6 @@ fn after_handle<T>(reply: HandleReply) -> Reply<T>
     }
 }
 
-// Appends an entry that there is room for.
-fn append<X: Drop>(entries: &mut Vec<X>, entry: X)
-    requires { vec_len entries.old < vec_capacity entries.old }
-    ensures items { entries.new.items ≡ entries.old.items ++ entry ∷ [] }
-    ensures len { vec_len entries.new ≡ vec_len entries.old + 1 }
-    ensures capacity { vec_capacity entries.old ≤ vec_capacity entries.new }
-{
-    match entries.push(entry) {
-        Ok(()) => {}
-        Err(_) => unreachable!(),
-    }
-}
-
-// Where the object with the number is.
-fn index_of<T>(out: &Vec<Item<T>>, number: usize) -> Option<usize>
-    ensures { result ≡ position (λ item. item.number == number) out.now.items }
-{
-    out.iter().position(|item| item.number == number)
-}
-
-// Where the first object with a greater number is.
-fn index_above<T>(out: &Vec<Item<T>>, number: usize) -> Option<usize>
-    ensures { result ≡ position (λ item. nat_lt number item.number) out.now.items }
-{
-    out.iter().position(|item| item.number > number)
-}
-
-// Takes the object with the number from those that are out.
-fn take_out<T: Drop>(out: &mut Vec<Item<T>>, number: usize) -> Option<Item<T>>
-    ensures item { result ≡ find_item number out.old.items }
-    ensures out { out.new.items ≡ without_item number out.old.items }
-    ensures capacity { vec_capacity out.new ≡ vec_capacity out.old }
-{
-    match index_of(out, number) {
-        Some(at) => Some(out.remove(at)),
-        None => None,
-    }
-}
-
-// Puts an object among those that are out. There is room for it.
-fn put_out<T: Drop>(out: &mut Vec<Item<T>>, item: Item<T>)
-    requires { vec_len out.old < vec_capacity out.old }
-    ensures out { out.new.items ≡ with_item item out.old.items }
-    ensures capacity { vec_capacity out.old ≤ vec_capacity out.new }
-{
-    let at = index_above(out, item.number).unwrap_or(out.len());
-    match out.insert(at, item) {
-        Ok(()) => {}
-        Err(_) => unreachable!(),
-    }
-}
-
 // Keeps the object that a turn gives, for which there is room, and says what the turn came to.
 fn hand_out<T: Drop>(out: &mut Vec<Item<T>>, turn: Turn<T>) -> Reply<T>
     requires { length (given turn out.old.items) ≤ vec_capacity out.old }
@@ -481,7 +430,7 @@ fn hand_out<T: Drop>(out: &mut Vec<Item<T>>, turn: Turn<T>) -> Reply<T>
         Turn::Pending => Reply::Pending,
         Turn::Object(item) => {
             let number = item.number;
-            put_out(out, item);
+            put_in(out, item);
             Reply::Object(number)
         }
         Turn::Added(number) => Reply::Added(number),

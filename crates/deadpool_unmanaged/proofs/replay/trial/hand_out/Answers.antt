@@ -3,8 +3,8 @@ use Rattle.deadpool_unmanaged.specs.Steps.{with_item}
 use Rattle.deadpool_unmanaged.proofs.Lawful.{length-with_item}
 use Rattle.deadpool_unmanaged.proofs.replay.trial.hand_out.Goals as goal
 
-pub put_out-requires : goal.put_out-requires
-put_out-requires g c =
+pub put_in-requires : goal.put_in-requires
+put_in-requires g c =
     let len : vec_len c.args.out.now ≡ length c.args.out.now.items = search rules in
     let room : length (with_item c.in-Object.item c.args.out.now.items) ≤ vec_capacity c.args.out.now = rw c.in-Object.is at c.requires in
     omega (arith, len, room, length-with_item c.in-Object.item c.args.out.now.items)

@@ -33,7 +33,7 @@ returns-clause-made g c =
     let same = length-map f.parties.items party_of in
     let count : c.len-party.result ≡ length (map party_of f.parties.items) = omega (arith, c.len-party.ensures, len, same) in
     let few : nat_lt (length (map party_of f.parties.items)) f.most_parties ≡ true = lt-ltb _ _ (omega (arith, count, c.if-party-self.false)) in
-    let items : c.append.new.items.items ≡ f.parties.items ++ Some (newcomer c.unwrap_or-timeouts.result) ∷ [] = rw c.new.ensures at c.append.ensures.items in
+    let items : c.append.new.entries.items ≡ f.parties.items ++ Some (newcomer c.unwrap_or-timeouts.result) ∷ [] = rw c.new.ensures at c.append.ensures.items in
     let all = starts e.runtime e.hooks f.timeouts f.first f.most_parties f.core f.parties.items f.out.items c.self.invariant.counted c.unwrap_or-timeouts.result in
     rw (← c.self.view_is, items) (rw (some, few, count, all.0, c.unwrap_or-timeouts.ensures) refl)
 
@@ -46,7 +46,7 @@ invariant_of-self g c =
     let same = length-map f.parties.items party_of in
     let count : c.len-party.result ≡ length (map party_of f.parties.items) = omega (arith, c.len-party.ensures, len, same) in
     let few : nat_lt (length (map party_of f.parties.items)) f.most_parties ≡ true = lt-ltb _ _ (omega (arith, count, c.if-party-self.false)) in
-    let items : c.append.new.items.items ≡ f.parties.items ++ Some (newcomer c.unwrap_or-timeouts.result) ∷ [] = rw c.new.ensures at c.append.ensures.items in
+    let items : c.append.new.entries.items ≡ f.parties.items ++ Some (newcomer c.unwrap_or-timeouts.result) ∷ [] = rw c.new.ensures at c.append.ensures.items in
     let all = starts e.runtime e.hooks f.timeouts f.first f.most_parties f.core f.parties.items f.out.items c.self.invariant.counted c.unwrap_or-timeouts.result in
     let pool = image e.runtime e.hooks f.timeouts f.first f.most_parties f.core f.parties.items f.out.items in
     let begun = record pool { parties = pool.parties ++ Some (record { timeouts = unwrap_or c.args.timeouts f.timeouts; standing = unpolled }) ∷ [] } in

@@ -1,17 +1,17 @@
 use Rattle.std.proofs.Common.{◌≡◌, ◌∙◌, Some, None, sym, arith}
-use Rattle.deadpool_unmanaged.specs.Steps.{find_item}
+use Rattle.deadpool_unmanaged.specs.Steps.{find_item, item_number}
 use Rattle.deadpool_unmanaged.specs.declared.replay.moves.Move.TheVariants as move
 use Rattle.deadpool_unmanaged.specs.declared.replay.moves.Reply.TheVariants as reply
-use Rattle.deadpool_unmanaged.proofs.Items.{none_out}
 use Rattle.deadpool_unmanaged.proofs.OtherMoves.{known, came_back}
 use Rattle.deadpool_unmanaged.proofs.Parties.{stays}
+use Rattle.deadpool_parts.proofs.Numbered.{none_there}
 use Rattle.deadpool_unmanaged.proofs.replay.trial.Trial.back.Goals as goal
 
 pub invariant_of-self : goal.invariant_of-self
 invariant_of-self g c =
     let f = c.self.inside in
     let none : find_item c.args.number f.out.items ≡ None = sym c.take_out.ensures.item ∙ c.in-None.is in
-    let same = c.take_out.ensures.out ∙ none_out c.args.number f.out.items none in
+    let same = c.take_out.ensures.items ∙ none_there item_number c.args.number f.out.items none in
     let i = c.self.invariant in
     rw same record { counted = i.counted; lawful = i.lawful; parties = i.parties; places = i.places; hands = rw c.take_out.ensures.capacity i.hands }
 
@@ -19,7 +19,7 @@ pub returns-in-None : goal.returns-in-None
 returns-in-None g c =
     let f = c.self.inside in
     let none : find_item c.args.number f.out.items ≡ None = sym c.take_out.ensures.item ∙ c.in-None.is in
-    let same = c.take_out.ensures.out ∙ none_out c.args.number f.out.items none in
+    let same = c.take_out.ensures.items ∙ none_there item_number c.args.number f.out.items none in
     let all = stays f.runtime f.most_parties f.next f.core f.seats.items f.out.items c.self.invariant.counted c.self.invariant.lawful (move.Back c.args.number) reply.NoSuch (rw none) in
     rw (← c.self.view_is, same) all.gives
 
@@ -34,11 +34,11 @@ invariant_of-self-in-Some g c =
     let f = c.self.inside in
     let here : find_item c.args.number f.out.items ≡ Some c.in-Some.item = sym c.take_out.ensures.item ∙ c.in-Some.is in
     let all = came_back f.runtime f.most_parties f.next f.core f.seats.items f.out.items c.self.invariant.counted c.self.invariant.lawful c.args.number c.in-Some.item here c.back-reply.new.self c.back-reply.result c.back-reply.ensures in
-    rw c.take_out.ensures.out record { counted = all.counted; lawful = all.lawful; parties = c.self.invariant.parties; places = c.self.invariant.places; hands = omega (arith, all.limit, c.self.invariant.hands, c.take_out.ensures.capacity) }
+    rw c.take_out.ensures.items record { counted = all.counted; lawful = all.lawful; parties = c.self.invariant.parties; places = c.self.invariant.places; hands = omega (arith, all.limit, c.self.invariant.hands, c.take_out.ensures.capacity) }
 
 pub returns-in-Some : goal.returns-in-Some
 returns-in-Some g c =
     let f = c.self.inside in
     let here : find_item c.args.number f.out.items ≡ Some c.in-Some.item = sym c.take_out.ensures.item ∙ c.in-Some.is in
     let all = came_back f.runtime f.most_parties f.next f.core f.seats.items f.out.items c.self.invariant.counted c.self.invariant.lawful c.args.number c.in-Some.item here c.back-reply.new.self c.back-reply.result c.back-reply.ensures in
-    rw (← c.self.view_is, c.take_out.ensures.out, c.after_back.ensures) all.gives
+    rw (← c.self.view_is, c.take_out.ensures.items, c.after_back.ensures) all.gives

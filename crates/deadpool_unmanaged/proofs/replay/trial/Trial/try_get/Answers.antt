@@ -13,8 +13,8 @@ returns-then-not-has_handle g c =
     let all = stays f.runtime f.most_parties f.next f.core f.seats.items f.out.items c.self.invariant.counted c.self.invariant.lawful (move.TryGet) reply.NoHandle (rw none) in
     rw (← c.self.view_is) all.gives
 
-pub put_out-requires : goal.put_out-requires
-put_out-requires g c =
+pub put_in-requires : goal.put_in-requires
+put_in-requires g c =
     let f = c.self.inside in
     let some = some_handle c.has_handle.result f.core.handles c.has_handle.ensures c.if-not-has_handle.false in
     let all = try_get_object f.runtime f.most_parties f.next f.core f.seats.items f.out.items c.self.invariant.counted c.self.invariant.lawful some c.get_enter.new.self c.in-Object.item c.in-Object.ensures in
@@ -27,15 +27,15 @@ invariant_of-self g c =
     let some = some_handle c.has_handle.result f.core.handles c.has_handle.ensures c.if-not-has_handle.false in
     let all = try_get_object f.runtime f.most_parties f.next f.core f.seats.items f.out.items c.self.invariant.counted c.self.invariant.lawful some c.get_enter.new.self c.in-Object.item c.in-Object.ensures in
     let i = c.self.invariant in
-    rw c.put_out.ensures.out
-    record { counted = all.counted; lawful = all.lawful; parties = i.parties; places = i.places; hands = omega (arith, all.limit, i.hands, c.put_out.ensures.capacity) }
+    rw c.put_in.ensures.items
+    record { counted = all.counted; lawful = all.lawful; parties = i.parties; places = i.places; hands = omega (arith, all.limit, i.hands, c.put_in.ensures.capacity) }
 
 pub returns-in-Object : goal.returns-in-Object
 returns-in-Object g c =
     let f = c.self.inside in
     let some = some_handle c.has_handle.result f.core.handles c.has_handle.ensures c.if-not-has_handle.false in
     let all = try_get_object f.runtime f.most_parties f.next f.core f.seats.items f.out.items c.self.invariant.counted c.self.invariant.lawful some c.get_enter.new.self c.in-Object.item c.in-Object.ensures in
-    rw (← c.self.view_is, c.put_out.ensures.out) all.gives
+    rw (← c.self.view_is, c.put_in.ensures.items) all.gives
 
 pub returns-in-Closed : goal.returns-in-Closed
 returns-in-Closed g c =
