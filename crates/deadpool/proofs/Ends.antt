@@ -17,7 +17,7 @@ use Rattle.deadpool.specs.Pool.{Pool, is_going, is_creating, prepared_by, places
 use Rattle.deadpool.specs.Moves.{NobodyWaits}
 use Rattle.deadpool.specs.Image.{party_of, has_ticket, queue_of, image, IsCounted}
 use Rattle.deadpool_managed.specs.declared.slot.Slot.{Slot}
-use Rattle.deadpool.proofs.Counts.{count-set, held-set}
+use Rattle.deadpool_parts.proofs.Counts.{count-set, held-set}
 use Rattle.deadpool.proofs.Tickets.{NoTicket}
 use Rattle.deadpool.proofs.Settles.{settles, counts_of}
 use Rattle.deadpool.proofs.Settling.{goes, creates, prepares, put_off, put_off-image, settle-none, places-image}

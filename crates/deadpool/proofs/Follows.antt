@@ -16,7 +16,7 @@ use Rattle.deadpool.specs.Steps.{to, unqueued}
 use Rattle.deadpool.specs.Moves.{NobodyWaits}
 use Rattle.deadpool.specs.Laws.{MarksQueued, IsLawful, queue, waits_at, is_queued}
 use Rattle.deadpool_managed.specs.declared.slot.Slot.{Slot}
-use Rattle.deadpool.proofs.Counts.{one_if, count-set, held-set}
+use Rattle.deadpool_parts.proofs.Counts.{one_if, count-set, held-set}
 use Rattle.deadpool.proofs.NumberLists.{has_number-other, without_number-gone}
 
 module _ {V C R S F A : Type 0} where

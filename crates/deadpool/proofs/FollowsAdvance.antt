@@ -32,7 +32,7 @@ use Rattle.deadpool_managed.specs.Metrics.{new_metrics}
 use Rattle.deadpool_managed.specs.declared.prepare.Prepared.{Prepared}
 use Rattle.deadpool_managed.specs.declared.prepare.Prepared.TheVariants as prepared
 use Rattle.deadpool.specs.declared.replay.moves.Reply.{Reply}
-use Rattle.deadpool.proofs.Counts.{one_if}
+use Rattle.deadpool_parts.proofs.Counts.{one_if}
 use Rattle.deadpool.proofs.NumberLists.{has_number-push, has_number-last, without_number-once, IsOnce-left}
 use Rattle.deadpool.proofs.Follows.{MarksOthers, IsOrderly, Follows, unqueued_gone, unqueued_orderly, unqueued_marks, not_queued, set_marks, counts, standing_at, holds, makes, left_follows, same_places_follow}
 use Rattle.deadpool_managed.proofs.IdleLists.{other_idle-shorter}

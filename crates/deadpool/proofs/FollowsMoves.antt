@@ -17,7 +17,7 @@ use Rattle.deadpool.specs.declared.replay.moves.Move.{Move}
 use Rattle.deadpool.specs.declared.replay.moves.Move.TheVariants as move
 use Rattle.deadpool.specs.declared.replay.moves.Reply.{Reply}
 use Rattle.deadpool.specs.declared.replay.moves.Reply.TheVariants as reply
-use Rattle.deadpool.proofs.Counts.{count-push, held-push, filter-shorter}
+use Rattle.deadpool_parts.proofs.Counts.{count-push, held-push, filter-shorter}
 use Rattle.deadpool.proofs.SlotLists.{length-with_put}
 use Rattle.deadpool.proofs.Follows.{IsOrderly, Follows, Follows-self, standing_at, settle_follows}
 use Rattle.deadpool.proofs.FollowsAdvance.{After, advance_follows, cancel_follows}

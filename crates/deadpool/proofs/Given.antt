@@ -13,7 +13,7 @@ use Rattle.deadpool_managed.specs.Outside.{Asking}
 use Rattle.deadpool_managed.specs.DeskState.{next_idle}
 use Rattle.deadpool_managed.specs.Prepare.{create, prepare, check, with_value}
 use Rattle.deadpool.specs.Pool.{Pool, Party, Standing, unpolled, queued, going, creating, recycling, checking, finished, prepared_at, creating_count, places, size, status_of}
-use Rattle.deadpool.specs.Steps.{find_slot, with_slot, closed, cloned, handle_dropped, serve_from, unqueued}
+use Rattle.deadpool.specs.Steps.{find_slot, with_slot, closed, cloned, handle_dropped, serve_from, unqueued, slot_number}
 use Rattle.deadpool.specs.Party.{joined, enter, inquire, hand_out, reviewed, checked, created, go_on_creating, advance_at, advance, cancel_with, cancel}
 use Rattle.deadpool.specs.Moves.{by_handle, started, put_at, back_at, take_at, resize, give_up, retain_with, retain, by_party, moved}
 use Rattle.deadpool.specs.RunLaws.{IsOutIfGiven, IsIdleIfKept}
@@ -26,8 +26,9 @@ use Rattle.deadpool.specs.declared.replay.moves.Move.{Move}
 use Rattle.deadpool.specs.declared.replay.moves.Move.TheVariants as move
 use Rattle.deadpool.specs.declared.replay.moves.Reply.{Reply}
 use Rattle.deadpool.specs.declared.replay.moves.Reply.TheVariants as reply
-use Rattle.deadpool.proofs.Counts.{one_if}
-use Rattle.deadpool.proofs.NumberCounts.{has_number-held, held-append, held-cons, held-with_slot, find_slot-number}
+use Rattle.deadpool_parts.proofs.Counts.{one_if}
+use Rattle.deadpool.proofs.NumberCounts.{has_number-held, find_slot-number}
+use Rattle.deadpool_parts.proofs.NumberedCounts.{count-cons, count-append, count-with}
 
 -- what holds of anything always holds
 Always-all : {Q : Type 0} {Answer : Q → Type 0} {A : Type 0} (P : A → Type 0) → ((a : A) → P a) → (p : Program Q Answer A) → Always P p
@@ -42,7 +43,7 @@ module _ {V E C R S F A : Type 0} (m : Move V) where
 module _ {V C R S F A : Type 0} (E : Type 0) (m : Move V) (n : ℕ) (party : Party V C R S) (p : Pool V C R S F A) where
   handed_gives : (slot : Slot V) → Given {E = E} m (hand_out n party slot p)
   handed_gives slot =
-      let one = held-with_slot slot.number slot p.out in
+      let one = count-with slot_number slot.number slot p.out in
       let same : one_if (slot.number == slot.number) ≡ 1 = ap one_if (eq-eqb slot.number slot.number refl) in
       has_number-held slot.number (with_slot slot p.out) (omega (arith, one, same))
 
@@ -181,8 +182,8 @@ module _ {V C R S F A : Type 0} (E : Type 0) where
   back_keeps n p None e = tt
   back_keeps n p (Some slot) e =
       let P : Asking V E C R S F A (Reply V E × Pool V C R S F A) → Type 0 = Always (λ (x : Reply V E × Pool V C R S F A). IsIdleIfKept (move.Back n) x.0 x.1) in
-      let more = held-append n p.idle (slot ∷ []) in
-      let one = held-cons n slot [] in
+      let more = count-append slot_number n p.idle (slot ∷ []) in
+      let one = count-cons slot_number n slot [] in
       let same : one_if (slot.number == n) ≡ 1 = ap one_if (find_slot-number n slot p.out e) in
       cond_both (p.handles == 0) _ _ P (λ none. tt) (λ some.
       cond_both (nat_le (size p) p.limit) _ _ P (λ fits. has_number-held n (p.idle ++ slot ∷ []) (omega (arith, more, one, same))) (λ above left. tt))

@@ -1,7 +1,6 @@
 pub mod Advances
 pub mod Backs
 pub mod Cancels
-pub mod Counts
 pub mod Ends
 pub mod Entries
 pub mod Falls

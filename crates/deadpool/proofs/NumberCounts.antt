@@ -1,7 +1,6 @@
 -- How often a number stands in a list, among objects, and among what parties prepare.
-use Rattle.std.proofs.Common.{◌≡◌, ℕ, ◌+◌, ◌-◌, ◌≤◌, suc, List, [], ◌∷◌, ◌++◌, Bool, true, false, not, length, map, take, drop, get_or, refl, sym, ap, ◌∙◌, subst, arith, inl, inr, Option, Some, None, length-append}
-use Rattle.std.specs.Prelude.{◌==◌, nat_lt, filter, filter_map}
-use Rattle.std.specs.List.{cons_option}
+use Rattle.std.proofs.Common.{◌≡◌, ℕ, ◌+◌, ◌-◌, ◌≤◌, suc, List, [], ◌∷◌, ◌++◌, Bool, true, false, not, length, map, take, drop, get_or, refl, sym, ap, ◌∙◌, subst, arith, inl, inr, Option, Some, length-append}
+use Rattle.std.specs.Prelude.{◌==◌, filter, filter_map}
 use Rattle.std.proofs.lemmas.Bool.{cases_Bool, cond_both, eqb-true, eq-eqb}
 use Rattle.std.proofs.lemmas.List.{take_more, take_all, take-append-drop}
 use Rattle.std.proofs.lemmas.Option.{slice_get_within, get_or_from_slice_get}
@@ -11,9 +10,11 @@ use Rattle.deadpool_parts.specs.declared.config.QueueMode.{QueueMode}
 use Rattle.deadpool_parts.specs.declared.config.QueueMode.TheVariants.{Fifo, Lifo}
 use Rattle.deadpool_parts.specs.Orders.{IsOnce}
 use Rattle.deadpool_managed.specs.DeskState.{next_idle, other_idle}
-use Rattle.deadpool.specs.Steps.{find_slot, without_slot, with_slot, with_put}
+use Rattle.deadpool.specs.Steps.{find_slot, with_put, slot_number}
 use Rattle.deadpool_managed.specs.declared.slot.Slot.{Slot}
-use Rattle.deadpool.proofs.Counts.{one_if, length-cond}
+use Rattle.deadpool_parts.proofs.Counts.{one_if, length-cond}
+use Rattle.deadpool_parts.specs.Numbered.{count_numbered}
+use Rattle.deadpool_parts.proofs.NumberedCounts.{count-cons_option, count-cons, count-append, is_at}
 
 -- how often the number stands in the list
 abbrev pub times : ℕ → List ℕ → ℕ
@@ -73,7 +74,7 @@ once-times (x ∷ xs) h =
 module _ {V : Type 0} where
   -- how many of the objects have the number
   abbrev pub held : ℕ → List (Slot V) → ℕ
-  held n xs = length (filter (λ s. s.number == n) xs)
+  held n xs = count_numbered slot_number n xs
 
   -- the same by their numbers
   pub times-map : (n : ℕ) (xs : List (Slot V)) → times n (map (λ s. s.number) xs) ≡ held n xs
@@ -88,51 +89,20 @@ module _ {V : Type 0} where
         | inr gone ↦ let none = times-none n (map (λ s. s.number) xs) gone in let same = times-map n xs in absurd (omega (arith, some, none, same))
       ]
 
-  -- by the first and the others
-  pub held-cons : (n : ℕ) (x : Slot V) (xs : List (Slot V)) → held n (x ∷ xs) ≡ one_if (x.number == n) + held n xs
-  held-cons n x xs = length-cond (x.number == n) x (filter (λ s. s.number == n) xs)
-
-  -- of two lists
-  pub held-append : (n : ℕ) (xs ys : List (Slot V)) → held n (xs ++ ys) ≡ held n xs + held n ys
-  held-append n xs ys = ap length (filter-append (λ s. s.number == n) xs ys) ∙ length-append (filter (λ s. s.number == n) xs) (filter (λ s. s.number == n) ys)
-
   -- the object that is served is one of the idle, and the others are left
   pub held-served : (n : ℕ) (mode : QueueMode) (idle : List (Slot V)) (slot : Slot V) → next_idle mode idle ≡ Some slot
       → held n (other_idle mode idle) + one_if (slot.number == n) ≡ held n idle
   held-served n Fifo [] slot h = cc
-  held-served n Fifo (x ∷ xs) slot h = let same : x ≡ slot = cc in let more = held-cons n slot xs in rw same (omega (arith, more))
+  held-served n Fifo (x ∷ xs) slot h = let same : x ≡ slot = cc in let more = count-cons slot_number n slot xs in rw same (omega (arith, more))
   held-served n Lifo idle slot h =
       let last = length idle - 1 in
       let within = slice_get_within idle last slot h in
       let all : take (last + 1) idle ≡ idle = take_all (last + 1) idle (omega (arith, within)) in
       let here : get_or idle last slot ≡ slot = get_or_from_slice_get idle last slot slot h in
       let parts : idle ≡ take last idle ++ slot ∷ [] = sym all ∙ take_more idle last slot within ∙ ap (λ x. take last idle ++ x ∷ []) here in
-      let sum : held n idle ≡ held n (take last idle) + held n (slot ∷ []) = ap (held n) parts ∙ held-append n (take last idle) (slot ∷ []) in
-      let one = held-cons n slot [] in
+      let sum : held n idle ≡ held n (take last idle) + held n (slot ∷ []) = ap (held n) parts ∙ count-append slot_number n (take last idle) (slot ∷ []) in
+      let one = count-cons slot_number n slot [] in
       omega (arith, sum, one)
-
-  -- one more is out
-  pub held-with_slot : (n : ℕ) (s : Slot V) (xs : List (Slot V)) → held n (with_slot s xs) ≡ held n xs + one_if (s.number == n)
-  held-with_slot n s [] = let one = held-cons n s [] in omega (arith, one)
-  held-with_slot n s (x ∷ xs) =
-      let old = held-cons n x xs in
-      let first = held-cons n s (x ∷ xs) in
-      let later = held-cons n x (with_slot s xs) in
-      let rest = held-with_slot n s xs in
-      cond_both (nat_lt s.number x.number) _ _ (λ ys. held n ys ≡ held n (x ∷ xs) + one_if (s.number == n)) (λ before. omega (arith, first)) (λ after. omega (arith, old, later, rest))
-
-  -- one that is found is out no more
-  pub held-without_slot : (n k : ℕ) (slot : Slot V) (xs : List (Slot V)) → find_slot k xs ≡ Some slot → held n (without_slot k xs) + one_if (slot.number == n) ≡ held n xs
-  held-without_slot n k slot [] h = cc
-  held-without_slot n k slot (x ∷ xs) h =
-      let old = held-cons n x xs in
-      elim (cases_Bool (x.number == k)) [
-        | inl here ↦ let same : x ≡ slot = let found = rw here at h in cc in let old = held-cons n slot xs in rw (here, same) (omega (arith, old))
-        | inr other ↦
-            let rest = held-without_slot n k slot xs (rw other at h) in
-            let later = held-cons n x (without_slot k xs) in
-            rw other (omega (arith, old, later, rest))
-      ]
 
   -- one that is found has the number
   pub find_slot-number : (k : ℕ) (slot : Slot V) (xs : List (Slot V)) → find_slot k xs ≡ Some slot → (slot.number == k) ≡ true
@@ -143,28 +113,19 @@ module _ {V : Type 0} where
         | inr other ↦ find_slot-number k slot xs (rw other at h)
       ]
 
-  -- one that is found is one of those with its number
-  pub held-found : (n k : ℕ) (slot : Slot V) (xs : List (Slot V)) → find_slot k xs ≡ Some slot → one_if (slot.number == n) ≤ held n (filter (λ s. s.number == k) xs)
-  held-found n k slot [] h = cc
-  held-found n k slot (x ∷ xs) h =
-      elim (cases_Bool (x.number == k)) [
-        | inl here ↦ let same : x ≡ slot = let found = rw here at h in cc in let more = held-cons n slot (filter (λ s. s.number == k) xs) in rw (here, same) (omega (arith, more))
-        | inr other ↦ rw other (held-found n k slot xs (rw other at h))
-      ]
-
   -- a value has no number
   pub held-with_put : (n k : ℕ) (v : V) (xs : List (Slot V)) → held n (with_put k v xs) ≡ held n xs
   held-with_put n k v [] = refl
   held-with_put n k v (x ∷ xs) =
-      let old = held-cons n x xs in
-      let put = held-cons n (record x { value = v }) xs in
-      let later = held-cons n x (with_put k v xs) in
+      let old = count-cons slot_number n x xs in
+      let put = count-cons slot_number n (record x { value = v }) xs in
+      let later = count-cons slot_number n x (with_put k v xs) in
       let rest = held-with_put n k v xs in
       cond_both (x.number == k) _ _ (λ ys. held n ys ≡ held n (x ∷ xs)) (λ here. omega (arith, old, put)) (λ other. omega (arith, old, later, rest))
 
   -- the first so many and the others are all
   pub held-split : (n k : ℕ) (xs : List (Slot V)) → held n (take k xs) + held n (drop k xs) ≡ held n xs
-  held-split n k xs = sym (held-append n (take k xs) (drop k xs)) ∙ ap (held n) (take-append-drop k xs)
+  held-split n k xs = sym (count-append slot_number n (take k xs) (drop k xs)) ∙ ap (held n) (take-append-drop k xs)
 
   -- no more are left than there were
   pub held-drop : (n k : ℕ) (xs : List (Slot V)) → held n (drop k xs) ≤ held n xs
@@ -174,27 +135,18 @@ module _ {V : Type 0} where
   pub held-parts : (n : ℕ) (f : Slot V → Bool) (xs : List (Slot V)) → held n xs ≡ held n (filter f xs) + held n (filter (λ x. not (f x)) xs)
   held-parts n f [] = omega arith
   held-parts n f (x ∷ xs) =
-      let old = held-cons n x xs in
-      let in_one = held-cons n x (filter f xs) in
-      let in_other = held-cons n x (filter (λ y. not (f y)) xs) in
+      let old = count-cons slot_number n x xs in
+      let in_one = count-cons slot_number n x (filter f xs) in
+      let in_other = count-cons slot_number n x (filter (λ y. not (f y)) xs) in
       let rest = held-parts n f xs in
       elim (cases_Bool (f x)) [
         | inl stays ↦ rw stays (omega (arith, old, in_one, rest))
         | inr goes ↦ rw goes (omega (arith, old, in_other, rest))
       ]
 
-  -- the object that may be there has the number
-  abbrev pub is_at : ℕ → Option (Slot V) → Bool
-  is_at n None = false
-  is_at n (Some slot) = slot.number == n
-
-  pub held-cons_option : (n : ℕ) (o : Option (Slot V)) (xs : List (Slot V)) → held n (cons_option o xs) ≡ one_if (is_at n o) + held n xs
-  held-cons_option n None xs = omega arith
-  held-cons_option n (Some slot) xs = held-cons n slot xs
-
   -- of those that each may hold
-  pub held-filter_map : {X : Type 0} (n : ℕ) (f : X → Option (Slot V)) (xs : List X) → held n (filter_map f xs) ≡ length (filter (λ x. is_at n (f x)) xs)
+  pub held-filter_map : {X : Type 0} (n : ℕ) (f : X → Option (Slot V)) (xs : List X) → held n (filter_map f xs) ≡ length (filter (λ x. is_at slot_number n (f x)) xs)
   held-filter_map n f [] = refl
   held-filter_map n f (x ∷ xs) =
-      held-cons_option n (f x) (filter_map f xs) ∙ ap (λ k. one_if (is_at n (f x)) + k) (held-filter_map n f xs)
-      ∙ sym (length-cond (is_at n (f x)) x (filter (λ y. is_at n (f y)) xs))
+      count-cons_option slot_number n (f x) (filter_map f xs) ∙ ap (λ k. one_if (is_at slot_number n (f x)) + k) (held-filter_map n f xs)
+      ∙ sym (length-cond (is_at slot_number n (f x)) x (filter (λ y. is_at slot_number n (f y)) xs))

@@ -6,7 +6,7 @@ use Rattle.deadpool_parts.specs.Numbers.{has_number}
 use Rattle.deadpool.specs.Pool.{Pool, Party, Standing, unpolled, queued, going, creating, recycling, checking, finished, goes, creates, prepared_at, is_going, is_creating}
 use Rattle.deadpool.specs.Laws.{IsLawful, queue, waits_at, is_queued}
 use Rattle.deadpool.specs.RunLaws.{places_from, is_preparing, listed, IsListedOnce}
-use Rattle.deadpool.proofs.Counts.{one_if}
+use Rattle.deadpool_parts.proofs.Counts.{one_if}
 use Rattle.deadpool.proofs.NumberCounts.{times, times-cons, times-append, times-none, times-once, once-times}
 
 module _ {X : Type 0} (f : X → Bool) where

@@ -12,8 +12,10 @@ use Rattle.deadpool.specs.Pool.{Pool, Party, prepared_by, preparing, grants, set
 use Rattle.deadpool.specs.Laws.{queue}
 use Rattle.deadpool.specs.RunLaws.{HasFewIdle, numbers}
 use Rattle.deadpool_managed.specs.declared.slot.Slot.{Slot}
-use Rattle.deadpool.proofs.Counts.{one_if, count-set}
-use Rattle.deadpool.proofs.NumberCounts.{times, held, is_at, times-map, held-append, held-filter_map}
+use Rattle.deadpool_parts.proofs.Counts.{one_if, count-set}
+use Rattle.deadpool.proofs.NumberCounts.{times, held, times-map, held-filter_map}
+use Rattle.deadpool_parts.proofs.NumberedCounts.{count-append, is_at}
+use Rattle.deadpool.specs.Steps.{slot_number}
 
 -- two tests, one after the other
 filter-both : (f g : ℕ → Bool) (xs : List ℕ) → filter f (filter g xs) ≡ filter (λ n. g n && f n) xs
@@ -45,7 +47,7 @@ order_pushed n xs ys gone = rw (← append_assoc xs ys (n ∷ [])) (order_joined
 module _ {V C R S : Type 0} where
   -- the party prepares the object with the number
   abbrev pub prepares : ℕ → Option (Party V C R S) → Bool
-  prepares n party = is_at n (prepared_by party)
+  prepares n party = is_at slot_number n (prepared_by party)
 
 module _ {V C R S F A : Type 0} where
   -- how often the number stands among the objects that are idle, under preparation or out
@@ -56,8 +58,8 @@ module _ {V C R S F A : Type 0} where
   pub times-numbers : (n : ℕ) (p : Pool V C R S F A) → times n (numbers p) ≡ count n p
   times-numbers n p =
       let all = times-map n (p.idle ++ preparing p ++ p.out) in
-      let parts = held-append n (p.idle ++ preparing p) p.out in
-      let more = held-append n p.idle (preparing p) in
+      let parts = count-append slot_number n (p.idle ++ preparing p) p.out in
+      let more = count-append slot_number n p.idle (preparing p) in
       let middle = held-filter_map n prepared_by p.parties in
       omega (arith, all, parts, more, middle)
 

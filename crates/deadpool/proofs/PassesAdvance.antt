@@ -15,7 +15,7 @@ use Rattle.deadpool_managed.specs.Outside.{Asking}
 use Rattle.deadpool_managed.specs.DeskState.{next_idle, other_idle}
 use Rattle.deadpool_managed.specs.Prepare.{create, prepare, check, with_value, object_of}
 use Rattle.deadpool.specs.Pool.{Pool, Party, Standing, unpolled, queued, going, creating, recycling, checking, finished, prepared_at, creating_count, places}
-use Rattle.deadpool.specs.Steps.{to, ended, removed, serve_from, with_slot}
+use Rattle.deadpool.specs.Steps.{to, ended, removed, serve_from, with_slot, slot_number}
 use Rattle.deadpool.specs.Party.{joined, enter, inquire, hand_out, reviewed, checked, created, go_on_creating, advance_at, advance, cancel_with, cancel}
 use Rattle.deadpool.specs.Laws.{MarksQueued, queue, waits_at}
 use Rattle.deadpool.specs.RunLaws.{prepared_in}
@@ -28,12 +28,13 @@ use Rattle.deadpool_managed.specs.Metrics.{new_metrics}
 use Rattle.deadpool_managed.specs.declared.prepare.Prepared.{Prepared}
 use Rattle.deadpool_managed.specs.declared.prepare.Prepared.TheVariants as prepared
 use Rattle.deadpool.specs.declared.replay.moves.Reply.{Reply}
-use Rattle.deadpool.proofs.Counts.{one_if}
+use Rattle.deadpool_parts.proofs.Counts.{one_if}
 use Rattle.deadpool.proofs.Follows.{not_queued}
-use Rattle.deadpool.proofs.NumberCounts.{held, is_at, held-cons_option, held-served, held-with_slot}
+use Rattle.deadpool.proofs.NumberCounts.{held, held-served}
 use Rattle.deadpool.proofs.PreparedNumbers.{Always-then, IsNumber, prepare_number}
 use Rattle.deadpool.proofs.Passes.{Passes, prepares, order_left, order_pushed, passes_self, settle_passes, party_passes}
 use Rattle.deadpool_managed.proofs.IdleLists.{other_idle-shorter}
+use Rattle.deadpool_parts.proofs.NumberedCounts.{count-cons_option, count-with, is_at}
 
 module _ {V E C R S F A : Type 0} where
   -- a step from p, with its answer
@@ -47,7 +48,7 @@ module _ {V C R S : Type 0} where
 
   -- by its number
   held-its_object : (n : ℕ) (party : Party V C R S) → held n (its_object party) ≡ one_if (prepares n (Some party))
-  held-its_object n party = let one = held-cons_option n (prepared_at party.standing) [] in omega (arith, one)
+  held-its_object n party = let one = count-cons_option slot_number n (prepared_at party.standing) [] in omega (arith, one)
 
 module _ {V C R S F A : Type 0} (E : Type 0) (n : ℕ) (party : Party V C R S) (p : Pool V C R S F A) (h : slice_get p.parties n ≡ Some (Some party)) where
   -- it stands elsewhere, with no object, and the queue is so
@@ -56,7 +57,7 @@ module _ {V C R S F A : Type 0} (E : Type 0) (n : ℕ) (party : Party V C R S) (
   stands_passes standing granted waiting none order =
       let new : Option (Party V C R S) = Some record { timeouts = party.timeouts; standing = standing } in
       party_passes n (Some party) new false p.next p.idle p.out granted waiting (its_object party) p h (omega arith) (omega arith) order
-      (λ m. let empty : one_if (prepares m new) ≡ 0 = ap (λ o. one_if (is_at m o)) none in omega (arith, empty))
+      (λ m. let empty : one_if (prepares m new) ≡ 0 = ap (λ o. one_if (is_at slot_number m o)) none in omega (arith, empty))
       (λ m. let its = held-its_object m party in omega (arith, its))
 
   -- it ends, from a queue that is so
@@ -114,26 +115,26 @@ module _ {V C R S F A : Type 0} (E : Type 0) (n : ℕ) (party : Party V C R S) (
 
   -- It prepared an object, and stands elsewhere. That object goes on, or is out, or is gone.
   object_passes : (slot : Slot V) (standing : Standing V C R S) (out : List (Slot V)) → prepared_at party.standing ≡ Some slot
-      → ((m : ℕ) → one_if (is_at m (prepared_at standing)) + held m out ≤ one_if (slot.number == m) + held m p.out) → ((m : ℕ) → held m p.out ≤ held m out) → Passes false (Some n) (its_object party) p (to n party standing (record p { out = out }))
+      → ((m : ℕ) → one_if (is_at slot_number m (prepared_at standing)) + held m out ≤ one_if (slot.number == m) + held m p.out) → ((m : ℕ) → held m p.out ≤ held m out) → Passes false (Some n) (its_object party) p (to n party standing (record p { out = out }))
   object_passes slot standing out e few more =
       let new : Option (Party V C R S) = Some record { timeouts = party.timeouts; standing = standing } in
       party_passes n (Some party) new false p.next p.idle out p.granted p.waiting (its_object party) p h (omega arith) (omega arith) (order_same (queue p))
-      (λ m. let same : one_if (prepares m (Some party)) ≡ one_if (slot.number == m) = ap (λ o. one_if (is_at m o)) e in let all = few m in omega (arith, same, all))
+      (λ m. let same : one_if (prepares m (Some party)) ≡ one_if (slot.number == m) = ap (λ o. one_if (is_at slot_number m o)) e in let all = few m in omega (arith, same, all))
       (λ m. let its = held-its_object m party in let all = more m in omega (arith, its, all))
 
   -- the object is handed out
   handed_passes : (old slot : Slot V) → prepared_at party.standing ≡ Some old → slot.number ≡ old.number → Passed {E = E} (Some n) (its_object party) p (hand_out n party slot p)
   handed_passes old slot e same =
       object_passes old finished (with_slot slot p.out) e
-      (λ m. let one = held-with_slot m slot p.out in let equal : one_if (slot.number == m) ≡ one_if (old.number == m) = ap (λ k. one_if (k == m)) same in omega (arith, one, equal))
-      (λ m. let one = held-with_slot m slot p.out in omega (arith, one))
+      (λ m. let one = count-with slot_number m slot p.out in let equal : one_if (slot.number == m) ≡ one_if (old.number == m) = ap (λ k. one_if (k == m)) same in omega (arith, one, equal))
+      (λ m. let one = count-with slot_number m slot p.out in omega (arith, one))
 
   -- another state of the same object's preparation
   goes_on_passes : (old slot : Slot V) (standing : Standing V C R S) → prepared_at party.standing ≡ Some old → prepared_at standing ≡ Some slot → slot.number ≡ old.number
       → Passes false (Some n) (its_object party) p (to n party standing p)
   goes_on_passes old slot standing e f same =
       object_passes old standing p.out e
-      (λ m. let equal : one_if (is_at m (prepared_at standing)) ≡ one_if (old.number == m) = ap (λ o. one_if (is_at m o)) f ∙ ap (λ k. one_if (k == m)) same in omega (arith, equal))
+      (λ m. let equal : one_if (is_at slot_number m (prepared_at standing)) ≡ one_if (old.number == m) = ap (λ o. one_if (is_at slot_number m o)) f ∙ ap (λ k. one_if (k == m)) same in omega (arith, equal))
       (λ m. omega arith)
 
   -- by what came of a preparation

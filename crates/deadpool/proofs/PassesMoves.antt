@@ -21,11 +21,12 @@ use Rattle.deadpool.specs.declared.replay.moves.Move.{Move}
 use Rattle.deadpool.specs.declared.replay.moves.Move.TheVariants as move
 use Rattle.deadpool.specs.declared.replay.moves.Reply.{Reply}
 use Rattle.deadpool.specs.declared.replay.moves.Reply.TheVariants as reply
-use Rattle.deadpool.proofs.Counts.{count-push, filter-shorter}
-use Rattle.deadpool.proofs.NumberCounts.{held, held-cons, held-append, held-without_slot, held-found, held-with_put, held-drop, held-parts, held-split}
+use Rattle.deadpool_parts.proofs.Counts.{count-push, filter-shorter}
+use Rattle.deadpool.proofs.NumberCounts.{held, held-with_put, held-drop, held-parts, held-split}
 use Rattle.deadpool.proofs.Passes.{Passes, prepares, passes_self, settle_passes, objects_pass}
 use Rattle.deadpool.proofs.PassesAdvance.{Passed, advance_passes, cancel_passes}
 use Rattle.deadpool_parts.proofs.Numbered.{length-without_numbered}
+use Rattle.deadpool_parts.proofs.NumberedCounts.{count-cons, count-append, count-without, count-found}
 
 module _ {V : Type 0} where
   -- the objects with the number
@@ -57,8 +58,8 @@ module _ {V C R S F A : Type 0} where
       → Passes false None (numbered n p.out) p (record p { out = without_slot n p.out })
   without_slot_passes n slot p h =
       objects_pass p.handles p.idle (without_slot n p.out) (numbered n p.out) p (λ few. few)
-      (λ m. let less = held-without_slot m n slot p.out h in omega (arith, less))
-      (λ m. let less = held-without_slot m n slot p.out h in let found = held-found m n slot p.out h in omega (arith, less, found))
+      (λ m. let less = count-without slot_number m n slot p.out h in omega (arith, less))
+      (λ m. let less = count-without slot_number m n slot p.out h in let found = count-found slot_number m n slot p.out h in omega (arith, less, found))
 
   -- It is idle again, where there are no more objects than the limit.
   kept_passes : (n : ℕ) (slot : Slot V) (p : Pool V C R S F A) → find_slot n p.out ≡ Some slot → size p ≤ p.limit
@@ -67,9 +68,9 @@ module _ {V C R S F A : Type 0} where
       let longer = length-append p.idle (slot ∷ []) in
       let fewer = length-without_numbered slot_number n p.out slot h in
       let same : (m : ℕ) → held m (p.idle ++ slot ∷ []) + held m (without_slot n p.out) ≡ held m p.idle + held m p.out = λ m.
-      let less = held-without_slot m n slot p.out h in
-      let more = held-append m p.idle (slot ∷ []) in
-      let one = held-cons m slot [] in
+      let less = count-without slot_number m n slot p.out h in
+      let more = count-append slot_number m p.idle (slot ∷ []) in
+      let one = count-cons slot_number m slot [] in
       omega (arith, less, more, one) in
       objects_pass p.handles (p.idle ++ slot ∷ []) (without_slot n p.out) (numbered n p.out) p (λ few. omega (arith, longer, fewer, fits))
       (λ m. let all = same m in omega (arith, all)) (λ m. let all = same m in omega (arith, all))

@@ -18,7 +18,7 @@ use Rattle.deadpool.specs.Steps.{unqueued as pool_unqueued}
 use Rattle.deadpool.specs.Moves.{NobodyWaits}
 use Rattle.deadpool.specs.Image.{party_of, has_ticket, queue_of, is_under_way, image, IsCounted}
 use Rattle.deadpool_managed.specs.declared.slot.Slot.{Slot}
-use Rattle.deadpool.proofs.Counts.{one_if, count-set, held-set}
+use Rattle.deadpool_parts.proofs.Counts.{one_if, count-set, held-set}
 use Rattle.deadpool.proofs.Tickets.{Owns, NoTicket, OneTicket, queueing}
 
 module _ {V C R S F A : Type 0} where

@@ -1,4 +1,4 @@
--- Objects in a list, by number and by place.
+-- Values put into a list of objects, by number and by place.
 use Rattle.std.proofs.Common.{◌≡◌, ℕ, suc, List, [], ◌∷◌, ◌==◌, length, set, refl, ap, inl, inr, Some, get_or}
 use Rattle.std.specs.List.{position, position_or_len}
 use Rattle.std.proofs.Math.Numerals.{one-add}

@@ -11,7 +11,7 @@ use Rattle.deadpool.specs.Pool.{Party, unpolled, is_going, is_creating, prepared
 use Rattle.deadpool.specs.Image.{party_of, has_ticket, queue_of, is_under_way, image, IsCounted}
 use Rattle.deadpool_managed.specs.declared.slot.Slot.{Slot}
 use Rattle.deadpool_managed.specs.declared.get.Stage.TheVariants as stage
-use Rattle.deadpool.proofs.Counts.{count-push, held-push}
+use Rattle.deadpool_parts.proofs.Counts.{count-push, held-push}
 
 module _ {V C R S : Type 0} where
   -- a get that is not yet polled

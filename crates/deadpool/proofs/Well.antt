@@ -18,7 +18,7 @@ use Rattle.deadpool.specs.RunLaws.{numbers, IsNumbered, IsWell, CountsOn, Succee
 use Rattle.deadpool_managed.specs.declared.slot.Slot.{Slot}
 use Rattle.deadpool.specs.declared.replay.moves.Move.{Move}
 use Rattle.deadpool.specs.declared.replay.moves.Reply.{Reply}
-use Rattle.deadpool.proofs.Counts.{one_if}
+use Rattle.deadpool_parts.proofs.Counts.{one_if}
 use Rattle.deadpool.proofs.NumberCounts.{times, times-none, times-some, times-once, once-times, held, has_number-held}
 use Rattle.deadpool.proofs.Lawful.{Always-more, Always-both, LawfulAfter, opened_lawful, moved_lawful}
 use Rattle.deadpool.proofs.Passes.{Passes, count, times-numbers}

@@ -13,6 +13,7 @@ use Rattle.deadpool_parts.specs.Gate.{Waiter, Line, arrived, find_waiter, withou
 use Rattle.deadpool_parts.specs.GateLinks.{waiter_at, node_between, first_ticket, last_ticket, first_failing, moved_on, ChangesAt}
 use Rattle.deadpool_parts.specs.GateNodes.{changed}
 use Rattle.deadpool_parts.specs.GateFields.{Shows, waiters_of, line_of, IsHeld}
+use Rattle.deadpool_parts.proofs.Counts.{one_if}
 use Rattle.deadpool_parts.proofs.GateListed.{FoundBetween, found_between, find_none-head, find_none-tail, find-behind, change_first-between, change_first_none, remove_first-between, find_none-stronger, none_pass-behind}
 use Rattle.deadpool_parts.proofs.GateApart.{other_ticket, unlisted-tail, IsApart-back, unlisted-before, find_waiter-between}
 use Rattle.deadpool_parts.proofs.GateLine.{IsLine-without_waiter, IsLine-grant_next, IsLine-tell_next, IsLine-arrived, has_place, none_due-open}
@@ -31,10 +32,6 @@ IsHeld-shows g ws shows = rw (Shows-is g ws shows) shows
 -- the line that a caller sees
 pub Shows-seen : (g : Inside) (line : Line) → line_of g ≡ line → IsHeld g → Shows g line.waiters
 Shows-seen g line seen held = subst (λ (ws : List Waiter). Shows g ws) (ap (λ (l : Line). l.waiters) seen) held
-
--- what a test counts of one waiter
-abbrev pub one_if : Bool → ℕ
-one_if b = cond b 1 0
 
 count_by-between : (p : Waiter → Bool) (xs : List Waiter) (w : Waiter) (ys : List Waiter) → count_by p (xs ++ w ∷ ys) ≡ count_by p (xs ++ ys) + one_if (p w)
 count_by-between p xs w ys =

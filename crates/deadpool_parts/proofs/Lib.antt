@@ -1,3 +1,4 @@
+pub mod Counts
 pub mod GateAnswers
 pub mod GateApart
 pub mod GateAsked
@@ -9,6 +10,7 @@ pub mod GatePlaces
 pub mod GateTickets
 pub mod Lists
 pub mod Numbered
+pub mod NumberedCounts
 pub mod Numbers
 pub mod Orders
 pub mod Owners

@@ -1,6 +1,6 @@
 -- Lists of what has a number, by rising number.
-use Rattle.std.specs.Prelude.{ℕ, ◌==◌, List, [], ◌∷◌, Option, if◌then◌else◌, nat_lt}
-use Rattle.std.specs.List.{find}
+use Rattle.std.specs.Prelude.{ℕ, ◌==◌, List, [], ◌∷◌, length, Option, if◌then◌else◌, nat_lt}
+use Rattle.std.specs.List.{filter, find}
 
 module _ {A : Type 0} (number : A → ℕ) where
   -- the list with one more
@@ -16,3 +16,7 @@ module _ {A : Type 0} (number : A → ℕ) where
   abbrev pub without_numbered : ℕ → List A → List A
   without_numbered n [] = []
   without_numbered n (x ∷ xs) = if number x == n then xs else x ∷ without_numbered n xs
+
+  -- how many have the number
+  abbrev pub count_numbered : ℕ → List A → ℕ
+  count_numbered n xs = length (filter (λ x. number x == n) xs)

@@ -10,11 +10,12 @@ use Rattle.deadpool_parts.proofs.Numbers.{without_number-shorter, without_number
 use Rattle.deadpool_parts.proofs.Lists.{get-set_same, get-set_other}
 use Rattle.deadpool_unmanaged.specs.Pool.{Pool, Party, new_get, queued_get, new_add, queued_add, finished, free_objects, free_room}
 use Rattle.deadpool_unmanaged.specs.RunLaws.{IsWell, CountsOn, KeepsPromises, IsEmptyIfClosed, brings, brought_by, asks_for_object, asks_for_room, copies, so_many, brought_in}
-use Rattle.deadpool_unmanaged.specs.Steps.{last_idle, other_idle, left, handed, hand_out, store, ended, enter_get, inquire_get, enter_add, inquire_add, poll, cancelled}
+use Rattle.deadpool_unmanaged.specs.Steps.{last_idle, other_idle, left, handed, hand_out, store, ended, enter_get, inquire_get, enter_add, inquire_add, poll, cancelled, item_number}
 use Rattle.deadpool_unmanaged.specs.declared.replay.moves.Item.{Item}
 use Rattle.deadpool_unmanaged.specs.declared.replay.moves.Reply.{Reply}
-use Rattle.deadpool_unmanaged.proofs.Copies.{so_many-push, so_many-with, so_many-last, so_many-cons_option, so_many-set}
+use Rattle.deadpool_unmanaged.proofs.Copies.{so_many-last}
 use Rattle.deadpool_unmanaged.proofs.Lined.{QueueMoves, set_others, set_quiet}
+use Rattle.deadpool_parts.proofs.NumberedCounts.{count-cons_option, count-push, count-with, count-set_held}
 
 module _ {V : Type 0} where
   -- but for the party that is named, each is as it was
@@ -74,13 +75,13 @@ module _ {V : Type 0} where
         let shorter = without_number-shorter n p.gets.granted in
         record {
           counts = none_drawn p (gone x) refl (λ m.
-              let less = so_many-set m brings p.parties n (Some party) x here in
+              let less = count-set_held item_number m brings p.parties n (Some party) x here in
               let fewer = rw nothing at less in
               omega (arith, fewer));
           stays = λ m.
-              let less = so_many-set m brings p.parties n (Some party) x here in
+              let less = count-set_held item_number m brings p.parties n (Some party) x here in
               let fewer = rw nothing at less in
-              let all = so_many-cons_option m (brought_by party) [] in
+              let all = count-cons_option item_number m (brought_by party) [] in
               omega (arith, fewer, all);
           parties = set_stands p.parties n x;
           promises = λ is some. omega (arith, shorter, well.promises is some);
@@ -102,14 +103,14 @@ module _ {V : Type 0} where
         let more = length-append p.idle (item ∷ []) in
         record {
           counts = none_drawn p (store item (ended n p)).1 refl (λ m.
-              let less = so_many-set m brings p.parties n (Some party) (Some finished) here in
+              let less = count-set_held item_number m brings p.parties n (Some party) (Some finished) here in
               let fewer = rw brought at less in
-              let longer = so_many-push m p.idle item in
+              let longer = count-push item_number m p.idle item in
               omega (arith, fewer, longer));
           stays = λ m.
-              let less = so_many-set m brings p.parties n (Some party) (Some finished) here in
+              let less = count-set_held item_number m brings p.parties n (Some party) (Some finished) here in
               let fewer = rw brought at less in
-              let longer = so_many-push m p.idle item in
+              let longer = count-push item_number m p.idle item in
               omega (arith, fewer, longer);
           parties = all.parties;
           promises = λ is some. omega (arith, all.promises is some, more);
@@ -130,7 +131,7 @@ module _ {V : Type 0} where
           let k = pass.counts in
           let same : (n : ℕ) → copies n (handed (Some item) q).1 ≡ copies n q = λ n.
           let less = so_many-last n q.idle item is in
-          let more = so_many-with n item q.out in
+          let more = count-with item_number n item q.out in
           omega (arith, less, more) in
           record {
             counts = record {
@@ -164,8 +165,8 @@ module _ {V : Type 0} where
         (λ _.
         let after : Option (Party V) = Some (queued_get (deadline_after now wait)) in
         record {
-          counts = none_drawn p _ refl (λ m. let same = so_many-set m brings p.parties n (Some (new_get wait)) after here in omega (arith, same));
-          stays = λ m. let same = so_many-set m brings p.parties n (Some (new_get wait)) after here in omega (arith, same);
+          counts = none_drawn p _ refl (λ m. let same = count-set_held item_number m brings p.parties n (Some (new_get wait)) after here in omega (arith, same));
+          stays = λ m. let same = count-set_held item_number m brings p.parties n (Some (new_get wait)) after here in omega (arith, same);
           parties = set_stands p.parties n after;
           promises = well.promises;
           closed = well.closed;
@@ -193,8 +194,8 @@ module _ {V : Type 0} where
         (λ _.
         let after : Option (Party V) = Some (queued_add item) in
         record {
-          counts = none_drawn p _ refl (λ m. let same = so_many-set m brings p.parties n (Some (new_add item)) after here in omega (arith, same));
-          stays = λ m. let same = so_many-set m brings p.parties n (Some (new_add item)) after here in omega (arith, same);
+          counts = none_drawn p _ refl (λ m. let same = count-set_held item_number m brings p.parties n (Some (new_add item)) after here in omega (arith, same));
+          stays = λ m. let same = count-set_held item_number m brings p.parties n (Some (new_add item)) after here in omega (arith, same);
           parties = set_stands p.parties n after;
           promises = well.promises;
           closed = well.closed;

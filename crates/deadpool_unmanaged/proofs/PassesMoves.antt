@@ -8,16 +8,17 @@ use Rattle.deadpool_parts.specs.Numbers.{largest_usize, most_handles}
 use Rattle.deadpool_parts.proofs.Lists.{get-append}
 use Rattle.deadpool_unmanaged.specs.Pool.{Pool, Party, new_get, new_add, free_objects, free_room, status_of}
 use Rattle.deadpool_unmanaged.specs.RunLaws.{IsWell, CountsOn, brings, asks_for_object, asks_for_room, copies, brought_in, named, may_leave}
-use Rattle.deadpool_unmanaged.specs.Steps.{find_item, without_item, store, poll, cancelled, try_get, try_store, back, take_out, closed, cloned, handle_dropped}
+use Rattle.deadpool_unmanaged.specs.Steps.{find_item, without_item, store, poll, cancelled, try_get, try_store, back, take_out, closed, cloned, handle_dropped, item_number}
 use Rattle.deadpool_unmanaged.specs.declared.replay.moves.Item.{Item}
 use Rattle.deadpool_unmanaged.specs.declared.replay.moves.Reply.{Reply}
 use Rattle.deadpool_unmanaged.specs.declared.replay.moves.Reply.TheVariants as reply
 use Rattle.deadpool_unmanaged.specs.Moves.{unsettled, by_seat, by_number, by_party, started}
 use Rattle.deadpool_unmanaged.specs.declared.replay.moves.Move.{Move}
 use Rattle.deadpool_unmanaged.specs.declared.replay.moves.Move.TheVariants as move
-use Rattle.deadpool_unmanaged.proofs.Copies.{one, so_many-push, so_many-without, so_many-found, so_many-added}
+use Rattle.deadpool_unmanaged.proofs.Copies.{one}
 use Rattle.deadpool_unmanaged.proofs.Lined.{push_quiet}
 use Rattle.deadpool_unmanaged.proofs.Passes.{Passes, none_drawn, same_passes, cancelled_passes, hand_out_passes, poll_passes}
+use Rattle.deadpool_parts.proofs.NumberedCounts.{count-push, count-without, count-found, count-push_held}
 
 -- one is left, where it is not none
 some_left : (n : ℕ) → eqb n 0 ≡ false → 0 < n
@@ -75,8 +76,8 @@ module _ {V : Type 0} where
 
     get_started_passes : (wait : Option Duration) → Passes None [] p (started (new_get wait) p).1
     get_started_passes wait = record {
-      counts = none_drawn p (started (new_get wait) p).1 refl (λ n. let more = so_many-added n brings p.parties (Some (new_get wait)) in omega (arith, more));
-      stays = λ n. let more = so_many-added n brings p.parties (Some (new_get wait)) in omega (arith, more);
+      counts = none_drawn p (started (new_get wait) p).1 refl (λ n. let more = count-push_held item_number n brings p.parties (Some (new_get wait)) in omega (arith, more));
+      stays = λ n. let more = count-push_held item_number n brings p.parties (Some (new_get wait)) in omega (arith, more);
       parties = λ m x other there. get-append p.parties (Some (new_get wait) ∷ []) m x there;
       promises = well.promises;
       closed = well.closed;
@@ -93,8 +94,8 @@ module _ {V : Type 0} where
 
     add_started_passes : (v : V) → Passes None [] p (started (new_add (drawn v)) numbered).1
     add_started_passes v = record {
-      counts = one_drawn p (started (new_add (drawn v)) numbered).1 (drawn v) refl refl (λ n. let more = so_many-added n brings p.parties (Some (new_add (drawn v))) in omega (arith, more));
-      stays = λ n. let more = so_many-added n brings p.parties (Some (new_add (drawn v))) in omega (arith, more);
+      counts = one_drawn p (started (new_add (drawn v)) numbered).1 (drawn v) refl refl (λ n. let more = count-push_held item_number n brings p.parties (Some (new_add (drawn v))) in omega (arith, more));
+      stays = λ n. let more = count-push_held item_number n brings p.parties (Some (new_add (drawn v))) in omega (arith, more);
       parties = λ m x other there. get-append p.parties (Some (new_add (drawn v)) ∷ []) m x there;
       promises = well.promises;
       closed = well.closed;
@@ -121,8 +122,8 @@ module _ {V : Type 0} where
         cond_both (not p.is_open) _ _ (P []) (λ _. drops)
         (λ open_. cond_both (nat_lt 0 (free_room numbered)) _ _ (P [])
         (λ _. record {
-          counts = one_drawn p (store (drawn v) numbered).1 (drawn v) refl refl (λ n. let more = so_many-push n p.idle (drawn v) in omega (arith, more));
-          stays = λ n. let more = so_many-push n p.idle (drawn v) in omega (arith, more);
+          counts = one_drawn p (store (drawn v) numbered).1 (drawn v) refl refl (λ n. let more = count-push item_number n p.idle (drawn v) in omega (arith, more));
+          stays = λ n. let more = count-push item_number n p.idle (drawn v) in omega (arith, more);
           parties = drops.parties;
           promises = λ is some. omega (arith, well.promises is some, longer);
           closed = λ shut. absurd (let differ : true ≡ false = rw shut at open_ in cc);
@@ -149,8 +150,8 @@ module _ {V : Type 0} where
         let same = same_passes None (numbered_so n) p well in
         let out = record p { out = without_item n p.out } in
         let gone : Passes None (numbered_so n) p out = record {
-          counts = none_drawn p out refl (λ m. let less = so_many-without m n p.out item is in omega (arith, less));
-          stays = λ m. let less = so_many-without m n p.out item is in let found = so_many-found m n p.out item is in omega (arith, less, found);
+          counts = none_drawn p out refl (λ m. let less = count-without item_number m n item p.out is in omega (arith, less));
+          stays = λ m. let less = count-without item_number m n item p.out is in let found = count-found item_number m n item p.out is in omega (arith, less, found);
           parties = same.parties;
           promises = well.promises;
           closed = well.closed;
@@ -162,12 +163,12 @@ module _ {V : Type 0} where
         (λ open_. cond_both (p.handles == 0) _ _ (P (numbered_so n)) (λ _. gone)
         (λ _. record {
           counts = none_drawn p (record out { idle = p.idle ++ item ∷ [] }) refl (λ m.
-              let less = so_many-without m n p.out item is in
-              let more = so_many-push m p.idle item in
+              let less = count-without item_number m n item p.out is in
+              let more = count-push item_number m p.idle item in
               omega (arith, less, more));
           stays = λ m.
-              let less = so_many-without m n p.out item is in
-              let more = so_many-push m p.idle item in
+              let less = count-without item_number m n item p.out is in
+              let more = count-push item_number m p.idle item in
               omega (arith, less, more);
           parties = same.parties;
           promises = λ is_open some. omega (arith, well.promises is_open some, longer);
@@ -181,8 +182,8 @@ module _ {V : Type 0} where
     take_passes (Some item) n is =
         let same = same_passes None (numbered_so n) p well in
         record {
-          counts = none_drawn p (record p { out = without_item n p.out }) refl (λ m. let less = so_many-without m n p.out item is in omega (arith, less));
-          stays = λ m. let less = so_many-without m n p.out item is in let found = so_many-found m n p.out item is in omega (arith, less, found);
+          counts = none_drawn p (record p { out = without_item n p.out }) refl (λ m. let less = count-without item_number m n item p.out is in omega (arith, less));
+          stays = λ m. let less = count-without item_number m n item p.out is in let found = count-found item_number m n item p.out is in omega (arith, less, found);
           parties = same.parties;
           promises = well.promises;
           closed = well.closed;

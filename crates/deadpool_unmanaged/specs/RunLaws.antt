@@ -14,6 +14,8 @@ use Rattle.deadpool_unmanaged.specs.declared.replay.moves.Item.{Item}
 use Rattle.deadpool_unmanaged.specs.declared.replay.moves.Move.{Move}
 use Rattle.deadpool_unmanaged.specs.declared.replay.moves.Move.TheVariants as move
 use Rattle.deadpool_unmanaged.specs.declared.replay.moves.Reply.{Reply}
+use Rattle.deadpool_parts.specs.Numbered.{count_numbered}
+use Rattle.deadpool_unmanaged.specs.Steps.{item_number}
 
 module _ {V : Type 0} where
   -- the object that a party is to add
@@ -45,7 +47,7 @@ module _ {V : Type 0} where
 
   -- how many of the objects have the number
   abbrev pub so_many : ℕ → List (Item V) → ℕ
-  so_many n items = length (filter (λ item. item.number == n) items)
+  so_many n items = count_numbered item_number n items
 
   -- of those that are idle, are still to be added, or are out
   abbrev pub copies : ℕ → Pool V → ℕ

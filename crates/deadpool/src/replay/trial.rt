@@ -1,6 +1,5 @@
 //! A managed pool on one thread, with its parties and the objects that are out.
-ghost use Rattle.std.specs.Prelude.{◌≡◌, ◌≢◌, ◌==◌, nat_lt, ◌<◌, ◌≤◌, ◌+◌, List, length, Option, MatchResult, IfOk, vec_len, vec_capacity, ◌↔◌, true, ◌++◌, ◌∷◌, []};
-ghost use Rattle.std.specs.List.{position};
+ghost use Rattle.std.specs.Prelude.{◌≡◌, ◌≢◌, ◌==◌, ◌<◌, ◌≤◌, ◌+◌, List, length, Option, MatchResult, IfOk, vec_len, vec_capacity, ◌↔◌, true, []};
 ghost use Rattle.std.specs.Option.{option_map};
 ghost use Rattle.futures.specs.Task.{Keeps};
 ghost use Rattle.deadpool_parts.specs.Program.{Gives};
@@ -9,7 +8,7 @@ ghost use Rattle.deadpool_parts.specs.declared.errors.BuildError.{BuildError};
 ghost use Rattle.deadpool_managed.specs.Building.{lacks_any_runtime};
 ghost use Rattle.deadpool_managed.specs.Outside.{may};
 ghost use Rattle.deadpool.specs.Pool.{Pool, opened};
-ghost use Rattle.deadpool.specs.Steps.{find_slot, without_slot, with_slot};
+ghost use Rattle.deadpool.specs.Steps.{find_slot};
 ghost use Rattle.deadpool.specs.Moves.{moved, Polls, Makes, PoolRuns, NobodyWaits, WithinReach};
 ghost use Rattle.deadpool.specs.Rank.{rank_at};
 ghost use Rattle.deadpool.specs.TrialFields.{AdvancesGet, given, reply_to, IsTaken, reply_to_back, reply_to_take, reply_to_handle};

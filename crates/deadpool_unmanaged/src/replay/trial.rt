@@ -1,12 +1,11 @@
 //! An unmanaged pool on one thread, with its parties and the objects that are out.
-ghost use Rattle.std.specs.Prelude.{◌≡◌, ◌≢◌, ◌==◌, ◌<◌, ◌≤◌, ◌+◌, ◌++◌, ◌∷◌, [], nat_lt, List, length, MatchResult, IfOk, Option, vec_len, vec_capacity};
-ghost use Rattle.std.specs.List.{position};
+ghost use Rattle.std.specs.Prelude.{◌≡◌, ◌≢◌, ◌==◌, ◌<◌, ◌≤◌, ◌+◌, [], List, length, MatchResult, IfOk, Option, vec_len, vec_capacity};
 ghost use Rattle.std.specs.Option.{option_map};
 ghost use Rattle.deadpool_parts.specs.Numbers.{largest_usize};
 ghost use Rattle.deadpool_parts.specs.Runs.{all_states, Each};
 ghost use Rattle.deadpool_unmanaged.specs.Moves.{Gives, PoolRuns, NobodyWaits, IsWithinLimit};
 ghost use Rattle.deadpool_unmanaged.specs.Pool.{Pool, opened};
-ghost use Rattle.deadpool_unmanaged.specs.Steps.{find_item, without_item, with_item};
+ghost use Rattle.deadpool_unmanaged.specs.Steps.{find_item};
 ghost use Rattle.deadpool_unmanaged.specs.TrialFields.{PollsSeat, PolledGet, PolledAdd, CancelsSeat, IsAtOnce, IsKnown, given, reply_to, reply_to_back, reply_to_handle, reply_to_try_add};
 ghost use Rattle.deadpool_unmanaged.specs.declared.replay.trial.Seat.TheVariants as seat;
 ghost use Rattle.deadpool_unmanaged.specs.declared.replay.moves.Move.TheVariants as move;

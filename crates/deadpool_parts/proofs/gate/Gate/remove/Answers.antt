@@ -2,7 +2,8 @@ use Rattle.std.proofs.Common.{◌≡◌, ◌-◌, ℕ, Bool, true, false, not, r
 use Rattle.deadpool_parts.specs.declared.gate.Gate.TheInside.{Inside}
 use Rattle.deadpool_parts.specs.Gate.{without_waiter}
 use Rattle.deadpool_parts.specs.GateFields.{Shows}
-use Rattle.deadpool_parts.proofs.GateFields.{one_if, IsCounted, KeepsLinks, Leaving, IsHeld-shows, Shows-counted, Shows-find, Shows-is, Shows-kept, Shows-left, Shows-seen}
+use Rattle.deadpool_parts.proofs.Counts.{one_if}
+use Rattle.deadpool_parts.proofs.GateFields.{IsCounted, KeepsLinks, Leaving, IsHeld-shows, Shows-counted, Shows-find, Shows-is, Shows-kept, Shows-left, Shows-seen}
 use Rattle.deadpool_parts.proofs.GateLinks.{Stores-unlisted}
 use Rattle.deadpool_parts.proofs.GateListed.{remove_first_none}
 use Rattle.deadpool_parts.proofs.gate.Gate.remove.Goals as goal
