@@ -2,8 +2,9 @@
 use super::managers::{Counter, Draining};
 use super::{Bench, stands};
 use deadpool::managed::{
-    BackReply, BuildError, Core, Desk, EnterReply, Environment, GetState, Hooks, Manager, NoHook,
-    PoolBuilder, PoolError, QueueMode, Serving, Slot, TimeoutType, Timeouts, Turn,
+    BackReply, BuildError, Core, CreatedReply, Desk, EnterReply, Environment, GetState, Hooks,
+    Manager, Metrics, NoHook, PoolBuilder, PoolError, QueueMode, Serving, Slot, TimeoutType,
+    Timeouts, Turn,
 };
 use deadpool::replay::{Move, Reply, Trial};
 use deadpool::{Moment, Runtime};
@@ -154,8 +155,16 @@ fn a_get_that_is_given_up_leaves_its_place_to_the_next(rt: HostRuntime) -> Resul
         hooks: Hooks::<_, NoHook, NoHook>::new(rt.alloc()),
         runtime: Some(Runtime::Clock),
     };
-    let EnterReply::Served(Serving::Create) = core.enter(false) else {
+    let (EnterReply::Served(Serving::Create), CreatedReply::Created(number)) = (
+        core.enter(false),
+        core.created(),
+    ) else {
         return Err(Fail::new("no creation"));
+    };
+    let slot = Slot {
+        number,
+        value: 7,
+        metrics: Metrics::new(Moment(0)),
     };
 
     // Two wait, the first of them until a moment. It is given up, and the other has the place.
@@ -175,14 +184,16 @@ fn a_get_that_is_given_up_leaves_its_place_to_the_next(rt: HostRuntime) -> Resul
     );
     assert_eq!(rt; second.deadline(), Some(Moment(15)));
     assert_eq!(rt; third.deadline(), None);
-    assert_eq!(rt; core.status(), stands(1, 0, 0, 3));
+    assert_eq!(rt; core.status(), stands(1, 1, 0, 2));
     second.cancel(&mut core, &environment);
-    assert_eq!(rt; core.status(), stands(1, 0, 0, 2));
-    core.failed();
+    assert_eq!(rt; core.status(), stands(1, 1, 0, 1));
+    assert!(rt; matches!(core.back(slot), BackReply::Kept));
     let slot = task
         .enter(|cx| poll_over(&mut third, &mut core, &environment, 20, cx))?
         .ok_or("pending")?;
-    assert_eq!(rt; (slot.number, slot.value), (0, 0));
+    assert_eq!(rt; (slot.number, slot.value), (0, 7));
+    let moments = (slot.metrics.created, slot.metrics.recycled);
+    assert_eq!(rt; moments, (Moment(0), Some(Moment(20))));
     assert_eq!(rt; core.status(), stands(1, 1, 0, 0));
     Ok(())
 }

@@ -152,7 +152,7 @@ fn a_closed_pool_refuses_all(rt: HostRuntime) -> Result<(), Fail> {
     let number = bench.get_at_once()?;
     let waiting = bench.waits(Move::Get(None))?;
     assert_eq!(rt; bench.status()?, stands(1, 1, 0, 1));
-    bench.make(Move::Close)?;
+    assert!(rt; matches!(bench.make(Move::Close)?, Reply::Done));
 
     let late = bench.start(Move::Get(None))?;
     for party in [waiting, late] {
