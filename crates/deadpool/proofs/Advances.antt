@@ -53,7 +53,7 @@ use Rattle.deadpool_managed.proofs.CoreDesk.{core_desk}
 use Rattle.deadpool_parts.proofs.Numbered.{length-with_numbered}
 
 module _ {V E C R S F A : Type 0} (may : May V E C R S F A) (runtime : Option Runtime) (hooks : HookLists F A) (timeouts : Timeouts) (first most n : ℕ) (now : Moment)
-    (core core' : DeskState V) (gets : List (Option (Getting V C R S))) (out : List (Slot V)) (own : Timeouts) (k : IsCounted core gets out) where
+    (core core' : DeskState (Slot V)) (gets : List (Option (Getting V C R S))) (out : List (Slot V)) (own : Timeouts) (k : IsCounted core gets out) where
   -- the pool before
   abbrev pool : Pool V C R S F A
   pool = image runtime hooks timeouts first most core gets out
@@ -67,20 +67,20 @@ module _ {V E C R S F A : Type 0} (may : May V E C R S F A) (runtime : Option Ru
   party s = record { timeouts = own; standing = standing_of s }
 
   -- the pool and the counts after an advance
-  abbrev Pairs : DeskState V → Stage V C R S → Turn V E → Reply V E × Pool V C R S F A → Type 0
+  abbrev Pairs : DeskState (Slot V) → Stage V C R S → Turn V E → Reply V E × Pool V C R S F A → Type 0
   Pairs d s t x =
       (x ≡ (reply_to t, image runtime hooks timeouts first most d (set gets n (stands s)) (given t out)))
       × IsCounted d (set gets n (stands s)) (given t out)
 
   -- what is to be shown of an advance from one stage to another
-  abbrev Goal : Stage V C R S → DeskState V → Stage V C R S → Turn V E → Type 0
+  abbrev Goal : Stage V C R S → DeskState (Slot V) → Stage V C R S → Turn V E → Type 0
   Goal old d s t =
       Gives may (advance_at (standing_of old) n (party old) now pool) (reply_to t, image runtime hooks timeouts first most d (set gets n (stands s)) (given t out))
       × IsCounted d (set gets n (stands s)) (given t out)
 
   module _ (old : Stage V C R S) (h : slice_get gets n ≡ Some (stands old)) (none : NoTicket (stands old)) where
     -- another stage, with the counts that it makes
-    moves_on : (d : DeskState V) (s : Stage V C R S) (out' : List (Slot V)) → d.granted ≡ core.granted → d.waiting ≡ core.waiting → NoTicket (stands s)
+    moves_on : (d : DeskState (Slot V)) (s : Stage V C R S) (out' : List (Slot V)) → d.granted ≡ core.granted → d.waiting ≡ core.waiting → NoTicket (stands s)
         → Shifts core d (stands old) (stands s) out out' → IsCounted d (set gets n (stands s)) out'
     moves_on d s out' e f no_new shifts =
         IsCounted-set core d gets n (stands old) (stands s) out out' h k
@@ -100,7 +100,7 @@ module _ {V E C R S F A : Type 0} (may : May V E C R S F A) (runtime : Option Ru
     creator = stage.Creating begun until
 
     -- the desk without the creation
-    abbrev without_creation : DeskState V
+    abbrev without_creation : DeskState (Slot V)
     without_creation = record core { creations = core.creations - 1 }
 
     -- there is a creation to lower the count by
@@ -232,7 +232,7 @@ module _ {V E C R S F A : Type 0} (may : May V E C R S F A) (runtime : Option Ru
     -- a new object is given up with its place
     object_refused : (cause : PoolError E) → Pairs (settled (record core { outside = core.outside - 1 })) stage.Finished (turn.Done (Err cause)) (fail n (party old) cause pool)
     object_refused cause =
-        let left : DeskState V = record core { outside = core.outside - 1 } in
+        let left : DeskState (Slot V) = record core { outside = core.outside - 1 } in
         let counted : IsCounted left (set gets n (stands stage.Finished)) out =
         moves_on old h none left stage.Finished out refl refl (λ u. refl)
         record {

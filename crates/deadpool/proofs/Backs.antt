@@ -23,9 +23,9 @@ use Rattle.deadpool.specs.declared.replay.moves.Reply.TheVariants as reply
 use Rattle.deadpool.proofs.Settles.{settles, counts_of, counted_settled}
 use Rattle.deadpool.proofs.Takes.{one_outside, taken_counted, takes}
 
-module _ {V C R S : Type 0} (core core' : DeskState V) (gets : List (Option (Getting V C R S))) (out : List (Slot V)) (n : ℕ) (slot : Slot V) (k : IsCounted core gets out) (h : find_slot n out ≡ Some slot) where
+module _ {V C R S : Type 0} (core core' : DeskState (Slot V)) (gets : List (Option (Getting V C R S))) (out : List (Slot V)) (n : ℕ) (slot : Slot V) (k : IsCounted core gets out) (h : find_slot n out ≡ Some slot) where
   -- the desk knows of an object that is out, and counts it no more
-  pub back_counted : (r : BackReply V) → TakesBack core slot r core' → IsCounted core' gets (without_slot n out) × IsTaken r
+  pub back_counted : (r : BackReply (Slot V)) → TakesBack core slot r core' → IsCounted core' gets (without_slot n out) × IsTaken r
   back_counted back.Kept e =
       rw e.3 (counted_settled (record core { idle = core.idle ++ slot ∷ []; outside = core.outside - 1 }) gets (without_slot n out) (taken_counted core gets out n slot k h (core.idle ++ slot ∷ [])), tt)
   back_counted (back.Dropped given) e = rw e.3 (counted_settled (record core { outside = core.outside - 1 }) gets (without_slot n out) (taken_counted core gets out n slot k h core.idle), tt)
@@ -33,12 +33,12 @@ module _ {V C R S : Type 0} (core core' : DeskState V) (gets : List (Option (Get
   back_counted (back.Unknown given) e = absurd (omega (arith, one_outside core gets out n slot k h, e.0))
 
 module _ {V E C R S F A : Type 0} (may : May V E C R S F A) (runtime : Option Runtime) (hooks : HookLists F A) (timeouts : Timeouts) (first most : ℕ)
-    (core core' : DeskState V) (gets : List (Option (Getting V C R S))) (out : List (Slot V)) (n : ℕ) (slot : Slot V) (k : IsCounted core gets out) (h : find_slot n out ≡ Some slot) where
+    (core core' : DeskState (Slot V)) (gets : List (Option (Getting V C R S))) (out : List (Slot V)) (n : ℕ) (slot : Slot V) (k : IsCounted core gets out) (h : find_slot n out ≡ Some slot) where
   -- what the desk makes of an object that comes back is what the pool makes of it
-  pub backs : (r : BackReply V) (answer : Reply V E) → TakesBack core slot r core' → Gives may (reply_to_back r) answer
+  pub backs : (r : BackReply (Slot V)) (answer : Reply V E) → TakesBack core slot r core' → Gives may (reply_to_back r) answer
       → Gives may (moved (move.Back n) (image runtime hooks timeouts first most core gets out)) (answer, image runtime hooks timeouts first most core' gets (without_slot n out))
   backs back.Kept answer e g =
-      let core1 : DeskState V = record core { idle = core.idle ++ slot ∷ []; outside = core.outside - 1 } in
+      let core1 : DeskState (Slot V) = record core { idle = core.idle ++ slot ∷ []; outside = core.outside - 1 } in
       let counted = taken_counted core gets out n slot k h (core.idle ++ slot ∷ []) in
       let has_handle : (core.handles == 0) ≡ false = ne_eqb core.handles 0 (omega (arith, e.1)) in
       let fits : nat_le (size (image runtime hooks timeouts first most core gets out)) core.limit ≡ true = le-leb _ _ (omega (arith, k.outside, e.2)) in

@@ -37,7 +37,7 @@ use Rattle.deadpool.proofs.Settling.{goes, creates, prepares, Shifts, IsCounted-
 use Rattle.deadpool.proofs.Ends.{Gives-same, holds_place, holds_creation, holds_object, ends_free, ends_empty}
 
 module _ {V E C R S F A : Type 0} (may : May V E C R S F A) (runtime : Option Runtime) (hooks : HookLists F A) (timeouts : Timeouts) (first most n : ℕ)
-    (core core' : DeskState V) (gets : List (Option (Getting V C R S))) (out : List (Slot V)) (own : Timeouts)
+    (core core' : DeskState (Slot V)) (gets : List (Option (Getting V C R S))) (out : List (Slot V)) (own : Timeouts)
     (k : IsCounted core gets out) (nobody : NobodyWaits (image runtime hooks timeouts first most core gets out)) where
   -- the pool before
   abbrev pool : Pool V C R S F A
@@ -52,11 +52,11 @@ module _ {V E C R S F A : Type 0} (may : May V E C R S F A) (runtime : Option Ru
   gone = set gets n None
 
   -- the pool without the party, and its counts
-  abbrev Removes : DeskState V → Type 0
+  abbrev Removes : DeskState (Slot V) → Type 0
   Removes d = (removed n pool ≡ image runtime hooks timeouts first most d gone out) × IsCounted d gone out
 
   -- what is to be shown of a get that is cancelled at a stage
-  abbrev Goal : Stage V C R S → DeskState V → Type 0
+  abbrev Goal : Stage V C R S → DeskState (Slot V) → Type 0
   Goal old d =
       Gives may (cancel n (record { timeouts = own; standing = standing_of old }) pool) (reply.Cancelled, image runtime hooks timeouts first most d gone out)
       × IsCounted d gone out
@@ -73,7 +73,7 @@ module _ {V E C R S F A : Type 0} (may : May V E C R S F A) (runtime : Option Ru
       → Shifts core (record core { going = going; creations = creations; outside = outside }) (stands old) None out out
       → Removes (settled (record core { going = going; creations = creations; outside = outside }))
   removes_counted old going creations outside h none shifts =
-      let left : DeskState V = record core { going = going; creations = creations; outside = outside } in
+      let left : DeskState (Slot V) = record core { going = going; creations = creations; outside = outside } in
       let counted : IsCounted left gone out =
       IsCounted-set core left gets n (stands old) None out out h k
       (owned-set has_ticket (queue_of core) gets k.tickets n (stands old) None h none (λ u. refl)) shifts in (
@@ -90,7 +90,7 @@ module _ {V E C R S F A : Type 0} (may : May V E C R S F A) (runtime : Option Ru
     -- a get in the queue
     removes_queued : Removes (settled (unqueued ticket core))
     removes_queued =
-        let left : DeskState V = unqueued ticket core in
+        let left : DeskState (Slot V) = unqueued ticket core in
         let old : Option (Getting V C R S) = stands (stage.Queued ticket deadline) in
         let counted : IsCounted left gone out =
         IsCounted-set core left gets n old None out out h k
@@ -163,7 +163,7 @@ module _ {V E C R S F A : Type 0} (may : May V E C R S F A) (runtime : Option Ru
   cancelled _ _ h e a = absurd a
 
 module _ {V E C R S F A : Type 0} (may : May V E C R S F A) (runtime : Option Runtime) (hooks : HookLists F A) (timeouts : Timeouts) (first most n : ℕ)
-    (core core' : DeskState V) (gets : List (Option (Getting V C R S))) (out : List (Slot V)) where
+    (core core' : DeskState (Slot V)) (gets : List (Option (Getting V C R S))) (out : List (Slot V)) where
   -- what cancelling a get does at the desk, cancelling its party does in the pool
   pub cancels : (g : Getting V C R S) (made : Made V) → IsCounted core gets out → IsLawful (image runtime hooks timeouts first most core gets out)
       → slice_get gets n ≡ Some (Some g) → Makes core_desk core made core' → CancelsFrom may g.stage made

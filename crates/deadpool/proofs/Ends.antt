@@ -27,7 +27,7 @@ pub Gives-same : {Q : Type 0} {Answer : Q → Type 0} {A : Type 0} (may : (q : Q
     → p ≡ q → Gives may q a → Gives may p a
 Gives-same may p q a e g = subst (λ r. Gives may r a) (sym e) g
 
-module _ {V C R S : Type 0} (d : DeskState V) (gets : List (Option (Getting V C R S))) (out : List (Slot V)) (k : IsCounted d gets out)
+module _ {V C R S : Type 0} (d : DeskState (Slot V)) (gets : List (Option (Getting V C R S))) (out : List (Slot V)) (k : IsCounted d gets out)
     (n : ℕ) (old : Option (Getting V C R S)) (h : slice_get gets n ≡ Some old) where
   -- its party in the pool
   here : slice_get (map party_of gets) n ≡ Some (party_of old)
@@ -46,25 +46,25 @@ module _ {V C R S : Type 0} (d : DeskState V) (gets : List (Option (Getting V C 
   holds_object = let c = held-set prepared_by (map party_of gets) n (party_of old) None here in omega (arith, c, k.outside)
 
 module _ {V C R S F A : Type 0} (runtime : Option Runtime) (hooks : HookLists F A) (timeouts : Timeouts) (first most : ℕ)
-    (core : DeskState V) (gets : List (Option (Getting V C R S))) (out : List (Slot V)) (n : ℕ) (new : Option (Getting V C R S)) where
+    (core : DeskState (Slot V)) (gets : List (Option (Getting V C R S))) (out : List (Slot V)) (n : ℕ) (new : Option (Getting V C R S)) where
   -- the pool before
   abbrev pool : Pool V C R S F A
   pool = image runtime hooks timeouts first most core gets out
 
   -- the pool where the get is another
-  abbrev after : DeskState V → Pool V C R S F A
+  abbrev after : DeskState (Slot V) → Pool V C R S F A
   after d = image runtime hooks timeouts first most d (set gets n new) out
 
   -- what a get held is free
-  pub ends_free : (d : DeskState V) → put_off n (party_of new) pool ≡ after d → IsCounted d (set gets n new) out → settle (put_off n (party_of new) pool) ≡ after (settled d)
+  pub ends_free : (d : DeskState (Slot V)) → put_off n (party_of new) pool ≡ after d → IsCounted d (set gets n new) out → settle (put_off n (party_of new) pool) ≡ after (settled d)
   ends_free d e k = ap settle e ∙ sym (settles runtime hooks timeouts first most d (set gets n new) out (counts_of d (set gets n new) out k))
 
   -- it held no place, or none can be granted
-  pub ends_quietly : (d : DeskState V) → put_off n (party_of new) pool ≡ after d → NobodyWaits (after d) → settle (put_off n (party_of new) pool) ≡ after d
+  pub ends_quietly : (d : DeskState (Slot V)) → put_off n (party_of new) pool ≡ after d → NobodyWaits (after d) → settle (put_off n (party_of new) pool) ≡ after d
   ends_quietly d e nobody = ap settle e ∙ settle-none (after d) nobody
 
   -- a closed pool grants no place
-  pub nobody_waits-closed : (d : DeskState V) → d.is_open ≡ false → NobodyWaits (after d)
+  pub nobody_waits-closed : (d : DeskState (Slot V)) → d.is_open ≡ false → NobodyWaits (after d)
   nobody_waits-closed d shut is_open free = let differ : true ≡ false = sym is_open ∙ shut in cc
 
   module _ (k : IsCounted core gets out) (nobody : NobodyWaits pool) (old : Option (Getting V C R S)) (h : slice_get gets n ≡ Some old) where

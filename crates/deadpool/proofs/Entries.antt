@@ -101,7 +101,7 @@ module _ {V E C R S F A : Type 0} (n : ℕ) (party : Party V C R S) (now : Momen
   inquire-waits e f g = rw (e, f, g) refl
 
 module _ {V E C R S F A : Type 0} (may : May V E C R S F A) (runtime : Option Runtime) (hooks : HookLists F A) (timeouts : Timeouts) (first most n : ℕ) (now : Moment)
-    (core core' : DeskState V) (gets : List (Option (Getting V C R S))) (out : List (Slot V)) (own : Timeouts)
+    (core core' : DeskState (Slot V)) (gets : List (Option (Getting V C R S))) (out : List (Slot V)) (own : Timeouts)
     (k : IsCounted core gets out) (nobody : NobodyWaits (image runtime hooks timeouts first most core gets out)) where
   -- the pool before
   abbrev pool : Pool V C R S F A
@@ -116,15 +116,15 @@ module _ {V E C R S F A : Type 0} (may : May V E C R S F A) (runtime : Option Ru
   party s = record { timeouts = own; standing = standing_of s }
 
   -- the pool where it stands elsewhere, and no object is given out
-  abbrev after : DeskState V → Stage V C R S → Pool V C R S F A
+  abbrev after : DeskState (Slot V) → Stage V C R S → Pool V C R S F A
   after d s = image runtime hooks timeouts first most d (set gets n (stands s)) out
 
   -- and the counts
-  abbrev Counted : DeskState V → Stage V C R S → Type 0
+  abbrev Counted : DeskState (Slot V) → Stage V C R S → Type 0
   Counted d s = IsCounted d (set gets n (stands s)) out
 
   -- what is to be shown of an advance from one stage to another, where no object is given out
-  abbrev Goal : Stage V C R S → DeskState V → Stage V C R S → Turn V E → Type 0
+  abbrev Goal : Stage V C R S → DeskState (Slot V) → Stage V C R S → Turn V E → Type 0
   Goal old d s t =
       Gives may (advance_at (standing_of old) n (party old) now pool) (reply_to t, image runtime hooks timeouts first most d (set gets n (stands s)) (given t out))
       × IsCounted d (set gets n (stands s)) (given t out)
@@ -196,7 +196,7 @@ module _ {V E C R S F A : Type 0} (may : May V E C R S F A) (runtime : Option Ru
         )
 
         -- a first poll
-        pub from_entered : (wait : Bool) (reply : EnterReply V) (s : Stage V C R S) (t : Turn V E) → wait ≡ not (is_reached (deadline_after now own.wait) now)
+        pub from_entered : (wait : Bool) (reply : EnterReply (Slot V)) (s : Stage V C R S) (t : Turn V E) → wait ≡ not (is_reached (deadline_after now own.wait) now)
             → Enters core wait reply core' → AfterEntered (deadline_after now own.wait) reply s t → Goal stage.Unpolled core' s t
         from_entered wait (entered.Served served) s t w e a =
             let all = serves runtime hooks timeouts first most n core core gets out own stage.Unpolled unpolled (map (owner has_ticket gets) core.granted) (map (owner has_ticket gets) core.waiting) h k entry_left
@@ -220,7 +220,7 @@ module _ {V E C R S F A : Type 0} (may : May V E C R S F A) (runtime : Option Ru
 
   module _ (allowance : Option ℕ) (h : slice_get gets n ≡ Some (stands (stage.Going allowance))) where
     -- the desk without its place
-    abbrev without_place : DeskState V
+    abbrev without_place : DeskState (Slot V)
     without_place = record core { going = core.going - 1 }
 
     -- then it is in no count
@@ -240,7 +240,7 @@ module _ {V E C R S F A : Type 0} (may : May V E C R S F A) (runtime : Option Ru
         }
 
     -- a get that holds a place and nothing else
-    pub from_going : (reply : AgainReply V) (s : Stage V C R S) (t : Turn V E) → GoesOn core allowance reply core' → AfterGoingOn reply s t → Goal (stage.Going allowance) core' s t
+    pub from_going : (reply : AgainReply (Slot V)) (s : Stage V C R S) (t : Turn V E) → GoesOn core allowance reply core' → AfterGoingOn reply s t → Goal (stage.Going allowance) core' s t
     from_going (again.Served served) s t e a =
         serves runtime hooks timeouts first most n core without_place gets out own (stage.Going allowance) (going allowance) (map (owner has_ticket gets) core.granted) (map (owner has_ticket gets) core.waiting) h k
         (going_left e.0) core' allowance served s t e.1 a
@@ -253,7 +253,7 @@ module _ {V E C R S F A : Type 0} (may : May V E C R S F A) (runtime : Option Ru
     waiter = stands (stage.Queued ticket deadline)
 
     -- the desk without its ticket
-    abbrev without_ticket : DeskState V
+    abbrev without_ticket : DeskState (Slot V)
     without_ticket = unqueued ticket core
 
     -- it has this ticket alone
@@ -313,7 +313,7 @@ module _ {V E C R S F A : Type 0} (may : May V E C R S F A) (runtime : Option Ru
             ∙ ap (λ ns. record (pool_unqueued n pool) { waiting = ns }) (without-twice n (map (owner has_ticket gets) core.waiting))
 
     -- a get in the queue
-    pub from_queued : (expired : Bool) (reply : AskReply V) (s : Stage V C R S) (t : Turn V E) → expired ≡ is_reached deadline now
+    pub from_queued : (expired : Bool) (reply : AskReply (Slot V)) (s : Stage V C R S) (t : Turn V E) → expired ≡ is_reached deadline now
         → Asks core ticket expired reply core' → AfterAsked ticket deadline reply s t → Goal (stage.Queued ticket deadline) core' s t
     from_queued expired (asked.Served served) s t x e a =
         let all = serves runtime hooks timeouts first most n core without_ticket gets out own (stage.Queued ticket deadline) (queued deadline)

@@ -7,17 +7,18 @@ use Rattle.deadpool_parts.specs.Program.{Return, Always}
 use Rattle.deadpool_parts.specs.declared.config.Timeouts.{Timeouts}
 use Rattle.deadpool_parts.proofs.Programs.{Always-bind}
 use Rattle.deadpool_managed.specs.Outside.{Asking}
-use Rattle.deadpool.specs.Pool.{Pool, Party, unpolled, is_going, is_creating, prepared_by, size, reach, status_of}
-use Rattle.deadpool.specs.Steps.{find_slot, without_slot, with_put, resized, closed, cloned, handle_dropped, slot_number}
+use Rattle.deadpool.specs.Pool.{Pool, Party, unpolled, is_going, is_creating, prepared_by, size, least_idle, reach, status_of}
+use Rattle.deadpool.specs.Steps.{find_slot, without_slot, with_put, given_up, resized, closed, cloned, handle_dropped, slot_number}
 use Rattle.deadpool.specs.Party.{advance, cancel}
-use Rattle.deadpool.specs.Moves.{by_handle, started, put_at, back_at, take_at, resize, give_up, retain_with, retain, upgrade, by_party, moved}
+use Rattle.deadpool.specs.Moves.{by_handle, started, put_at, back_at, take_at, resize, staying, give_up, retain_with, retain, upgrade, by_party, moved}
 use Rattle.deadpool.specs.Laws.{IsLawful, is_queued}
 use Rattle.deadpool_managed.specs.declared.slot.Slot.{Slot}
 use Rattle.deadpool.specs.declared.replay.moves.Move.{Move}
 use Rattle.deadpool.specs.declared.replay.moves.Move.TheVariants as move
 use Rattle.deadpool.specs.declared.replay.moves.Reply.{Reply}
 use Rattle.deadpool.specs.declared.replay.moves.Reply.TheVariants as reply
-use Rattle.deadpool_parts.proofs.Counts.{count-push, held-push, filter-shorter}
+use Rattle.deadpool_parts.proofs.Counts.{count-push, held-push}
+use Rattle.deadpool.proofs.Staying.{staying-shorter}
 use Rattle.deadpool.proofs.SlotLists.{length-with_put}
 use Rattle.deadpool.proofs.Follows.{IsOrderly, Follows, Follows-self, standing_at, settle_follows}
 use Rattle.deadpool.proofs.FollowsAdvance.{After, advance_follows, cancel_follows}
@@ -64,8 +65,8 @@ module _ {V C R S F A : Type 0} where
   -- another limit: what is there is within the reach that there was
   pub resized_follows : (n : ℕ) (p : Pool V C R S F A) → IsLawful p → Follows (reach p) (resized n p)
   resized_follows n p l =
-      let idle = drop (min (length p.idle) (size p - n)) p.idle in
-      let shorter = length-drop (min (length p.idle) (size p - n)) p.idle in
+      let idle = drop (given_up n p) p.idle in
+      let shorter = length-drop (given_up n p) p.idle in
       settle_follows (reach p) (record p { limit = n; reserve = max p.reserve n; idle = idle })
       record { once = l.once; few_places = omega arith; few_objects = omega (arith, shorter) } l.marks
 
@@ -115,7 +116,7 @@ module _ {V C R S F A : Type 0} (E : Type 0) (p : Pool V C R S F A) (l : IsLawfu
       })
       (λ full. Follows-self p l)
 
-  -- the value of an object that is out is replaced
+  -- an object that is out gets another value
   put_follows : (found : Option (Slot V)) (n : ℕ) (v : V) → After {E = E} (reach p) (put_at found n v p)
   put_follows None n v = Follows-self p l
   put_follows (Some slot) n v = objects_follow (reach p) p p.handles p.idle (with_put n v p.out) (Follows-self p l) (omega arith) (length-with_put n v p.out)
@@ -156,9 +157,10 @@ module _ {V C R S F A : Type 0} (E : Type 0) (p : Pool V C R S F A) (l : IsLawfu
   retain_with_follows : (kept : List ℕ) (found : Bool) → Always (After {E = E} (reach p)) (retain_with kept p found)
   retain_with_follows kept false = Follows-self p l
   retain_with_follows kept true =
-      let left = filter (λ s. has_number s.number kept) p.idle in
-      let follows = objects_follow (reach p) p p.handles left p.out (Follows-self p l) (filter-shorter (λ s. has_number s.number kept) p.idle) refl in
-      Always-bind (After {E = E} (reach p)) (give_up kept p.idle) (λ gone. Return (reply.Retained record { retained = length left; removed = gone }, record p { idle = left })) (λ gone. follows)
+      let least = least_idle p.limit p in
+      let left = staying kept least (length p.idle) p.idle in
+      let follows = objects_follow (reach p) p p.handles left p.out (Follows-self p l) (staying-shorter kept least (length p.idle) p.idle) refl in
+      Always-bind (After {E = E} (reach p)) (give_up kept least (length p.idle) p.idle) (λ gone. Return (reply.Retained record { retained = length left; removed = gone }, record p { idle = left })) (λ gone. follows)
 
   -- some of the idle objects are kept
   pub retain_follows : (kept : List ℕ) → Always (After {E = E} (reach p)) (retain kept p)

@@ -12,10 +12,10 @@ use Rattle.deadpool_parts.proofs.Programs.{Always-bind}
 use Rattle.deadpool_managed.specs.Outside.{Asking}
 use Rattle.deadpool_managed.specs.DeskState.{next_idle}
 use Rattle.deadpool_managed.specs.Prepare.{create, prepare, check, with_value}
-use Rattle.deadpool.specs.Pool.{Pool, Party, Standing, unpolled, queued, going, creating, recycling, checking, finished, prepared_at, creating_count, places, size, status_of}
+use Rattle.deadpool.specs.Pool.{Pool, Party, Standing, unpolled, queued, going, creating, recycling, checking, finished, prepared_at, creating_count, places, size, least_idle, status_of}
 use Rattle.deadpool.specs.Steps.{find_slot, with_slot, closed, cloned, handle_dropped, serve_from, unqueued, slot_number}
 use Rattle.deadpool.specs.Party.{joined, enter, inquire, hand_out, reviewed, checked, created, go_on_creating, advance_at, advance, cancel_with, cancel}
-use Rattle.deadpool.specs.Moves.{by_handle, started, put_at, back_at, take_at, resize, give_up, retain_with, retain, by_party, moved}
+use Rattle.deadpool.specs.Moves.{by_handle, started, put_at, back_at, take_at, resize, staying, give_up, retain_with, retain, by_party, moved}
 use Rattle.deadpool.specs.RunLaws.{IsOutIfGiven, IsIdleIfKept}
 use Rattle.deadpool_managed.specs.declared.slot.Slot.{Slot}
 use Rattle.deadpool_managed.specs.declared.prepare.Verdict.{Verdict}
@@ -144,8 +144,9 @@ module _ {V C R S F A : Type 0} (E : Type 0) (m : Move V) (p : Pool V C R S F A)
   retain_with_gives : (kept : List ℕ) (found : Bool) → Always (Given {E = E} m) (retain_with kept p found)
   retain_with_gives kept false = tt
   retain_with_gives kept true =
-      let left = filter (λ s. has_number s.number kept) p.idle in
-      Always-bind (Given {E = E} m) (give_up kept p.idle) (λ gone. Return (reply.Retained record { retained = length left; removed = gone }, record p { idle = left })) (λ gone. tt)
+      let least = least_idle p.limit p in
+      let left = staying kept least (length p.idle) p.idle in
+      Always-bind (Given {E = E} m) (give_up kept least (length p.idle) p.idle) (λ gone. Return (reply.Retained record { retained = length left; removed = gone }, record p { idle = left })) (λ gone. tt)
 
   retain_gives : (kept : List ℕ) → Always (Given {E = E} m) (retain kept p)
   retain_gives kept =
@@ -173,7 +174,7 @@ module _ {V C R S F A : Type 0} (E : Type 0) where
   moved_gives move.Status p = by_handle_gives E move.Status p (λ q. (reply.Stands (status_of q), q)) tt
 
   -- nothing is said of the answer
-  any_answer : (m : Move V) (p : Pool V C R S F A) → Always (λ (x : Reply V E × Pool V C R S F A). Unit {0}) (moved m p)
+  pub any_answer : (m : Move V) (p : Pool V C R S F A) → Always (λ (x : Reply V E × Pool V C R S F A). Unit {0}) (moved m p)
   any_answer m p = Always-all (λ (x : Reply V E × Pool V C R S F A). Unit {0}) (λ x. tt) (moved m p)
 
   -- the object that came back is idle where it was kept

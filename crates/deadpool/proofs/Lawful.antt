@@ -26,9 +26,9 @@ Always-both P also (Ask q k) h l = λ a. Always-both P also (k a) (h a) (l a)
 
 module _ {V C R S F A : Type 0} where
   -- a new pool is lawful
-  pub opened_lawful : (limit : ℕ) (mode : QueueMode) (runtime : Option Runtime) (hooks : HookLists F A) (timeouts : Timeouts) (first most : ℕ)
-      → IsLawful (opened {V = V} {C = C} {R = R} {S = S} limit mode runtime hooks timeouts first most)
-  opened_lawful limit mode runtime hooks timeouts first most = record { once = tt; marks = λ n. refl; nobody_waits = λ opens free. refl }
+  pub opened_lawful : (limit : ℕ) (mode : QueueMode) (runtime : Option Runtime) (hooks : HookLists F A) (timeouts : Timeouts) (first most floor : ℕ)
+      → IsLawful (opened {V = V} {C = C} {R = R} {S = S} limit mode runtime hooks timeouts first most floor)
+  opened_lawful limit mode runtime hooks timeouts first most floor = record { once = tt; marks = λ n. refl; nobody_waits = λ opens free. refl }
 
 module _ {V E C R S F A : Type 0} where
   -- the pool after a step is lawful

@@ -2,6 +2,7 @@ pub mod Advances
 pub mod Backs
 pub mod Cancels
 pub mod Ends
+pub mod EnoughIdle
 pub mod Entries
 pub mod Falls
 pub mod Follows
@@ -31,6 +32,8 @@ pub mod Simulation
 pub mod SlotLists
 pub mod Stands
 pub mod Starts
+pub mod Statuses
+pub mod Staying
 pub mod Takes
 pub mod Tickets
 pub mod TrialOwnSteps

@@ -5,9 +5,10 @@ use Rattle.deadpool_parts.specs.declared.moment.Runtime.{Runtime}
 use Rattle.deadpool_parts.specs.declared.config.Timeouts.{Timeouts}
 use Rattle.deadpool_managed.specs.HookLists.{HookLists}
 use Rattle.deadpool_managed.specs.DeskState.{DeskState, size, settled}
+use Rattle.deadpool_managed.specs.DeskSteps.{given_up as given_up_core}
 use Rattle.deadpool_managed.specs.Stages.{Getting}
 use Rattle.deadpool.specs.Pool.{Pool, places, size as pool_size, settle}
-use Rattle.deadpool.specs.Steps.{resized, closed, cloned, handle_dropped}
+use Rattle.deadpool.specs.Steps.{given_up, resized, closed, cloned, handle_dropped}
 use Rattle.deadpool.specs.Image.{image, IsCounted}
 use Rattle.deadpool_managed.specs.declared.slot.Slot.{Slot}
 use Rattle.deadpool.proofs.Settles.{settles, counts_of, same_counted, counted_settled}
@@ -19,18 +20,18 @@ none_free true n m = omega arith
 none_free false n m = refl
 
 module _ {V C R S F A : Type 0} (runtime : Option Runtime) (hooks : HookLists F A) (timeouts : Timeouts) (first most : ℕ)
-    (core core' : DeskState V) (gets : List (Option (Getting V C R S))) (out : List (Slot V)) (k : IsCounted core gets out) where
+    (core core' : DeskState (Slot V)) (gets : List (Option (Getting V C R S))) (out : List (Slot V)) (k : IsCounted core gets out) where
   -- another limit
-  pub resizes : (n : ℕ) → core' ≡ settled (record core { limit = n; reserve = max core.reserve n; idle = drop (min (length core.idle) (size core - n)) core.idle })
+  pub resizes : (n : ℕ) → core' ≡ settled (record core { limit = n; reserve = max core.reserve n; idle = drop (given_up_core n core) core.idle })
       → (image runtime hooks timeouts first most core' gets out ≡ resized n (image runtime hooks timeouts first most core gets out)) × IsCounted core' gets out
   resizes n e =
       let p : Pool V C R S F A = image runtime hooks timeouts first most core gets out in
-      let core1 : DeskState V = record core { limit = n; reserve = max core.reserve n; idle = drop (min (length core.idle) (size core - n)) core.idle } in
+      let core1 : DeskState (Slot V) = record core { limit = n; reserve = max core.reserve n; idle = drop (given_up_core n core) core.idle } in
       let counted = same_counted core core1 gets out k refl refl refl refl refl in
       let sizes : size core ≡ pool_size p = omega (arith, k.outside) in
       rw e (
         settles runtime hooks timeouts first most core1 gets out (counts_of core1 gets out counted)
-            ∙ ap (λ (m : ℕ). settle (record p { limit = n; reserve = max core.reserve n; idle = drop (min (length core.idle) (m - n)) core.idle })) sizes,
+            ∙ ap (λ (m : ℕ). settle (record p { limit = n; reserve = max core.reserve n; idle = drop (min (m - n) (length core.idle - min core.floor n)) core.idle })) sizes,
         counted_settled core1 gets out counted,
       )
 
@@ -39,7 +40,7 @@ module _ {V C R S F A : Type 0} (runtime : Option Runtime) (hooks : HookLists F 
       → (image runtime hooks timeouts first most core' gets out ≡ closed (image runtime hooks timeouts first most core gets out)) × IsCounted core' gets out
   closes e =
       let p : Pool V C R S F A = image runtime hooks timeouts first most core gets out in
-      let all : min (length core.idle) (pool_size p - 0) ≡ length core.idle = omega arith in
+      let all : given_up 0 p ≡ length core.idle = omega arith in
       let room : max core.reserve 0 ≡ core.reserve = omega arith in
       rw e (
         rw (room, all, drop_all (length core.idle) core.idle (omega arith), none_free core.is_open (length p.waiting) (places p), append-nil) refl,

@@ -69,6 +69,7 @@ pub record Passes {V C R S F A : Type 0} (sets : Bool) (name : Option ℕ) (leav
   pub limit : sets ≡ false → q.limit ≡ p.limit
   pub few_idle : HasFewIdle p → HasFewIdle q
   pub closed : (p.is_open ≡ false → p.limit ≡ 0) → q.is_open ≡ false → q.limit ≡ 0
+  pub floor : q.floor ≡ p.floor
   pub first : q.first ≡ p.first
   -- the step makes a new object
   pub grows : Bool
@@ -85,6 +86,7 @@ module _ {V C R S F A : Type 0} where
     limit = λ same. refl;
     few_idle = λ few. few;
     closed = λ c. c;
+    floor = refl;
     first = refl;
     grows = false;
     next = omega arith;
@@ -103,6 +105,7 @@ module _ {V C R S F A : Type 0} where
         limit = s.limit;
         few_idle = s.few_idle;
         closed = s.closed;
+        floor = s.floor;
         first = s.first;
         grows = s.grows;
         next = s.next;
@@ -122,6 +125,7 @@ module _ {V C R S F A : Type 0} where
     limit = λ kept. refl;
     few_idle = λ few. omega (arith, fewer, few);
     closed = λ c. c;
+    floor = refl;
     first = refl;
     grows = grows;
     next = e;
@@ -139,6 +143,7 @@ module _ {V C R S F A : Type 0} where
     limit = λ kept. refl;
     few_idle = fewer;
     closed = λ c. c;
+    floor = refl;
     first = refl;
     grows = false;
     next = omega arith;

@@ -2,7 +2,6 @@
 use Rattle.std.proofs.Common.{◌≡◌, ◌≢◌, ℕ, zero, suc, ◌+◌, ◌-◌, ◌≤◌, max, min, List, [], ◌∷◌, ◌++◌, Bool, true, false, not, length, take, drop, refl, ap, ◌∙◌, arith, Option, Some, None, inl, inr, length-append, length-drop}
 use Rattle.std.specs.Prelude.{nat_lt, nat_le, slice_get, filter, unwrap_or, ◌==◌, if◌then◌else◌}
 use Rattle.std.proofs.lemmas.Bool.{cases_Bool, cond_both, eqb-false, ne_eqb, leb-true}
-use Rattle.std.proofs.lemmas.List.{take_min}
 use Rattle.deadpool_parts.specs.Numbers.{has_number, most_handles}
 use Rattle.deadpool_parts.specs.Program.{Return, Always}
 use Rattle.deadpool_parts.specs.declared.config.Timeouts.{Timeouts}
@@ -10,10 +9,10 @@ use Rattle.deadpool_parts.proofs.Programs.{Always-bind}
 use Rattle.deadpool_parts.proofs.Lists.{get-append}
 use Rattle.deadpool_parts.proofs.Orders.{order_same}
 use Rattle.deadpool_managed.specs.Outside.{Asking}
-use Rattle.deadpool.specs.Pool.{Pool, Party, unpolled, size, status_of}
-use Rattle.deadpool.specs.Steps.{find_slot, without_slot, with_put, resized, closed, cloned, handle_dropped, slot_number}
+use Rattle.deadpool.specs.Pool.{Pool, Party, unpolled, size, least_idle, status_of}
+use Rattle.deadpool.specs.Steps.{find_slot, without_slot, with_put, given_up, resized, closed, cloned, handle_dropped, slot_number}
 use Rattle.deadpool.specs.Party.{advance, cancel}
-use Rattle.deadpool.specs.Moves.{by_handle, started, put_at, back_at, take_at, resize, give_up, retain_with, retain, upgrade, by_party, moved}
+use Rattle.deadpool.specs.Moves.{by_handle, started, put_at, back_at, take_at, resize, staying, give_up, retain_with, retain, upgrade, by_party, moved}
 use Rattle.deadpool.specs.Laws.{MarksQueued, queue}
 use Rattle.deadpool.specs.RunLaws.{sets_limit, named, prepared_in, may_leave}
 use Rattle.deadpool_managed.specs.declared.slot.Slot.{Slot}
@@ -21,8 +20,9 @@ use Rattle.deadpool.specs.declared.replay.moves.Move.{Move}
 use Rattle.deadpool.specs.declared.replay.moves.Move.TheVariants as move
 use Rattle.deadpool.specs.declared.replay.moves.Reply.{Reply}
 use Rattle.deadpool.specs.declared.replay.moves.Reply.TheVariants as reply
-use Rattle.deadpool_parts.proofs.Counts.{count-push, filter-shorter}
-use Rattle.deadpool.proofs.NumberCounts.{held, held-with_put, held-drop, held-parts, held-split}
+use Rattle.deadpool_parts.proofs.Counts.{count-push}
+use Rattle.deadpool.proofs.NumberCounts.{held, held-with_put, held-drop, held-split}
+use Rattle.deadpool.proofs.Staying.{staying-shorter, held-staying, held-going}
 use Rattle.deadpool.proofs.Passes.{Passes, prepares, passes_self, settle_passes, objects_pass}
 use Rattle.deadpool.proofs.PassesAdvance.{Passed, advance_passes, cancel_passes}
 use Rattle.deadpool_parts.proofs.Numbered.{length-without_numbered}
@@ -49,9 +49,9 @@ none_left handles some more =
     at_least_one (suc n) h = omega arith
 
 module _ {V C R S F A : Type 0} where
-  -- the first of the idle, as many as the size is above the number
+  -- the first of the idle, as many as are given up for another limit
   abbrev above : ℕ → Pool V C R S F A → List (Slot V)
-  above n p = take (size p - n) p.idle
+  above n p = take (given_up n p) p.idle
 
   -- An object leaves those that are out.
   without_slot_passes : (n : ℕ) (slot : Slot V) (p : Pool V C R S F A) → find_slot n p.out ≡ Some slot
@@ -78,18 +78,18 @@ module _ {V C R S F A : Type 0} where
   -- another limit, which a closed pool takes only if it is 0
   resized_passes : (n : ℕ) (p : Pool V C R S F A) → (p.is_open ≡ false → n ≡ 0) → Passes true None (above n p) p (resized n p)
   resized_passes n p none =
-      let gone = min (length p.idle) (size p - n) in
+      let gone = given_up n p in
       let shorter = length-drop gone p.idle in
-      let front : take gone p.idle ≡ above n p = let swapped : gone ≡ min (size p - n) (length p.idle) = omega arith in ap (λ k. take k p.idle) swapped ∙ take_min (size p - n) p.idle in
       settle_passes true None (above n p) p (record p { limit = n; reserve = max p.reserve n; idle = drop gone p.idle }) record {
         limit = λ clash. cc;
         few_idle = λ few. omega (arith, shorter);
         closed = λ c. none;
+        floor = refl;
         first = refl;
         grows = false;
         next = omega arith;
         few = λ m. let less = held-drop m gone p.idle in omega (arith, less);
-        stay = λ m. let parts = held-split m gone p.idle in let same : held m (take gone p.idle) ≡ held m (above n p) = ap (held m) front in omega (arith, parts, same);
+        stay = λ m. let parts = held-split m gone p.idle in omega (arith, parts);
         order = order_same (queue p);
         others = λ m party other k. k;
       }
@@ -102,11 +102,12 @@ module _ {V C R S F A : Type 0} where
         limit = λ clash. cc;
         few_idle = s.few_idle;
         closed = λ c shut. refl;
+        floor = s.floor;
         first = s.first;
         grows = s.grows;
         next = s.next;
         few = s.few;
-        stay = λ m. let all = s.stay m in let parts = held-split m (size p - 0) p.idle in omega (arith, all, parts);
+        stay = λ m. let all = s.stay m in let parts = held-split m (given_up 0 p) p.idle in omega (arith, all, parts);
         order = s.order;
         others = s.others;
       }
@@ -141,6 +142,7 @@ module _ {V C R S F A : Type 0} (E : Type 0) (p : Pool V C R S F A) where
         limit = λ same. refl;
         few_idle = λ idle. idle;
         closed = λ c. c;
+        floor = refl;
         first = refl;
         grows = false;
         next = omega arith;
@@ -151,7 +153,7 @@ module _ {V C R S F A : Type 0} (E : Type 0) (p : Pool V C R S F A) where
       })
       (λ full. passes_self false None [] p)
 
-  -- the value of an object that is out is replaced
+  -- an object that is out gets another value
   put_passes : (found : Option (Slot V)) (n : ℕ) (v : V) → Passed {E = E} None [] p (put_at found n v p)
   put_passes None n v = passes_self false None [] p
   put_passes (Some slot) n v = objects_pass p.handles p.idle (with_put n v p.out) [] p (λ few. few) (λ m. let same = held-with_put m n v p.out in omega (arith, same)) (λ m. let same = held-with_put m n v p.out in omega (arith, same))
@@ -192,12 +194,13 @@ module _ {V C R S F A : Type 0} (E : Type 0) (p : Pool V C R S F A) where
   retain_with_passes : (kept : List ℕ) (found : Bool) → Always (Passed {E = E} None (not_kept kept p.idle) p) (retain_with kept p found)
   retain_with_passes kept false = passes_self false None (not_kept kept p.idle) p
   retain_with_passes kept true =
-      let left = filter (λ s. has_number s.number kept) p.idle in
-      let shorter = filter-shorter (λ s. has_number s.number kept) p.idle in
+      let least = least_idle p.limit p in
+      let left = staying kept least (length p.idle) p.idle in
+      let shorter = staying-shorter kept least (length p.idle) p.idle in
       let passes : Passes false None (not_kept kept p.idle) p (record p { idle = left }) =
       objects_pass p.handles left p.out (not_kept kept p.idle) p (λ few. omega (arith, few, shorter))
-      (λ m. let parts = held-parts m (λ s. has_number s.number kept) p.idle in omega (arith, parts)) (λ m. let parts = held-parts m (λ s. has_number s.number kept) p.idle in omega (arith, parts)) in
-      Always-bind (Passed {E = E} None (not_kept kept p.idle) p) (give_up kept p.idle) (λ gone. Return (reply.Retained record { retained = length left; removed = gone }, record p { idle = left })) (λ gone. passes)
+      (λ m. let fewer = held-staying kept least m (length p.idle) p.idle in omega (arith, fewer)) (λ m. let others = held-going kept least m (length p.idle) p.idle in omega (arith, others)) in
+      Always-bind (Passed {E = E} None (not_kept kept p.idle) p) (give_up kept least (length p.idle) p.idle) (λ gone. Return (reply.Retained record { retained = length left; removed = gone }, record p { idle = left })) (λ gone. passes)
 
   -- some of the idle objects are kept
   retain_passes : (kept : List ℕ) → Always (Passed {E = E} None (not_kept kept p.idle) p) (retain kept p)

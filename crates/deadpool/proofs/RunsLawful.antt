@@ -13,7 +13,7 @@ use Rattle.deadpool.proofs.RunStates.{Each-more}
 use Rattle.deadpool.proofs.RunsHave.{each_of, runs_have}
 
 module _ {V E C R S F A : Type 0} (may : May V E C R S F A) where
-  -- In every run from a lawful pool nobody waits while a place is free, and the reach rises only as far as the limit.
+  -- In every run from a lawful pool a free place means that nobody waits, and the reach rises only as far as the limit.
   pub runs_lawful : (moves : List (Move V)) (p after : Pool V C R S F A) (passed : List (List (Pool V C R S F A))) (answers : List (Reply V E)) → IsLawful p → PoolRuns may p moves passed answers after
       → Each NobodyWaits (all_states p passed) × Neighbours WithinReach (all_states p passed) × IsLawful after
   runs_lawful moves p after passed answers l ran =

@@ -68,7 +68,7 @@ module _ {V E C R S F A : Type 0} (n : ℕ) (party : Party V C R S) (p : Pool V 
       ap (λ b. if b then go_on n party (creating None None) p else fail n party NumbersExhausted p) (le-ltb (p.next + creating_count p) largest_usize more)
 
 -- core: the desk before; d: the desk without the place of the get at n; granted, waiting: the queue of the pool without the get
-module _ {V C R S F A : Type 0} (runtime : Option Runtime) (hooks : HookLists F A) (timeouts : Timeouts) (first most n : ℕ) (core d : DeskState V)
+module _ {V C R S F A : Type 0} (runtime : Option Runtime) (hooks : HookLists F A) (timeouts : Timeouts) (first most n : ℕ) (core d : DeskState (Slot V))
     (gets : List (Option (Getting V C R S))) (out : List (Slot V)) (own : Timeouts) (old : Stage V C R S) (standing : Standing V C R S) (granted waiting : List ℕ)
     (h : slice_get gets n ≡ Some (Some record { timeouts = own; stage = old })) (k : IsCounted core gets out) where
   -- the get at a stage
@@ -80,7 +80,7 @@ module _ {V C R S F A : Type 0} (runtime : Option Runtime) (hooks : HookLists F 
   pool = record (image runtime hooks timeouts first most d gets out) { granted = granted; waiting = waiting }
 
   -- the pool where it stands elsewhere
-  abbrev after : DeskState V → Stage V C R S → Pool V C R S F A
+  abbrev after : DeskState (Slot V) → Stage V C R S → Pool V C R S F A
   after d' s = image runtime hooks timeouts first most d' (set gets n (stands s)) out
 
   -- its party
@@ -112,7 +112,7 @@ module _ {V C R S F A : Type 0} (runtime : Option Runtime) (hooks : HookLists F 
         × IsCounted (record d { idle = other_idle d.mode d.idle; outside = d.outside + 1 }) (set gets n (stands (stage.Recycling (PreRecycle slot start) (Some more)))) out
     served_object allowance slot more e f =
         let new : Stage V C R S = stage.Recycling (PreRecycle slot start) (Some more) in
-        let d' : DeskState V = record d { idle = other_idle d.mode d.idle; outside = d.outside + 1 } in
+        let d' : DeskState (Slot V) = record d { idle = other_idle d.mode d.idle; outside = d.outside + 1 } in
         let none : NoTicket (stands new) = λ u. refl in
         let o = left.owned new none in (
           ap (λ (i : Option (Slot V)). serve_from i (unwrap_or allowance (length d.idle)) n party pool) e
@@ -132,7 +132,7 @@ module _ {V C R S F A : Type 0} (runtime : Option Runtime) (hooks : HookLists F 
         × IsCounted (record d { going = d.going + 1 }) (set gets n (stands (stage.Going None))) out
     served_going allowance some f =
         let new : Stage V C R S = stage.Going None in
-        let d' : DeskState V = record d { going = d.going + 1 } in
+        let d' : DeskState (Slot V) = record d { going = d.going + 1 } in
         let none : NoTicket (stands new) = λ u. refl in
         let i = next_idle-some d.mode d.idle some in (
           ap (λ (i : Option (Slot V)). serve_from i (unwrap_or allowance (length d.idle)) n party pool) i.1
@@ -152,7 +152,7 @@ module _ {V C R S F A : Type 0} (runtime : Option Runtime) (hooks : HookLists F 
         × IsCounted (record d { creations = d.creations + 1 }) (set gets n (stands (stage.Creating None None))) out
     served_create allowance empty less =
         let new : Stage V C R S = stage.Creating None None in
-        let d' : DeskState V = record d { creations = d.creations + 1 } in
+        let d' : DeskState (Slot V) = record d { creations = d.creations + 1 } in
         let none : NoTicket (stands new) = λ u. refl in (
           ap (λ (i : Option (Slot V)). serve_from i (unwrap_or allowance (length d.idle)) n party pool) (next_idle-none d.mode d.idle empty)
               ∙ serve_from-create n party pool (unwrap_or allowance (length d.idle)) (subst (λ m. m < largest_usize) (sym (creating_same left)) less)
@@ -188,7 +188,7 @@ module _ {V C R S F A : Type 0} (runtime : Option Runtime) (hooks : HookLists F 
         )
 
     -- what serving does at the desk, it does in the pool
-    pub serves : (d' : DeskState V) (allowance : Option ℕ) (served : Serving V) (s : Stage V C R S) (t : Turn V E)
+    pub serves : (d' : DeskState (Slot V)) (allowance : Option ℕ) (served : Serving (Slot V)) (s : Stage V C R S) (t : Turn V E)
         → Serves d allowance served d' → AfterServing served s t
         → (serve {E = E} n party allowance pool ≡ (reply_to t, image runtime hooks timeouts first most d' (set gets n (stands s)) (given t out)))
         × IsCounted d' (set gets n (stands s)) (given t out)

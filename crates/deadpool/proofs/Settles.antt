@@ -16,22 +16,22 @@ use Rattle.deadpool.proofs.Tickets.{owned-same}
 
 module _ {V : Type 0} where
   -- the queue of a desk where the first n that wait have a place
-  abbrev pub granting : ℕ → DeskState V → DeskState V
+  abbrev pub granting : ℕ → DeskState (Slot V) → DeskState (Slot V)
   granting n d = record d { granted = d.granted ++ take n d.waiting; waiting = drop n d.waiting }
 
 module _ {V C R S : Type 0} where
   -- the desk's counts are those of the parties
-  pub record HasCounts (d : DeskState V) (parties : List (Option (Party V C R S))) (out : List (Slot V)) : Type 0 where
+  pub record HasCounts (d : DeskState (Slot V)) (parties : List (Option (Party V C R S))) (out : List (Slot V)) : Type 0 where
     pub going : d.going ≡ length (filter is_going parties)
     pub creations : d.creations ≡ length (filter is_creating parties)
     pub outside : d.outside ≡ length (filter_map prepared_by parties) + length out
 
   -- what is counted has its counts
-  pub counts_of : (d : DeskState V) (gets : List (Option (Getting V C R S))) (out : List (Slot V)) → IsCounted d gets out → HasCounts d (map party_of gets) out
+  pub counts_of : (d : DeskState (Slot V)) (gets : List (Option (Getting V C R S))) (out : List (Slot V)) → IsCounted d gets out → HasCounts d (map party_of gets) out
   counts_of d gets out k = record { going = k.going; creations = k.creations; outside = k.outside }
 
   -- a change of nothing that is counted
-  pub same_counted : (d d' : DeskState V) (gets : List (Option (Getting V C R S))) (out : List (Slot V)) → IsCounted d gets out
+  pub same_counted : (d d' : DeskState (Slot V)) (gets : List (Option (Getting V C R S))) (out : List (Slot V)) → IsCounted d gets out
       → d'.granted ≡ d.granted → d'.waiting ≡ d.waiting → d'.going ≡ d.going → d'.creations ≡ d.creations → d'.outside ≡ d.outside → IsCounted d' gets out
   same_counted d d' gets out k granted waiting going creations outside =
       record {
@@ -43,13 +43,13 @@ module _ {V C R S : Type 0} where
       }
 
   -- what is counted is counted after a grant
-  pub counted_settled : (d : DeskState V) (gets : List (Option (Getting V C R S))) (out : List (Slot V)) → IsCounted d gets out → IsCounted (settled d) gets out
+  pub counted_settled : (d : DeskState (Slot V)) (gets : List (Option (Getting V C R S))) (out : List (Slot V)) → IsCounted d gets out → IsCounted (settled d) gets out
   counted_settled d gets out k =
       record { tickets = owned-granting has_ticket (queue_of d) gets k.tickets (grants d); going = k.going; creations = k.creations; outside = k.outside; room = k.room }
 
 module _ {V C R S F A : Type 0} (runtime : Option Runtime) (hooks : HookLists F A) (timeouts : Timeouts) (first most : ℕ) where
   -- where the counts agree, the image of a settled desk is the image, settled
-  pub settles : (core : DeskState V) (gets : List (Option (Getting V C R S))) (out : List (Slot V)) → HasCounts core (map party_of gets) out
+  pub settles : (core : DeskState (Slot V)) (gets : List (Option (Getting V C R S))) (out : List (Slot V)) → HasCounts core (map party_of gets) out
       → image runtime hooks timeouts first most (settled core) gets out ≡ settle (image runtime hooks timeouts first most core gets out)
   settles core gets out k =
       let l1 : length (map (owner has_ticket gets) core.granted) ≡ length core.granted = length-map core.granted (owner has_ticket gets) in

@@ -60,14 +60,14 @@ module _ {V C R S : Type 0} where
   lasts x = cond (is_under_way x) 1 0
 
   -- the desk's counts change as those of the gets do where one of them changes
-  pub record Shifts (d d' : DeskState V) (old new : Option (Getting V C R S)) (out out' : List (Slot V)) : Type 0 where
+  pub record Shifts (d d' : DeskState (Slot V)) (old new : Option (Getting V C R S)) (out out' : List (Slot V)) : Type 0 where
     pub going : d'.going + goes old ≡ d.going + goes new
     pub creations : d'.creations + creates old ≡ d.creations + creates new
     pub outside : d'.outside + prepares old + length out ≡ d.outside + prepares new + length out'
     pub room : length out' + lasts new ≤ length out + lasts old
 
   -- so the counts stay those of the gets
-  pub IsCounted-set : (d d' : DeskState V) (gets : List (Option (Getting V C R S))) (n : ℕ) (old new : Option (Getting V C R S)) (out out' : List (Slot V))
+  pub IsCounted-set : (d d' : DeskState (Slot V)) (gets : List (Option (Getting V C R S))) (n : ℕ) (old new : Option (Getting V C R S)) (out out' : List (Slot V))
       → slice_get gets n ≡ Some old → IsCounted d gets out → Owns d' (set gets n new) → Shifts d d' old new out out' → IsCounted d' (set gets n new) out'
   IsCounted-set d d' gets n old new out out' h k o s =
       let e : map party_of (set gets n new) ≡ set (map party_of gets) n (party_of new) = map-set party_of gets n new in
@@ -86,11 +86,11 @@ module _ {V C R S : Type 0} where
 
 module _ {V C R S F A : Type 0} (runtime : Option Runtime) (hooks : HookLists F A) (timeouts : Timeouts) (first most : ℕ) where
   -- the pool that a desk, its gets and the objects out stand for
-  abbrev img : DeskState V → List (Option (Getting V C R S)) → List (Slot V) → Pool V C R S F A
+  abbrev img : DeskState (Slot V) → List (Option (Getting V C R S)) → List (Slot V) → Pool V C R S F A
   img = image runtime hooks timeouts first most
 
   -- the pool has as many places held as the desk
-  pub places-image : (d : DeskState V) (gets : List (Option (Getting V C R S))) (out : List (Slot V)) → IsCounted d gets out → pool_places (img d gets out) ≡ places d
+  pub places-image : (d : DeskState (Slot V)) (gets : List (Option (Getting V C R S))) (out : List (Slot V)) → IsCounted d gets out → pool_places (img d gets out) ≡ places d
   places-image d gets out k =
       let l : length (map (owner has_ticket gets) d.granted) ≡ length d.granted = length-map d.granted (owner has_ticket gets) in
       omega (arith, l, k.creations, k.outside, k.going)
@@ -104,9 +104,9 @@ abbrev pub put_off : {V C R S F A : Type 0} → ℕ → Option (Party V C R S) �
 put_off n party p = put n party (pool_unqueued n p)
 
 module _ {V C R S F A : Type 0} (runtime : Option Runtime) (hooks : HookLists F A) (timeouts : Timeouts) (first most : ℕ)
-    (d : DeskState V) (gets : List (Option (Getting V C R S))) (out : List (Slot V)) (o : Owns d gets) (n : ℕ) (old new : Option (Getting V C R S)) (h : slice_get gets n ≡ Some old) where
+    (d : DeskState (Slot V)) (gets : List (Option (Getting V C R S))) (out : List (Slot V)) (o : Owns d gets) (n : ℕ) (old new : Option (Getting V C R S)) (h : slice_get gets n ≡ Some old) where
   -- the pool with these gets
-  abbrev in_pool : DeskState V → List (Option (Getting V C R S)) → Pool V C R S F A
+  abbrev in_pool : DeskState (Slot V) → List (Option (Getting V C R S)) → Pool V C R S F A
   in_pool d' gets' = image runtime hooks timeouts first most d' gets' out
 
   -- the pool with another queue and other parties

@@ -31,7 +31,7 @@ use Rattle.deadpool.proofs.Advances.{from_creating, from_recycling, from_checkin
 -- memory: the allocator may find memory for the queue, and may find none
 module _ {V E C R S F A : Type 0} (may : May V E C R S F A) (memory : (found : Bool) → may Reserve found)
     (runtime : Option Runtime) (hooks : HookLists F A) (timeouts : Timeouts) (first most n : ℕ) (now : Moment)
-    (core core' : DeskState V) (gets : List (Option (Getting V C R S))) (out : List (Slot V)) where
+    (core core' : DeskState (Slot V)) (gets : List (Option (Getting V C R S))) (out : List (Slot V)) where
   -- the pool before
   abbrev pool : Pool V C R S F A
   pool = image runtime hooks timeouts first most core gets out

@@ -15,7 +15,7 @@ use Rattle.deadpool_managed.specs.declared.slot.Slot.{Slot}
 
 module _ {V C R S F A : Type 0} (runtime : Option Runtime) (hooks : HookLists F A) (timeouts : Timeouts) (first most : ℕ) where
   -- a desk's status is that of its image
-  pub stands : (core : DeskState V) (gets : List (Option (Getting V C R S))) (out : List (Slot V)) → IsCounted core gets out
+  pub stands : (core : DeskState (Slot V)) (gets : List (Option (Getting V C R S))) (out : List (Slot V)) → IsCounted core gets out
       → status_of core ≡ pool_status (image runtime hooks timeouts first most core gets out)
   stands core gets out k =
       let l1 = length-map core.granted (owner has_ticket gets) in

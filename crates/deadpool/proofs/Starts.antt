@@ -23,7 +23,7 @@ module _ {V C R S : Type 0} where
   with_newcomer t gets = gets ++ Some (newcomer t) ∷ []
 
   -- a get that is not yet polled is in no count
-  start_counted : (core : DeskState V) (gets : List (Option (Getting V C R S))) (out : List (Slot V)) → IsCounted core gets out → (t : Timeouts) → IsCounted core (with_newcomer t gets) out
+  start_counted : (core : DeskState (Slot V)) (gets : List (Option (Getting V C R S))) (out : List (Slot V)) → IsCounted core gets out → (t : Timeouts) → IsCounted core (with_newcomer t gets) out
   start_counted core gets out k t =
       let ps = map party_of gets in
       let new : Option (Party V C R S) = Some record { timeouts = t; standing = unpolled } in
@@ -43,7 +43,7 @@ module _ {V C R S : Type 0} where
 
 module _ {V C R S F A : Type 0} (runtime : Option Runtime) (hooks : HookLists F A) (timeouts : Timeouts) (first most : ℕ) where
   -- a new get is a new party in the image, and is counted
-  pub starts : (core : DeskState V) (gets : List (Option (Getting V C R S))) (out : List (Slot V)) → IsCounted core gets out → (t : Timeouts)
+  pub starts : (core : DeskState (Slot V)) (gets : List (Option (Getting V C R S))) (out : List (Slot V)) → IsCounted core gets out → (t : Timeouts)
       → (image runtime hooks timeouts first most core (gets ++ Some (newcomer t) ∷ []) out
       ≡ record (image runtime hooks timeouts first most core gets out) { parties = map party_of gets ++ Some (record { timeouts = t; standing = unpolled }) ∷ [] })
       × IsCounted core (gets ++ Some (newcomer t) ∷ []) out

@@ -12,7 +12,7 @@ use Rattle.deadpool_managed.specs.declared.slot.Slot.{Slot}
 use Rattle.deadpool.proofs.Settles.{settles, counts_of, counted_settled}
 use Rattle.deadpool_parts.proofs.Numbered.{length-without_numbered}
 
-module _ {V C R S : Type 0} (core : DeskState V) (gets : List (Option (Getting V C R S))) (out : List (Slot V)) (n : ℕ) (slot : Slot V) (k : IsCounted core gets out) (h : find_slot n out ≡ Some slot) where
+module _ {V C R S : Type 0} (core : DeskState (Slot V)) (gets : List (Option (Getting V C R S))) (out : List (Slot V)) (n : ℕ) (slot : Slot V) (k : IsCounted core gets out) (h : find_slot n out ≡ Some slot) where
   -- an object that is out has a place
   pub one_outside : (core.outside - 1) + 1 ≡ core.outside
   one_outside = omega (arith, k.outside, length-without_numbered slot_number n out slot h)
@@ -30,14 +30,14 @@ module _ {V C R S : Type 0} (core : DeskState V) (gets : List (Option (Getting V
       }
 
 module _ {V C R S F A : Type 0} (runtime : Option Runtime) (hooks : HookLists F A) (timeouts : Timeouts) (first most : ℕ)
-    (core core' : DeskState V) (gets : List (Option (Getting V C R S))) (out : List (Slot V)) (n : ℕ) (slot : Slot V) (k : IsCounted core gets out) (h : find_slot n out ≡ Some slot) where
+    (core core' : DeskState (Slot V)) (gets : List (Option (Getting V C R S))) (out : List (Slot V)) (n : ℕ) (slot : Slot V) (k : IsCounted core gets out) (h : find_slot n out ≡ Some slot) where
   -- an object that leaves the pool for good takes its place with it
   pub takes : core' ≡ settled (record core { outside = core.outside - 1 })
       → (image runtime hooks timeouts first most core' gets (without_slot n out) ≡ settle (record (image runtime hooks timeouts first most core gets out) { out = without_slot n out }))
       × IsCounted core' gets (without_slot n out)
   takes e =
       let counted = taken_counted core gets out n slot k h core.idle in
-      let core1 : DeskState V = record core { outside = core.outside - 1 } in
+      let core1 : DeskState (Slot V) = record core { outside = core.outside - 1 } in
       rw e (
         settles runtime hooks timeouts first most core1 gets (without_slot n out) (counts_of core1 gets (without_slot n out) counted),
         counted_settled core1 gets (without_slot n out) counted,

@@ -1,18 +1,19 @@
 -- The gets that a queue's tickets stand for, where the queue is a desk's.
 use Rattle.std.proofs.Common.{◌≡◌, ℕ, List, ◌∷◌, [], ◌++◌, false, eqb, Option}
 use Rattle.deadpool_parts.specs.Owners.{IsOwned}
+use Rattle.deadpool_managed.specs.declared.slot.Slot.{Slot}
 use Rattle.deadpool_managed.specs.DeskState.{DeskState}
 use Rattle.deadpool_managed.specs.Stages.{Getting}
 use Rattle.deadpool.specs.Image.{has_ticket, queue_of}
 
 module _ {V : Type 0} where
   -- the queue with one more ticket
-  abbrev pub queueing : ℕ → DeskState V → DeskState V
+  abbrev pub queueing : ℕ → DeskState (Slot V) → DeskState (Slot V)
   queueing t d = record d { waiting = d.waiting ++ t ∷ [] }
 
 module _ {V C R S : Type 0} where
   -- the tickets of a desk's queue are those of the gets, one each
-  abbrev pub Owns : DeskState V → List (Option (Getting V C R S)) → Type 0
+  abbrev pub Owns : DeskState (Slot V) → List (Option (Getting V C R S)) → Type 0
   Owns d gets = IsOwned has_ticket (queue_of d) gets
 
   -- the get has no ticket
@@ -24,5 +25,5 @@ module _ {V C R S : Type 0} where
   OneTicket t x = (u : ℕ) → has_ticket u x ≡ eqb t u
 
   -- a desk with the same queue
-  pub owned-same : (d d' : DeskState V) (gets : List (Option (Getting V C R S))) → Owns d gets → d'.granted ≡ d.granted → d'.waiting ≡ d.waiting → Owns d' gets
+  pub owned-same : (d d' : DeskState (Slot V)) (gets : List (Option (Getting V C R S))) → Owns d gets → d'.granted ≡ d.granted → d'.waiting ≡ d.waiting → Owns d' gets
   owned-same d d' gets o granted waiting = rw (granted, waiting) o

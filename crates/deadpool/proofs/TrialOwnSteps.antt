@@ -37,7 +37,7 @@ zero_is : (n : ℕ) → n ≡ 0 → (n == 0) ≡ true
 zero_is n h = grind (arith, nat_tests)
 
 module _ {V E C R S F A : Type 0} (may : May V E C R S F A) (memory : (found : Bool) → may Reserve found) (runtime : Option Runtime) (hooks : HookLists F A) (timeouts : Timeouts) (first most : ℕ)
-    (core core' : DeskState V) (gets : List (Option (Getting V C R S))) (out : List (Slot V)) (counted : IsCounted core gets out) where
+    (core core' : DeskState (Slot V)) (gets : List (Option (Getting V C R S))) (out : List (Slot V)) (counted : IsCounted core gets out) where
   abbrev before : Pool V C R S F A
   before = image runtime hooks timeouts first most core gets out
 
@@ -87,9 +87,9 @@ module _ {V E C R S F A : Type 0} (may : May V E C R S F A) (memory : (found : B
             (Gives-same may _ (resizing n false true) _ (ap (λ b. resizing n b core.is_open) some ∙ ap (resizing n false) open_) (grows n (nat_lt before.reserve n) all.0), all.1)
         | inr closed_ ↦
             let is : core' ≡ core = r ∙ ap (λ b. cond b (resized_core n core) core) closed_ in
-            let same : before ≡ after = ap (λ (d : DeskState V). image runtime hooks timeouts first most d gets out) (sym is) in (
+            let same : before ≡ after = ap (λ (d : DeskState (Slot V)). image runtime hooks timeouts first most d gets out) (sym is) in (
               Gives-same may _ (resizing n false false) _ (ap (λ b. resizing n b core.is_open) some ∙ ap (resizing n false) closed_) (ap (λ (q : Pool V C R S F A). (reply.Done, q)) same),
-              subst (λ (d : DeskState V). IsCounted d gets out) (sym is) counted,
+              subst (λ (d : DeskState (Slot V)). IsCounted d gets out) (sym is) counted,
             )
       ]
 
@@ -97,10 +97,10 @@ module _ {V E C R S F A : Type 0} (may : May V E C R S F A) (memory : (found : B
   pub resized_err : (n : ℕ) (e : _) → (core.handles == 0) ≡ false → Resizes core n (Err e) core' → Gives may (moved (move.Resize n) before) (reply.OutOfMemory, after) × IsCounted core' gets out
   resized_err n e some r =
       let more : nat_lt before.reserve n ≡ true = grind (arith, nat_tests, r.1) in
-      let same : before ≡ after = ap (λ (d : DeskState V). image runtime hooks timeouts first most d gets out) (sym r.2) in (
+      let same : before ≡ after = ap (λ (d : DeskState (Slot V)). image runtime hooks timeouts first most d gets out) (sym r.2) in (
         Gives-same may _ (resizing n false true) _ (ap (λ b. resizing n b core.is_open) some ∙ ap (resizing n false) r.0)
             (rw more (false, (memory false, ap (λ (q : Pool V C R S F A). (reply.OutOfMemory, q)) same))),
-        subst (λ (d : DeskState V). IsCounted d gets out) (sym r.2) counted,
+        subst (λ (d : DeskState (Slot V)). IsCounted d gets out) (sym r.2) counted,
       )
 
   -- a step of the owner, who has a handle or not
@@ -116,8 +116,8 @@ module _ {V E C R S F A : Type 0} (may : May V E C R S F A) (memory : (found : B
   -- nothing has changed for one who has no handle
   unchanged : (step : Pool V C R S F A → Reply V E × Pool V C R S F A) → core.handles ≡ 0 → core' ≡ core → Gives may (Return (by_handle step before)) (reply.NoHandle, after) × IsCounted core' gets out
   unchanged step none same = (
-    owned step true (reply.NoHandle, after) (zero_is core.handles none) (ap (λ (d : DeskState V). (reply.NoHandle, image runtime hooks timeouts first most d gets out)) (sym same)),
-    subst (λ (d : DeskState V). IsCounted d gets out) (sym same) counted,
+    owned step true (reply.NoHandle, after) (zero_is core.handles none) (ap (λ (d : DeskState (Slot V)). (reply.NoHandle, image runtime hooks timeouts first most d gets out)) (sym same)),
+    subst (λ (d : DeskState (Slot V)). IsCounted d gets out) (sym same) counted,
   )
 
   cloned_ok : Clones core handle.Done core' → Gives may (moved move.Clone before) (reply.Done, after) × IsCounted core' gets out
@@ -150,6 +150,6 @@ module _ {V E C R S F A : Type 0} (may : May V E C R S F A) (memory : (found : B
       let all = clones runtime hooks timeouts first most core core' gets out counted u.1 in
       (ap (λ c. cond c (reply.Upgraded false, before) (reply.Upgraded true, cloned before)) (above_zero core.handles u.0) ∙ ap (λ (q : Pool V C R S F A). (reply.Upgraded true, q)) (sym all.0), all.1)
   upgraded false u = (
-    ap (λ c. cond c (reply.Upgraded false, before) (reply.Upgraded true, cloned before)) (zero_is core.handles u.0) ∙ ap (λ (d : DeskState V). (reply.Upgraded false, image runtime hooks timeouts first most d gets out)) (sym u.1),
-    subst (λ (d : DeskState V). IsCounted d gets out) (sym u.1) counted,
+    ap (λ c. cond c (reply.Upgraded false, before) (reply.Upgraded true, cloned before)) (zero_is core.handles u.0) ∙ ap (λ (d : DeskState (Slot V)). (reply.Upgraded false, image runtime hooks timeouts first most d gets out)) (sym u.1),
+    subst (λ (d : DeskState (Slot V)). IsCounted d gets out) (sym u.1) counted,
   )

@@ -14,7 +14,7 @@ use Rattle.deadpool_managed.specs.HookLists.{HookLists}
 use Rattle.deadpool.specs.Pool.{Pool, Party, opened}
 use Rattle.deadpool.specs.Moves.{moved}
 use Rattle.deadpool.specs.Laws.{IsLawful, is_queued}
-use Rattle.deadpool.specs.RunLaws.{numbers, IsNumbered, IsWell, CountsOn, Succeeds, sets_limit, named, may_leave, OthersStayInPool, OthersStayQueued, OthersStand}
+use Rattle.deadpool.specs.RunLaws.{numbers, IsNumbered, IsWell, CountsOn, Succeeds, sets_limit, named, may_leave, OthersStayInPool, OthersStayQueued, OthersStand, KeepsFloor}
 use Rattle.deadpool_managed.specs.declared.slot.Slot.{Slot}
 use Rattle.deadpool.specs.declared.replay.moves.Move.{Move}
 use Rattle.deadpool.specs.declared.replay.moves.Reply.{Reply}
@@ -125,10 +125,10 @@ module _ {V C R S F A : Type 0} where
       )
 
   -- a new pool is well
-  pub opened_well : (limit : ℕ) (mode : QueueMode) (runtime : Option Runtime) (hooks : HookLists F A) (timeouts : Timeouts) (first most : ℕ)
-      → IsWell (opened {V = V} {C = C} {R = R} {S = S} limit mode runtime hooks timeouts first most)
-  opened_well limit mode runtime hooks timeouts first most = record {
-    lawful = opened_lawful limit mode runtime hooks timeouts first most;
+  pub opened_well : (limit : ℕ) (mode : QueueMode) (runtime : Option Runtime) (hooks : HookLists F A) (timeouts : Timeouts) (first most floor : ℕ)
+      → IsWell (opened {V = V} {C = C} {R = R} {S = S} limit mode runtime hooks timeouts first most floor)
+  opened_well limit mode runtime hooks timeouts first most floor = record {
+    lawful = opened_lawful limit mode runtime hooks timeouts first most floor;
     few_idle = omega arith;
     closed = λ shut. cc;
     numbered = record { once = tt; given = λ n h. cc; rising = omega arith };
@@ -157,6 +157,10 @@ module _ {V C R S F A : Type 0} (E : Type 0) (m : Move V) (p : Pool V C R S F A)
   -- the limit is as it was, unless the move may set one
   pub moved_limit : IsLawful p → sets_limit m ≡ false → Always (λ x. x.1.limit ≡ p.limit) (moved {E = E} m p)
   moved_limit l same = follows_well (λ (x : Reply V E × Pool V C R S F A). x.1.limit ≡ p.limit) m p l (λ x h. h.1.limit same)
+
+  -- how many objects are to stay idle is as it was
+  pub moved_floor : IsLawful p → Always (λ x. KeepsFloor m p x.1) (moved {E = E} m p)
+  moved_floor l = follows_well (λ (x : Reply V E × Pool V C R S F A). KeepsFloor m p x.1) m p l (λ x h. h.1.floor)
 
   -- nobody but the party that the move names leaves the queue
   pub moved_queue : IsLawful p → Always (λ x. OthersStayQueued m p x.1) (moved {E = E} m p)

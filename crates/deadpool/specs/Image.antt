@@ -15,7 +15,7 @@ use Rattle.deadpool_managed.specs.declared.get.Stage.TheVariants as stage
 
 module _ {V : Type 0} where
   -- a desk's queue
-  abbrev pub queue_of : DeskState V → Queue
+  abbrev pub queue_of : DeskState (Slot V) → Queue
   queue_of d = record { granted = d.granted; waiting = d.waiting }
 
 module _ {V C R S : Type 0} where
@@ -51,7 +51,7 @@ module _ {V C R S : Type 0} where
       not_finished _ = true
 
   -- The desk's counts are the lengths of the lists, and the objects out have room where the parties have theirs.
-  pub record IsCounted (d : DeskState V) (gets : List (Option (Getting V C R S))) (out : List (Slot V)) : Type 0 where
+  pub record IsCounted (d : DeskState (Slot V)) (gets : List (Option (Getting V C R S))) (out : List (Slot V)) : Type 0 where
     pub tickets : IsOwned has_ticket (queue_of d) gets
     pub going : d.going ≡ length (filter is_going (map party_of gets))
     pub creations : d.creations ≡ length (filter is_creating (map party_of gets))
@@ -59,13 +59,14 @@ module _ {V C R S : Type 0} where
     pub room : length out + length (filter is_under_way gets) ≤ length gets
 
 module _ {V C R S F A : Type 0} (runtime : Option Runtime) (hooks : HookLists F A) (timeouts : Timeouts) (first most : ℕ) where
-  abbrev pub image : DeskState V → List (Option (Getting V C R S)) → List (Slot V) → Pool V C R S F A
+  abbrev pub image : DeskState (Slot V) → List (Option (Getting V C R S)) → List (Slot V) → Pool V C R S F A
   image d gets out = record {
     limit = d.limit;
     is_open = d.is_open;
     mode = d.mode;
     runtime = runtime;
     hooks = hooks;
+    floor = d.floor;
     handles = d.handles;
     first = first;
     next = d.next;

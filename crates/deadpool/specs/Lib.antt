@@ -8,6 +8,7 @@ pub mod Replay
 pub mod RunLaws
 pub mod Script
 pub mod ScriptsFirstPath
+pub mod ScriptsMinIdle
 pub mod ScriptsOwnSteps
 pub mod ScriptsPreparation
 pub mod ScriptsTimeouts

@@ -1,13 +1,12 @@
 -- Moves, and the runs of a managed pool.
-use Rattle.std.specs.Prelude.{◌≡◌, ℕ, ◌<◌, ◌≤◌, Bool, true, false, List, [], ◌∷◌, ◌++◌, length, Option, Some, None, if◌then◌else◌, nat_lt, nat_le, not, ◌==◌, slice_get, unwrap_or, max}
-use Rattle.std.specs.List.{filter}
+use Rattle.std.specs.Prelude.{◌≡◌, ℕ, ◌-◌, ◌<◌, ◌≤◌, ◌||◌, Bool, true, false, List, [], ◌∷◌, ◌++◌, length, Option, Some, None, if◌then◌else◌, nat_lt, nat_le, not, ◌==◌, slice_get, unwrap_or, max}
 use Rattle.deadpool_parts.specs.Numbers.{has_number}
 use Rattle.deadpool_parts.specs.Program.{Return, ask, ◌>>=◌, Gives}
 use Rattle.deadpool_parts.specs.Runs.{Runs}
 use Rattle.deadpool_parts.specs.declared.moment.Moment.{Moment}
 use Rattle.deadpool_parts.specs.declared.config.Timeouts.{Timeouts}
 use Rattle.deadpool_managed.specs.Outside.{Asking, May, Detach, Reserve}
-use Rattle.deadpool.specs.Pool.{Pool, Party, unpolled, places, size, reach, settle, status_of}
+use Rattle.deadpool.specs.Pool.{Pool, Party, unpolled, places, size, least_idle, reach, settle, status_of}
 use Rattle.deadpool.specs.Steps.{find_slot, without_slot, with_put, resized, closed, cloned, handle_dropped}
 use Rattle.deadpool.specs.Party.{advance, cancel}
 use Rattle.deadpool_managed.specs.declared.slot.Slot.{Slot}
@@ -20,6 +19,17 @@ module _ {V E : Type 0} where
   abbrev pub is_more : Reply V E → Bool
   is_more reply.More = true
   is_more _ = false
+
+module _ {V : Type 0} where
+  -- While so many are idle, and this least number is to be, an object stays that has one of the numbers, and any where no more
+  -- are idle than that.
+  abbrev pub stays : List ℕ → ℕ → ℕ → Slot V → Bool
+  stays kept least idle slot = has_number slot.number kept || nat_le idle least
+
+  -- those that stay of some idle objects, front to back. One that goes leaves one fewer idle for those after it.
+  abbrev pub staying : List ℕ → ℕ → ℕ → List (Slot V) → List (Slot V)
+  staying kept least idle [] = []
+  staying kept least idle (s ∷ ss) = if stays kept least idle s then s ∷ staying kept least idle ss else staying kept least (idle - 1) ss
 
 module _ {V E C R S F A : Type 0} where
   -- a step of the pool's owner, who needs a handle
@@ -65,21 +75,22 @@ module _ {V E C R S F A : Type 0} where
       else if nat_lt p.reserve n then (ask Reserve >>= λ found. Return (if found then (reply.Done, resized n p) else (reply.OutOfMemory, p)))
       else Return (reply.Done, resized n p)
 
-  -- the values of those that are not kept, in order, as they were left
-  abbrev pub give_up : List ℕ → List (Slot V) → Asking V E C R S F A (List V)
-  give_up kept [] = Return []
-  give_up kept (s ∷ ss) =
-      if has_number s.number kept then give_up kept ss
-      else (ask (Detach s.value) >>= λ v. give_up kept ss >>= λ vs. Return (v ∷ vs))
+  -- the values of those that go, in order, as they were left
+  abbrev pub give_up : List ℕ → ℕ → ℕ → List (Slot V) → Asking V E C R S F A (List V)
+  give_up kept least idle [] = Return []
+  give_up kept least idle (s ∷ ss) =
+      if stays kept least idle s then give_up kept least idle ss
+      else (ask (Detach s.value) >>= λ v. give_up kept least (idle - 1) ss >>= λ vs. Return (v ∷ vs))
 
   -- what follows where memory was found for the list of values, or not
   abbrev pub retain_with : List ℕ → Pool V C R S F A → Bool → Asking V E C R S F A (Reply V E × Pool V C R S F A)
   retain_with kept p false = Return (reply.OutOfMemory, p)
   retain_with kept p true =
-      let left = filter (λ s. has_number s.number kept) p.idle in
-      give_up kept p.idle >>= λ gone. Return (reply.Retained record { retained = length left; removed = gone }, record p { idle = left })
+      let least = least_idle p.limit p in
+      let left = staying kept least (length p.idle) p.idle in
+      give_up kept least (length p.idle) p.idle >>= λ gone. Return (reply.Retained record { retained = length left; removed = gone }, record p { idle = left })
 
-  -- Of the idle objects those with these numbers are kept.
+  -- Of the idle objects those with these numbers are kept. The others go, front to back, down to the least that stay idle.
   abbrev pub retain : List ℕ → Pool V C R S F A → Asking V E C R S F A (Reply V E × Pool V C R S F A)
   retain kept p =
       if p.handles == 0 then Return (reply.NoHandle, p)

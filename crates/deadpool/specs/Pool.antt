@@ -39,11 +39,13 @@ pub record Pool (V C R S F A : Type 0) : Type 0 where
   pub mode : QueueMode
   pub runtime : Option Runtime
   pub hooks : HookLists F A
+  -- how many objects a smaller limit and a retain leave idle, if as many are
+  pub floor : ℕ
   pub handles : ℕ
   -- the number that the first object got, and the one that the next object gets
   pub first : ℕ
   pub next : ℕ
-  -- the greatest of 1 and every limit so far
+  -- the largest limit that there was, and at least 1
   pub reserve : ℕ
   -- the configured ones
   pub timeouts : Timeouts
@@ -89,14 +91,15 @@ module _ {V C R S : Type 0} where
 
 module _ {V C R S F A : Type 0} where
   -- a new pool: nothing idle or asked for, and one handle
-  abbrev pub opened : ℕ → QueueMode → Option Runtime → HookLists F A → Timeouts → ℕ → ℕ → Pool V C R S F A
-  opened limit mode runtime hooks timeouts first most_parties =
+  abbrev pub opened : ℕ → QueueMode → Option Runtime → HookLists F A → Timeouts → ℕ → ℕ → ℕ → Pool V C R S F A
+  opened limit mode runtime hooks timeouts first most_parties floor =
       record {
         limit = limit;
         is_open = true;
         mode = mode;
         runtime = runtime;
         hooks = hooks;
+        floor = floor;
         handles = 1;
         first = first;
         next = first;
@@ -127,6 +130,10 @@ module _ {V C R S F A : Type 0} where
   -- objects of the pool
   abbrev pub size : Pool V C R S F A → ℕ
   size p = length p.idle + (length (preparing p) + length p.out)
+
+  -- how many objects stay idle at this limit, if as many are
+  abbrev pub least_idle : ℕ → Pool V C R S F A → ℕ
+  least_idle n p = min p.floor n
 
   -- gets that were polled and hold no object
   abbrev pub pending : Pool V C R S F A → ℕ

@@ -1,5 +1,5 @@
 -- What is true of every state of every run, and of each two neighbours in it.
-use Rattle.std.specs.Prelude.{◌≡◌, ℕ, ◌+◌, ◌-◌, not, ◌==◌, take, ◌<◌, ◌≤◌, ◌≢◌, Bool, true, false, List, [], ◌∷◌, ◌++◌, length, map, ⊤, Option, Some, None, if◌then◌else◌, is_some, slice_get}
+use Rattle.std.specs.Prelude.{◌≡◌, ℕ, ◌+◌, ◌-◌, not, ◌==◌, take, min, ◌<◌, ◌≤◌, ◌≢◌, Bool, true, false, List, [], ◌∷◌, ◌++◌, length, map, ⊤, Option, Some, None, if◌then◌else◌, is_some, slice_get}
 use Rattle.std.specs.List.{filter, filter_map}
 use Rattle.deadpool_parts.specs.Numbers.{has_number}
 use Rattle.deadpool_parts.specs.Orders.{IsOnce, KeepsOrder}
@@ -9,7 +9,8 @@ use Rattle.deadpool_parts.specs.declared.config.Timeouts.{Timeouts}
 use Rattle.deadpool_parts.specs.declared.moment.Runtime.{Runtime}
 use Rattle.deadpool_managed.specs.HookLists.{HookLists}
 use Rattle.deadpool_managed.specs.Outside.{May}
-use Rattle.deadpool.specs.Pool.{Pool, Party, opened, is_going, is_creating, prepared_by, preparing, size, reach}
+use Rattle.deadpool.specs.Pool.{Pool, Party, opened, is_going, is_creating, prepared_by, preparing, size, least_idle, reach}
+use Rattle.deadpool.specs.Steps.{given_up}
 use Rattle.deadpool.specs.Moves.{Makes, PoolRuns}
 use Rattle.deadpool.specs.Laws.{IsLawful, queue}
 use Rattle.deadpool_managed.specs.declared.slot.Slot.{Slot}
@@ -72,7 +73,7 @@ module _ {V C R S F A : Type 0} where
   abbrev pub NoneReturns : Pool V C R S F A → Pool V C R S F A → Type 0
   NoneReturns p q = (n : ℕ) → n < p.next → has_number n (numbers p) ≡ false → has_number n (numbers q) ≡ false
 
-  -- the queue changes only by removals, and by one party at its end
+  -- some leave the queue, and at most one party joins it, at its end
   abbrev pub KeepsQueue : Pool V C R S F A → Pool V C R S F A → Type 0
   KeepsQueue p q = KeepsOrder (queue p) (queue q)
 
@@ -83,8 +84,8 @@ module _ {V C R S F A : Type 0} where
 
 -- a new pool is well
 abbrev pub OpensWell : (V C R S F A : Type 0) → Type 0
-OpensWell V C R S F A = (limit : ℕ) (mode : QueueMode) (runtime : Option Runtime) (hooks : HookLists F A) (timeouts : Timeouts) (first most : ℕ)
-    → IsWell (opened {V = V} {C = C} {R = R} {S = S} limit mode runtime hooks timeouts first most)
+OpensWell V C R S F A = (limit : ℕ) (mode : QueueMode) (runtime : Option Runtime) (hooks : HookLists F A) (timeouts : Timeouts) (first most floor : ℕ)
+    → IsWell (opened {V = V} {C = C} {R = R} {S = S} limit mode runtime hooks timeouts first most floor)
 
 -- the move may give the pool another limit
 abbrev pub sets_limit : {V : Type 0} → Move V → Bool
@@ -136,7 +137,7 @@ module _ {V C R S F A : Type 0} where
   may_leave (move.Put n v) p = []
   may_leave (move.Back n) p = filter (λ slot. slot.number == n) p.out
   may_leave (move.Take n) p = filter (λ slot. slot.number == n) p.out
-  may_leave (move.Resize n) p = take (size p - n) p.idle
+  may_leave (move.Resize n) p = take (given_up n p) p.idle
   may_leave (move.Retain kept) p = filter (λ slot. not (has_number slot.number kept.items)) p.idle
   may_leave move.Close p = p.idle
   may_leave move.Clone p = []
@@ -155,6 +156,16 @@ module _ {V C R S F A : Type 0} where
   -- every other party is as it was
   abbrev pub OthersStand : Move V → Pool V C R S F A → Pool V C R S F A → Type 0
   OthersStand m p q = (n : ℕ) (party : Option (Party V C R S)) → named m ≢ Some n → slice_get p.parties n ≡ Some party → slice_get q.parties n ≡ Some party
+
+  -- how many objects are to stay idle is as it was
+  abbrev pub KeepsFloor : Move V → Pool V C R S F A → Pool V C R S F A → Type 0
+  KeepsFloor m p q = q.floor ≡ p.floor
+
+  -- a resize and a retain leave as many idle as are to stay at the limit after them, if as many were
+  abbrev pub LeavesEnough : Move V → Pool V C R S F A → Pool V C R S F A → Type 0
+  LeavesEnough (move.Resize n) p q = min (length p.idle) (least_idle q.limit p) ≤ length q.idle
+  LeavesEnough (move.Retain kept) p q = min (length p.idle) (least_idle q.limit p) ≤ length q.idle
+  LeavesEnough _ p q = ⊤
 
 module _ {V E C R S F A : Type 0} where
   -- the object that is given is out

@@ -1,8 +1,8 @@
 -- Scripts: what is done to a managed pool, line by line, and the reply to each line. The manager and the hooks answer by words
 -- that the script gives them.
 --
--- The values are numbers. The pool has one hook that may be pending in each of its three lists, and no state of a creation, of
--- a recycling or of a hook says anything.
+-- The values are numbers. Each of the pool's three lists has one hook, which may be pending, and no state of a creation, of a
+-- recycling or of a hook says anything.
 use Rattle.std.specs.Prelude.{◌≡◌, ℕ, zero, suc, ◌+◌, ◌/◌, ◌%◌, min, Bool, true, List, [], ◌∷◌, ◌++◌, map, Option, Some, None, Result, Ok, Err, if◌then◌else◌, codes}
 use Rattle.std.specs.Option.{option_map}
 use Rattle.std.specs.declared.alloc.Global.{Global}
@@ -271,11 +271,15 @@ upgraded found = plain (reply.Upgraded found)
 -- ---- how it is played
 
 -- no timeouts are configured
-abbrev pub new_pool : ℕ → QueueMode → Option Runtime → ℕ → ScriptPool
-new_pool limit mode runtime first =
+abbrev pub new_pool_with_floor : ℕ → QueueMode → Option Runtime → ℕ → ℕ → ScriptPool
+new_pool_with_floor limit mode runtime first floor =
     opened limit mode runtime
     (record { pre_recycle = AsyncFn PreRecycle ∷ []; post_recycle = AsyncFn PostRecycle ∷ []; post_create = AsyncFn PostCreate ∷ [] })
-    (timeouts_of None None None) first 1024
+    (timeouts_of None None None) first 1024 floor
+
+-- no object has to stay idle
+abbrev pub new_pool : ℕ → QueueMode → Option Runtime → ℕ → ScriptPool
+new_pool limit mode runtime first = new_pool_with_floor limit mode runtime first 0
 
 -- a reply with the pool after it, and the script after that
 abbrev pub Played : Type 0

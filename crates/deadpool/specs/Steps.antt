@@ -6,7 +6,7 @@ use Rattle.deadpool_parts.specs.declared.errors.PoolError.{PoolError}
 use Rattle.deadpool_parts.specs.declared.errors.PoolError.TheVariants.{NumbersExhausted}
 use Rattle.deadpool_managed.specs.Calls.{start}
 use Rattle.deadpool_managed.specs.DeskState.{next_idle, other_idle}
-use Rattle.deadpool.specs.Pool.{Pool, Party, Standing, going, creating, recycling, finished, creating_count, size, settle}
+use Rattle.deadpool.specs.Pool.{Pool, Party, Standing, going, creating, recycling, finished, creating_count, size, least_idle, settle}
 use Rattle.deadpool_managed.specs.declared.slot.Slot.{Slot}
 use Rattle.deadpool_managed.specs.declared.prepare.Preparation.TheVariants.{PreRecycle}
 use Rattle.deadpool.specs.declared.replay.moves.Reply.{Reply}
@@ -50,9 +50,13 @@ module _ {V C R S F A : Type 0} where
   abbrev pub removed : ℕ → Pool V C R S F A → Pool V C R S F A
   removed n p = settle (record (unqueued n p) { parties = slice_set p.parties n None })
 
-  -- a smaller limit gives up the idle from the front while there are too many objects
+  -- how many idle objects are given up for another limit: as many as are above it, of those that need not stay
+  abbrev pub given_up : ℕ → Pool V C R S F A → ℕ
+  given_up n p = min (size p - n) (length p.idle - least_idle n p)
+
+  -- a smaller limit gives up idle objects from the front
   abbrev pub resized : ℕ → Pool V C R S F A → Pool V C R S F A
-  resized n p = settle (record p { limit = n; reserve = max p.reserve n; idle = drop (min (length p.idle) (size p - n)) p.idle })
+  resized n p = settle (record p { limit = n; reserve = max p.reserve n; idle = drop (given_up n p) p.idle })
 
   abbrev pub closed : Pool V C R S F A → Pool V C R S F A
   closed p = record (resized 0 p) { is_open = false }

@@ -37,13 +37,13 @@ module _ {V E : Type 0} where
 
 module _ {V : Type 0} where
   -- the pool knew of the object
-  abbrev pub IsTaken : BackReply V → Type 0
+  abbrev pub IsTaken : BackReply (Slot V) → Type 0
   IsTaken (back.Unknown slot) = ⊥
   IsTaken _ = ⊤
 
 module _ {V E C R S F A : Type 0} where
   -- one that is given up is detached
-  abbrev pub reply_to_back : BackReply V → Asking V E C R S F A (Reply V E)
+  abbrev pub reply_to_back : BackReply (Slot V) → Asking V E C R S F A (Reply V E)
   reply_to_back back.Kept = Return reply.Kept
   reply_to_back (back.Dropped slot) = Return reply.Dropped
   reply_to_back (back.Detach slot) = ask (Detach slot.value) >>= λ left. Return reply.Detached

@@ -1,4 +1,5 @@
 pub mod CoreDesk
+pub mod CorePolls
 pub mod CoreQueue
 pub mod FirstPoll
 pub mod FirstPollAtOnce
@@ -8,3 +9,4 @@ pub mod HookLists
 pub mod IdleLists
 pub mod Polls
 pub mod Reviewing
+pub mod StaysSettled

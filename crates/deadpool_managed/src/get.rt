@@ -8,6 +8,8 @@ ghost use Rattle.deadpool_managed.specs.Bounds.{lacks_allowance, Falls, IsNewObj
 ghost use Rattle.deadpool_managed.specs.Answers.{IfReadyOk};
 ghost use Rattle.deadpool_managed.specs.Outside.{may};
 ghost use Rattle.deadpool_managed.specs.Get.{Made, Makes, AdvancesFrom, AfterServing, AfterEntered, AfterAsked, AfterGoingOn, AfterNumbered, AfterCreation, AdvancesCreation, IfReadyObject, PollsOver, CancelsFrom, GivesUp, deadline_of, ended_by};
+ghost use Rattle.deadpool_managed.specs.Held.{is_going, held_at, held_after, held_if_entered, held_if_asked, held_if_gone_on, held_if_created, held_if_served, held_as};
+ghost use Rattle.deadpool_managed.specs.declared.desk.Holding.{Holding};
 ghost use Rattle.deadpool_managed.specs.Prepare.{IsReadyPreparation};
 ghost use Rattle.deadpool_parts.specs.declared.replies.StepReply.{StepReply};
 ghost use Rattle.deadpool_managed.specs.declared.get.Stage.TheVariants.{Unpolled, Queued, Going, Creating, Recycling, Checking};
@@ -94,6 +96,13 @@ impl<M: Manager + Drop, A: AsyncHook<M> + Drop> GetState<M, A> {
         }
     }
 
+    /// Whether the get has a place and goes on at its next poll, with nothing to wait for.
+    pub fn is_going(&self) -> bool
+        ensures { result ≡ is_going self.now.stage }
+    {
+        matches!(&self.stage, Stage::Going(_))
+    }
+
     /// One step of the get, with at most one step at the desk. A get that has ended stays pending.
     pub fn advance<F: SyncHook<M> + Drop, D: Desk<M::Type>>(
         &mut self,
@@ -102,11 +111,13 @@ impl<M: Manager + Drop, A: AsyncHook<M> + Drop> GetState<M, A> {
         now: Moment,
         cx: &mut Context<'_>,
     ) -> Turn<M::Type, M::Error>
+        requires { D.holds desk.old (held_at self.old.stage) }
         ensures advanced { (made : Made M.Type) × (Makes D.Desk desk.old made desk.new × AdvancesFrom (may M.Manager F.SyncHook A.AsyncHook environment.now.manager) environment.now.runtime environment.now.hooks now self.old.timeouts self.old.stage made self.new.stage result) }
         ensures timeouts { self.new.timeouts ≡ self.old.timeouts }
         ensures falls { result ≡ Turn.More → Falls self.old.stage self.new.stage }
         ensures ready { IfReadyObject M.is_ready result }
         ensures kept { Keeps cx.old cx.new }
+        ensures holds { D.holds desk.new (held_after self.new.stage result) }
     {
         match mem::replace(&mut self.stage, Stage::Finished) {
             Stage::Unpolled => self.enter(desk, environment, now),
@@ -151,10 +162,12 @@ impl<M: Manager + Drop, A: AsyncHook<M> + Drop> GetState<M, A> {
         environment: &Environment<M, F, A>,
         now: Moment,
     ) -> Turn<M::Type, M::Error>
-        requires { self.old.stage ≡ Stage.Finished }
+        requires finished { self.old.stage ≡ Stage.Finished }
+        requires holds { D.holds desk.old Holding.Nothing }
         ensures advanced { (made : Made M.Type) × (Makes D.Desk desk.old made desk.new × AdvancesFrom (may M.Manager F.SyncHook A.AsyncHook environment.now.manager) environment.now.runtime environment.now.hooks now self.old.timeouts Unpolled made self.new.stage result) }
         ensures timeouts { self.new.timeouts ≡ self.old.timeouts }
         ensures ready { IfReadyObject M.is_ready result }
+        ensures holds { D.holds desk.new (held_after self.new.stage result) }
     {
         let wait = self.timeouts.wait;
         if cannot_wait(environment.runtime, wait) {
@@ -165,10 +178,11 @@ impl<M: Manager + Drop, A: AsyncHook<M> + Drop> GetState<M, A> {
         self.after_entered(deadline, reply)
     }
 
-    fn after_serving(&mut self, serving: Serving<M::Type>) -> Turn<M::Type, M::Error>
+    fn after_serving(&mut self, serving: Serving<Slot<M::Type>>) -> Turn<M::Type, M::Error>
         requires { self.old.stage ≡ Stage.Finished }
         ensures after { AfterServing serving self.new.stage result }
         ensures timeouts { self.new.timeouts ≡ self.old.timeouts }
+        ensures holds { held_after self.new.stage result ≡ held_if_served serving }
     {
         match serving {
             Serving::Object(slot, left) => {
@@ -191,11 +205,12 @@ impl<M: Manager + Drop, A: AsyncHook<M> + Drop> GetState<M, A> {
     fn after_entered(
         &mut self,
         deadline: Option<Moment>,
-        reply: EnterReply<M::Type>,
+        reply: EnterReply<Slot<M::Type>>,
     ) -> Turn<M::Type, M::Error>
         requires { self.old.stage ≡ Stage.Finished }
         ensures after { AfterEntered deadline reply self.new.stage result }
         ensures timeouts { self.new.timeouts ≡ self.old.timeouts }
+        ensures holds { held_after self.new.stage result ≡ held_if_entered reply }
     {
         match reply {
             EnterReply::Served(serving) => self.after_serving(serving),
@@ -213,11 +228,12 @@ impl<M: Manager + Drop, A: AsyncHook<M> + Drop> GetState<M, A> {
         &mut self,
         ticket: Ticket,
         deadline: Option<Moment>,
-        reply: AskReply<M::Type>,
+        reply: AskReply<Slot<M::Type>>,
     ) -> Turn<M::Type, M::Error>
         requires { self.old.stage ≡ Stage.Finished }
         ensures after { AfterAsked ticket deadline reply self.new.stage result }
         ensures timeouts { self.new.timeouts ≡ self.old.timeouts }
+        ensures holds { held_after self.new.stage result ≡ held_if_asked reply }
     {
         match reply {
             AskReply::Served(serving) => self.after_serving(serving),
@@ -230,10 +246,11 @@ impl<M: Manager + Drop, A: AsyncHook<M> + Drop> GetState<M, A> {
         }
     }
 
-    fn after_going_on(&mut self, reply: AgainReply<M::Type>) -> Turn<M::Type, M::Error>
+    fn after_going_on(&mut self, reply: AgainReply<Slot<M::Type>>) -> Turn<M::Type, M::Error>
         requires { self.old.stage ≡ Stage.Finished }
         ensures after { AfterGoingOn reply self.new.stage result }
         ensures timeouts { self.new.timeouts ≡ self.old.timeouts }
+        ensures holds { held_after self.new.stage result ≡ held_if_gone_on reply }
     {
         match reply {
             AgainReply::Served(serving) => self.after_serving(serving),
@@ -249,12 +266,14 @@ impl<M: Manager + Drop, A: AsyncHook<M> + Drop> GetState<M, A> {
         now: Moment,
         cx: &mut Context<'_>,
     ) -> Turn<M::Type, M::Error>
-        requires { self.old.stage ≡ Stage.Finished }
+        requires finished { self.old.stage ≡ Stage.Finished }
+        requires holds { D.holds desk.old Holding.Creation }
         ensures advanced { (made : Made M.Type) × (Makes D.Desk desk.old made desk.new × AdvancesCreation (may M.Manager F.SyncHook A.AsyncHook environment.now.manager) environment.now.runtime now self.old.timeouts.create Option.None Option.None made self.new.stage result) }
         ensures timeouts { self.new.timeouts ≡ self.old.timeouts }
         ensures falls { result ≡ Turn.More → IsNewObject self.new.stage }
         ensures ready { IfReadyObject M.is_ready result }
         ensures kept { Keeps cx.old cx.new }
+        ensures holds { D.holds desk.new (held_after self.new.stage result) }
     {
         let timeout = self.timeouts.create;
         if lacks_runtime(environment.runtime, timeout) {
@@ -277,12 +296,14 @@ impl<M: Manager + Drop, A: AsyncHook<M> + Drop> GetState<M, A> {
         now: Moment,
         cx: &mut Context<'_>,
     ) -> Turn<M::Type, M::Error>
-        requires { self.old.stage ≡ Stage.Finished }
+        requires finished { self.old.stage ≡ Stage.Finished }
+        requires holds { D.holds desk.old Holding.Creation }
         ensures advanced { (made : Made M.Type) × (Makes D.Desk desk.old made desk.new × AdvancesCreation (may M.Manager F.SyncHook A.AsyncHook environment.now.manager) environment.now.runtime now self.old.timeouts.create (Option.Some state) deadline made self.new.stage result) }
         ensures timeouts { self.new.timeouts ≡ self.old.timeouts }
         ensures falls { result ≡ Turn.More → IsNewObject self.new.stage }
         ensures ready { IfReadyObject M.is_ready result }
         ensures kept { Keeps cx.old cx.new }
+        ensures holds { D.holds desk.new (held_after self.new.stage result) }
     {
         let answer = environment.manager.poll_create(&mut state, cx);
         self.after_creation(answer, state, deadline, desk, now)
@@ -299,10 +320,12 @@ impl<M: Manager + Drop, A: AsyncHook<M> + Drop> GetState<M, A> {
     ) -> Turn<M::Type, M::Error>
         requires finished { self.old.stage ≡ Stage.Finished }
         requires ready { IfReadyOk answer M.is_ready }
+        requires holds { D.holds desk.old Holding.Creation }
         ensures advanced { (made : Made M.Type) × (Makes D.Desk desk.old made desk.new × AfterCreation now deadline (answer, state) made self.new.stage result) }
         ensures timeouts { self.new.timeouts ≡ self.old.timeouts }
         ensures falls { result ≡ Turn.More → IsNewObject self.new.stage }
         ensures ready { IfReadyObject M.is_ready result }
+        ensures holds { D.holds desk.new (held_after self.new.stage result) }
     {
         match answer {
             Poll::Ready(created) => match created {
@@ -338,6 +361,7 @@ impl<M: Manager + Drop, A: AsyncHook<M> + Drop> GetState<M, A> {
         ensures falls { result ≡ Turn.More → IsNewObject self.new.stage }
         ensures timeouts { self.new.timeouts ≡ self.old.timeouts }
         ensures ready { IfReadyObject M.is_ready result }
+        ensures holds { held_after self.new.stage result ≡ held_if_created reply }
     {
         match reply {
             CreatedReply::Created(number) => {
@@ -365,10 +389,12 @@ impl<M: Manager + Drop, A: AsyncHook<M> + Drop> GetState<M, A> {
     ) -> Turn<M::Type, M::Error>
         requires finished { self.old.stage ≡ Stage.Finished }
         requires ready { IsReadyPreparation M.is_ready preparation }
+        requires holds { D.holds desk.old Holding.Object }
         ensures advanced { (made : Made M.Type) × (Makes D.Desk desk.old made desk.new × AdvancesFrom (may M.Manager F.SyncHook A.AsyncHook environment.now.manager) environment.now.runtime environment.now.hooks now self.old.timeouts (Recycling preparation allowance) made self.new.stage result) }
         ensures timeouts { self.new.timeouts ≡ self.old.timeouts }
         ensures ready { IfReadyObject M.is_ready result }
         ensures kept { Keeps cx.old cx.new }
+        ensures holds { D.holds desk.new (held_after self.new.stage result) }
     {
         let timeout = self.timeouts.recycle;
         match prepare(preparation, timeout, environment, now, cx) {
@@ -400,10 +426,12 @@ impl<M: Manager + Drop, A: AsyncHook<M> + Drop> GetState<M, A> {
     ) -> Turn<M::Type, M::Error>
         requires finished { self.old.stage ≡ Stage.Finished }
         requires ready { M.is_ready slot.value }
+        requires holds { D.holds desk.old Holding.Object }
         ensures advanced { (made : Made M.Type) × (Makes D.Desk desk.old made desk.new × AdvancesFrom (may M.Manager F.SyncHook A.AsyncHook environment.now.manager) environment.now.runtime environment.now.hooks now self.old.timeouts (Checking slot position) made self.new.stage result) }
         ensures timeouts { self.new.timeouts ≡ self.old.timeouts }
         ensures ready { IfReadyObject M.is_ready result }
         ensures kept { Keeps cx.old cx.new }
+        ensures holds { D.holds desk.new (held_after self.new.stage result) }
     {
         match check(&mut slot, position, environment, cx) {
             Verdict::Accepted => Turn::Done(Ok(slot)),
@@ -429,10 +457,12 @@ impl<M: Manager + Drop, A: AsyncHook<M> + Drop> GetState<M, A> {
         now: Moment,
         cx: &mut Context<'_>,
     ) -> Turn<M::Type, M::Error>
+        requires { D.holds desk.old (held_at self.old.stage) }
         ensures polled { PollsOver D.Desk (may M.Manager F.SyncHook A.AsyncHook environment.now.manager) environment.now.runtime environment.now.hooks now self.old.timeouts desk.old self.old.stage desk.new self.new.stage result }
         ensures timeouts { self.new.timeouts ≡ self.old.timeouts }
         ensures ready { IfReadyObject M.is_ready result }
         ensures kept { Keeps cx.old cx.new }
+        ensures holds { D.holds desk.new (held_after self.new.stage result) }
     {
         'until_allowed: while self.lacks_allowance() {
             match self.advance(desk, environment, now, cx) {
@@ -454,7 +484,9 @@ impl<M: Manager + Drop, A: AsyncHook<M> + Drop> GetState<M, A> {
         desk: &mut D,
         environment: &Environment<M, F, A>,
     )
-        ensures { (made : Made M.Type) × (Makes D.Desk desk.old made desk.new × CancelsFrom (may M.Manager F.SyncHook A.AsyncHook environment.now.manager) self.stage made) }
+        requires { D.holds desk.old (held_at self.stage) }
+        ensures cancelled { (made : Made M.Type) × (Makes D.Desk desk.old made desk.new × CancelsFrom (may M.Manager F.SyncHook A.AsyncHook environment.now.manager) self.stage made) }
+        ensures holds { D.holds desk.new Holding.Nothing }
     {
         let GetState { timeouts: _, stage } = self;
         match stage {
@@ -493,7 +525,9 @@ fn give_up<M: Manager + Drop, F: SyncHook<M> + Drop, A: AsyncHook<M> + Drop, D: 
     desk: &mut D,
     environment: &Environment<M, F, A>,
 )
-    ensures { (reply : StepReply) × (D.cancels desk.old Held.Object reply desk.new × GivesUp (may M.Manager F.SyncHook A.AsyncHook environment.now.manager) slot.value reply) }
+    requires { D.holds desk.old Holding.Object }
+    ensures given_up { (reply : StepReply) × (D.cancels desk.old Held.Object reply desk.new × GivesUp (may M.Manager F.SyncHook A.AsyncHook environment.now.manager) slot.value reply) }
+    ensures holds { D.holds desk.new Holding.Nothing }
 {
     if desk.cancel(Held::Object) == StepReply::Done {
         environment.manager.detach(&mut slot.value);

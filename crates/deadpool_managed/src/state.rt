@@ -1,27 +1,29 @@
 //! The state of a managed pool on one thread: its queue, its idle objects, and three counts.
-ghost use Rattle.std.specs.Prelude.{◌≡◌, ◌+◌, ◌-◌, ◌≤◌, true, nat_lt, [], IfOk, max};
-ghost use Rattle.deadpool_managed.specs.DeskState.{new_core, places, settled, next_idle, other_idle, status_of};
-ghost use Rattle.deadpool_managed.specs.DeskSteps.{Serves, Enters, Asks, GoesOn, Discards, Creates, Fails, Refuses, TakesBack, Cancels, Takes, Resizes, Closes, Clones, DropsHandle, Upgrades};
-ghost use Rattle.deadpool_managed.specs.Retains.{Retains};
+ghost use Rattle.std.specs.Prelude.{◌≡◌, ◌+◌, ◌-◌, ◌≤◌, ◌&&◌, not, nat_lt, nat_le, is_some, [], IfOk};
+ghost use Rattle.deadpool_managed.specs.Allowance.{IsWithinAllowance};
+ghost use Rattle.deadpool_managed.specs.DeskState.{least_idle, new_core, places, settled, next_idle, other_idle};
+ghost use Rattle.deadpool_managed.specs.DeskSteps.{Serves};
+ghost use Rattle.deadpool_managed.specs.CoreSteps.{Enters, Asks, GoesOn, Discards, Creates, Fails, Refuses, TakesBack, Cancels, Takes, Resizes, Stands, Retains, RetainsNoting, Closes, Clones, DropsHandle, Upgrades, Tells, due_now};
 
 use crate::desk::{
-    AgainReply, AskReply, BackReply, CreatedReply, Desk, EnterReply, Held, Serving, TakeReply,
+    AgainReply, AskReply, BackReply, CreatedReply, EnterReply, Held, Serving, TakeReply,
 };
 use crate::gate::{Ask, Entry, Gate, Ticket, Withdrawn};
 use crate::review::review;
-use crate::{HandleReply, QueueMode, RetainResult, Retainer, Slot, Status, StepReply};
+use crate::{HandleReply, QueueMode, Removals, RetainResult, Retainer, Slot, Status, StepReply};
 use circular_buffer::HeapCircularBuffer;
 use std::alloc::{AllocError, Global};
 use std::marker::Model;
 
-/// The state of a managed pool on one thread. Each of its steps is one of `Desk`.
+/// A pool's state, which need not be settled in the middle of a step. `Core` makes whole steps over it.
 #[derive(Drop)]
-pub struct Core<T> {
+pub struct PoolState<T> {
     gate: Gate,
     // The idle objects, front to back.
     ring: HeapCircularBuffer<Slot<T>>,
     limit: usize,
     mode: QueueMode,
+    min_idle: usize,
     next: usize,
     handles: u64,
     // Places of gets that hold nothing else.
@@ -32,34 +34,36 @@ pub struct Core<T> {
     outside: usize,
 }
 
-impl<T> Model for Core<T> {
-    ghost use Rattle.deadpool_managed.specs.DeskState.{DeskState};
+impl<T> Model for PoolState<T> {
+    ghost use Rattle.deadpool_managed.specs.CoreState.{CoreState};
 
-    ghost Value = { DeskState T };
+    ghost Value = { CoreState T };
 
-    ghost use Rattle.deadpool_managed.specs.CoreFields.{state_of, IsSound};
+    ghost use Rattle.deadpool_managed.specs.CoreFields.{core_of, IsSound};
 
-    ghost view = { state_of };
+    ghost view = { core_of };
 
     ghost invariant = { IsSound };
 }
 
-impl<T: Drop> Core<T> {
-    /// A pool with nothing idle, one handle, and room for as many objects as the limit, at least one.
+impl<T: Drop> PoolState<T> {
     pub fn new(
         alloc: Global,
         limit: usize,
         mode: QueueMode,
         first_number: usize,
-    ) -> Result<Core<T>, AllocError>
-        ensures { IfOk result (λ core. core ≡ new_core limit mode first_number) }
+        min_idle: usize,
+    ) -> Result<PoolState<T>, AllocError>
+        ensures desk { IfOk result (λ core. core.desk ≡ new_core limit mode first_number min_idle) }
+        ensures untold { IfOk result (λ core. core.untold ≡ []) }
     {
         let ring = HeapCircularBuffer::with_capacity(alloc, limit.max(1))?;
-        Ok(Core {
+        Ok(PoolState {
             gate: Gate::new(alloc),
             ring,
             limit,
             mode,
+            min_idle,
             next: first_number,
             handles: 1,
             going: 0,
@@ -68,24 +72,78 @@ impl<T: Drop> Core<T> {
         })
     }
 
-    /// Whether a pool handle is left.
     pub fn has_handle(&self) -> bool
-        ensures { result ≡ nat_lt 0 self.now.handles }
+        ensures { result ≡ nat_lt 0 self.now.desk.handles }
     {
         self.handles > 0
     }
 
+    pub fn retain_noting<R: Retainer<T>>(
+        &mut self,
+        retainer: &mut R,
+    ) -> Result<(RetainResult<T>, Removals), AllocError>
+        requires { R.can_call retainer.old }
+        ensures retained { RetainsNoting R.Retainer self.old retainer.old result self.new retainer.new }
+        ensures can_call { R.can_call retainer.new }
+    {
+        let least = self.least_idle();
+        let (removed, noted) = review(&mut self.ring, least, retainer)?;
+        let result = RetainResult {
+            retained: self.ring.len(),
+            removed,
+        };
+        Ok((result, Removals::new(noted)))
+    }
+
+    pub fn is_closed(&self) -> bool
+        ensures { result ≡ not self.now.desk.is_open }
+    {
+        self.gate.is_closed()
+    }
+
+    pub fn take_wake(&mut self) -> Option<Ticket>
+        ensures { Tells self.old result self.new }
+    {
+        self.gate.take_wake()
+    }
+
+    pub fn is_wake_due(&self) -> bool
+        ensures { result ≡ is_some (due_now self.now) }
+    {
+        self.gate.is_wake_due()
+    }
+
+    pub fn would_queue(&self) -> bool
+        ensures { result ≡ (self.now.desk.is_open && nat_le self.now.desk.limit (places self.now.desk)) }
+    {
+        !self.gate.is_closed() && self.room() == 0
+    }
+
+    pub fn next_ticket(&self) -> usize
+        ensures { result ≡ self.now.next_ticket }
+    {
+        self.gate.next_number()
+    }
+
     // How many more places there are than are held.
     fn room(&self) -> usize
-        ensures { result ≡ self.now.limit - places self.now }
+        ensures { result ≡ self.now.desk.limit - places self.now.desk }
     {
         let places = self.gate.granted() + self.going + self.creations + self.outside;
         self.limit.saturating_sub(places)
     }
 
+    // How many objects stay idle, if as many are.
+    fn least_idle(&self) -> usize
+        ensures { result ≡ least_idle self.now.desk.limit self.now.desk }
+    {
+        self.min_idle.min(self.limit)
+    }
+
     // Grants the free places to the earliest that wait.
     fn settle(&mut self)
-        ensures { self.new ≡ settled self.old }
+        ensures desk { self.new.desk ≡ settled self.old.desk }
+        ensures untold { self.new.untold ≡ self.old.untold }
     {
         let room = self.room();
         self.gate.settle(room);
@@ -93,8 +151,9 @@ impl<T: Drop> Core<T> {
 
     // The next idle object leaves the ring.
     fn take_idle(&mut self) -> Option<Slot<T>>
-        ensures slot { result ≡ next_idle self.old.mode self.old.idle }
-        ensures others { self.new ≡ record self.old { idle = other_idle self.old.mode self.old.idle } }
+        ensures slot { result ≡ next_idle self.old.desk.mode self.old.desk.idle }
+        ensures others { self.new.desk ≡ record self.old.desk { idle = other_idle self.old.desk.mode self.old.desk.idle } }
+        ensures untold { self.new.untold ≡ self.old.untold }
     {
         match self.mode {
             QueueMode::Fifo => self.ring.pop_front(),
@@ -103,9 +162,10 @@ impl<T: Drop> Core<T> {
     }
 
     // Serves a get whose place is in no count.
-    fn serve(&mut self, allowance: Option<usize>) -> Serving<T>
-        requires { places self.old + 1 ≤ self.old.reserve }
-        ensures { Serves self.old allowance result self.new }
+    fn serve(&mut self, allowance: Option<usize>) -> Serving<Slot<T>>
+        requires { places self.old.desk + 1 ≤ self.old.desk.reserve }
+        ensures served { Serves self.old.desk allowance result self.new.desk }
+        ensures untold { self.new.untold ≡ self.old.untold }
     {
         let allowed = allowance.unwrap_or(self.ring.len());
         if allowed == 0 && !self.ring.is_empty() {
@@ -127,44 +187,10 @@ impl<T: Drop> Core<T> {
             }
         }
     }
-}
 
-impl<T: Drop> Desk<T> for Core<T> {
-    ghost enters = { Enters };
-
-    ghost asks = { Asks };
-
-    ghost goes_on = { GoesOn };
-
-    ghost discards = { Discards };
-
-    ghost creates = { Creates };
-
-    ghost fails = { Fails };
-
-    ghost refuses = { Refuses };
-
-    ghost takes_back = { TakesBack };
-
-    ghost cancels = { Cancels };
-
-    ghost stands = { λ core status. status ≡ status_of core };
-
-    ghost takes = { Takes };
-
-    ghost resizes = { Resizes };
-
-    ghost retains = { λ R asks. Retains asks };
-
-    ghost closes = { Closes };
-
-    ghost clones = { Clones };
-
-    ghost drops_handle = { DropsHandle };
-
-    ghost upgrades = { Upgrades };
-
-    fn enter(&mut self, wait: bool) -> EnterReply<T> {
+    pub fn enter(&mut self, wait: bool) -> EnterReply<Slot<T>>
+        ensures { Enters self.old wait result self.new }
+    {
         let room = self.room();
         match self.gate.enter(room, wait) {
             Entry::Granted => EnterReply::Served(self.serve(None)),
@@ -175,7 +201,9 @@ impl<T: Drop> Desk<T> for Core<T> {
         }
     }
 
-    fn ask(&mut self, ticket: Ticket, expired: bool) -> AskReply<T> {
+    pub fn ask(&mut self, ticket: Ticket, expired: bool) -> AskReply<Slot<T>>
+        ensures { Asks self.old ticket expired result self.new }
+    {
         match self.gate.ask(ticket) {
             Ask::Granted => AskReply::Served(self.serve(None)),
             Ask::Closed => AskReply::Closed,
@@ -191,7 +219,10 @@ impl<T: Drop> Desk<T> for Core<T> {
         }
     }
 
-    fn again(&mut self, allowance: Option<usize>) -> AgainReply<T> {
+    pub fn again(&mut self, allowance: Option<usize>) -> AgainReply<Slot<T>>
+        ensures served { GoesOn self.old allowance result self.new }
+        ensures allowed { IsWithinAllowance allowance result }
+    {
         if self.going == 0 {
             return AgainReply::Unknown;
         }
@@ -199,7 +230,9 @@ impl<T: Drop> Desk<T> for Core<T> {
         AgainReply::Served(self.serve(allowance))
     }
 
-    fn discard(&mut self) -> StepReply {
+    pub fn discard(&mut self) -> StepReply
+        ensures { Discards self.old result self.new }
+    {
         if self.outside == 0 {
             return StepReply::Unknown;
         }
@@ -208,7 +241,9 @@ impl<T: Drop> Desk<T> for Core<T> {
         StepReply::Done
     }
 
-    fn created(&mut self) -> CreatedReply {
+    pub fn created(&mut self) -> CreatedReply
+        ensures { Creates self.old result self.new }
+    {
         if self.creations == 0 {
             return CreatedReply::Unknown;
         }
@@ -219,7 +254,9 @@ impl<T: Drop> Desk<T> for Core<T> {
         CreatedReply::Created(number)
     }
 
-    fn failed(&mut self) -> StepReply {
+    pub fn failed(&mut self) -> StepReply
+        ensures { Fails self.old result self.new }
+    {
         if self.creations == 0 {
             return StepReply::Unknown;
         }
@@ -228,7 +265,9 @@ impl<T: Drop> Desk<T> for Core<T> {
         StepReply::Done
     }
 
-    fn refused(&mut self) -> StepReply {
+    pub fn refused(&mut self) -> StepReply
+        ensures { Refuses self.old result self.new }
+    {
         if self.outside == 0 {
             return StepReply::Unknown;
         }
@@ -237,7 +276,7 @@ impl<T: Drop> Desk<T> for Core<T> {
         StepReply::Done
     }
 
-    fn back(&mut self, slot: Slot<T>) -> BackReply<T>
+    pub fn back(&mut self, slot: Slot<T>) -> BackReply<Slot<T>>
         ensures { TakesBack self.old slot result self.new }
     {
         if self.outside == 0 {
@@ -258,7 +297,9 @@ impl<T: Drop> Desk<T> for Core<T> {
         BackReply::Kept
     }
 
-    fn cancel(&mut self, held: Held) -> StepReply {
+    pub fn cancel(&mut self, held: Held) -> StepReply
+        ensures { Cancels self.old held result self.new }
+    {
         match held {
             Held::Ticket(ticket) => {
                 if let Withdrawn::Unknown = self.gate.withdraw(ticket) {
@@ -280,7 +321,9 @@ impl<T: Drop> Desk<T> for Core<T> {
         }
     }
 
-    fn status(&self) -> Status {
+    pub fn status(&mut self) -> Status
+        ensures { Stands self.old result self.new }
+    {
         let idle = self.ring.len();
         let pending = self.gate.waiting() + self.gate.granted() + self.going + self.creations;
         Status {
@@ -291,7 +334,9 @@ impl<T: Drop> Desk<T> for Core<T> {
         }
     }
 
-    fn take(&mut self) -> TakeReply {
+    pub fn take(&mut self) -> TakeReply
+        ensures { Takes self.old result self.new }
+    {
         if self.outside == 0 {
             return TakeReply::Unknown;
         }
@@ -301,7 +346,9 @@ impl<T: Drop> Desk<T> for Core<T> {
         TakeReply::Taken { detach }
     }
 
-    fn resize(&mut self, limit: usize) -> Result<(), AllocError> {
+    pub fn resize(&mut self, limit: usize) -> Result<(), AllocError>
+        ensures { Resizes self.old limit result self.new }
+    {
         if self.gate.is_closed() {
             return Ok(());
         }
@@ -311,26 +358,37 @@ impl<T: Drop> Desk<T> for Core<T> {
         self.limit = limit;
         let idle = self.ring.len();
         let excess = (idle + self.outside).saturating_sub(limit);
-        self.ring.truncate_front(idle.saturating_sub(excess));
+        let spare = idle.saturating_sub(self.least_idle());
+        self.ring.truncate_front(idle - excess.min(spare));
         self.settle();
         Ok(())
     }
 
-    fn retain<R: Retainer<T>>(&mut self, retainer: &mut R) -> Result<RetainResult<T>, AllocError> {
-        let removed = review(&mut self.ring, retainer)?;
-        Ok(RetainResult {
-            retained: self.ring.len(),
-            removed,
-        })
+    pub fn retain<R: Retainer<T>>(
+        &mut self,
+        retainer: &mut R,
+    ) -> Result<RetainResult<T>, AllocError>
+        requires { R.can_call retainer.old }
+        ensures retained { Retains R.Retainer self.old retainer.old result self.new retainer.new }
+        ensures can_call { R.can_call retainer.new }
+    {
+        match self.retain_noting(retainer) {
+            Ok((result, _)) => Ok(result),
+            Err(e) => Err(e),
+        }
     }
 
-    fn close(&mut self) {
+    pub fn close(&mut self)
+        ensures { Closes self.old self.new }
+    {
         self.limit = 0;
         self.ring.clear();
         self.gate.close();
     }
 
-    fn clone_handle(&mut self) -> HandleReply {
+    pub fn clone_handle(&mut self) -> HandleReply
+        ensures { Clones self.old result self.new }
+    {
         if self.handles == 0 {
             return HandleReply::NoHandle;
         }
@@ -338,7 +396,9 @@ impl<T: Drop> Desk<T> for Core<T> {
         HandleReply::Done
     }
 
-    fn drop_handle(&mut self) -> HandleReply {
+    pub fn drop_handle(&mut self) -> HandleReply
+        ensures { DropsHandle self.old result self.new }
+    {
         if self.handles == 0 {
             return HandleReply::NoHandle;
         }
@@ -351,7 +411,9 @@ impl<T: Drop> Desk<T> for Core<T> {
         HandleReply::Done
     }
 
-    fn upgrade(&mut self) -> bool {
+    pub fn upgrade(&mut self) -> bool
+        ensures { Upgrades self.old result self.new }
+    {
         match self.clone_handle() {
             HandleReply::Done => true,
             HandleReply::NoHandle => false,

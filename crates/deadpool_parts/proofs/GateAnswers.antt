@@ -136,3 +136,20 @@ pub entered-waiting : (c : Bool) (room : ℕ) (wait : Bool) (t : ℕ) (before af
 entered-waiting c room wait t before after at_once joins =
     let was = joins_last c (nat_lt 0 room) wait t before after at_once joins in
     (was.0, omega (arith, ltb-false 0 room was.1), was.2, was.3, was.4)
+
+-- nor does one that found no memory, and the line is as it was
+joins_none : (c some_room wait : Bool) (before after : List Waiter)
+    → IfSome (cond c (Some entry.Closed) (cond some_room (Some entry.Granted) (cond wait None (Some entry.Full)))) (λ answer. entry.OutOfMemory ≡ answer)
+    → IfNone (cond c (Some entry.Closed) (cond some_room (Some entry.Granted) (cond wait None (Some entry.Full)))) (Joins before entry.OutOfMemory after)
+    → (c ≡ false) × (some_room ≡ false) × (wait ≡ true) × (after ≡ before)
+joins_none true b wait before after at_once joins = absurd (let told : entry.OutOfMemory ≡ entry.Closed = at_once in cc)
+joins_none false true wait before after at_once joins = absurd (let told : entry.OutOfMemory ≡ entry.Granted = at_once in cc)
+joins_none false false true before after at_once joins = (refl, refl, refl, joins)
+joins_none false false false before after at_once joins = absurd (let told : entry.OutOfMemory ≡ entry.Full = at_once in cc)
+
+pub entered-without_memory : (c : Bool) (room : ℕ) (wait : Bool) (before after : List Waiter)
+    → IfSome (entry_at_once c room wait) (λ answer. entry.OutOfMemory ≡ answer) → IfNone (entry_at_once c room wait) (Joins before entry.OutOfMemory after)
+    → (c ≡ false) × (room ≡ 0) × (wait ≡ true) × (after ≡ before)
+entered-without_memory c room wait before after at_once joins =
+    let was = joins_none c (nat_lt 0 room) wait before after at_once joins in
+    (was.0, omega (arith, ltb-false 0 room was.1), was.2, was.3)

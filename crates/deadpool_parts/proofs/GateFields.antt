@@ -439,6 +439,20 @@ first_due g xs w ys shows told differs =
         let here = has_place v.granted (done.0 (not-false v.told (find_none-head (λ v. not v.told) v vs told))) in
         rw here (told_granted vs done.1 (find_none-tail (λ v. not v.told) v vs told))
 
+-- so its ticket is the one that the pointer names
+pub Shows-due : (g : Inside) (ws : List Waiter) (key : ℕ) → g.first_untold ≡ Some key → (g.is_closed ≡ false → g.first_waiting ≢ Some key) → Shows g ws → due_ticket g.is_closed ws ≡ Some key
+Shows-due g ws key first differs shows =
+    let at : FailsFirst (λ v. v.told) ws key = fails_first (λ v. v.told) ws key (sym shows.first_untold ∙ first) in
+    let xs = at.between.front in
+    let w = at.waiter in
+    let ys = at.between.back in
+    let c = g.is_closed in
+    let between : Shows g (xs ++ w ∷ ys) = rw at.between.is at shows in
+    let elsewhere : g.is_closed ≡ false → g.first_waiting ≢ Some w.ticket = rw at.ticket differs in
+    let due : is_due c w ≡ true = rw (first_due g xs w ys between at.between.before elsewhere, at.fails) refl in
+    let next : find (is_due c) ws ≡ Some w = ap (find (is_due c)) at.between.is ∙ find-behind (is_due c) xs (w ∷ ys) (none_due c xs at.between.before) ∙ rw due refl in
+    ap (option_map (λ (v : Waiter). v.ticket)) next ∙ ap Some at.ticket
+
 pub record TellsNext (g h : Inside) (ws : List Waiter) (key : ℕ) : Type 0 where
   pub shows : Shows h (tell_next g.is_closed ws)
   pub ticket : due_ticket g.is_closed ws ≡ Some key
@@ -457,9 +471,8 @@ Shows-told g h ws key node first differs found changing telling shows =
     let due : is_due c w ≡ true = rw (first_due g xs w ys between at.between.before elsewhere, at.fails) refl in
     let before = none_due c xs at.between.before in
     let after : tell_next c ws ≡ xs ++ with_word w ∷ ys = ap (tell_next c) at.between.is ∙ change_first-between (is_due c) with_word xs w ys before due in
-    let next : find (is_due c) ws ≡ Some w = ap (find (is_due c)) at.between.is ∙ find-behind (is_due c) xs (w ∷ ys) before ∙ rw due refl in
     let line : IsLine h.is_closed (xs ++ with_word w ∷ ys) = rw (changing.is_closed, ← after) (IsLine-tell_next c ws shows.line) in
     record {
       shows = rw after (Shows-told-between g h xs w ys (rw at.ticket changing) tells at.between.before at.fails line between);
-      ticket = ap (option_map (λ (v : Waiter). v.ticket)) next ∙ ap Some at.ticket;
+      ticket = Shows-due g ws key first differs shows;
     }

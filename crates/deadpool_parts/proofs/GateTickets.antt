@@ -1,12 +1,12 @@
 -- What the callers of a gate need of its two lists of tickets, those with a place and those that wait for one.
-use Rattle.std.proofs.Common.{◌≡◌, ℕ, ◌+◌, Bool, true, false, not, eqb, List, [], ◌∷◌, ◌++◌, length, map, Some, None, refl, sym, ap, ◌∙◌, inl, inr, arith}
+use Rattle.std.proofs.Common.{◌≡◌, ℕ, zero, suc, ◌+◌, Bool, true, false, not, eqb, List, [], ◌∷◌, ◌++◌, length, map, Some, None, refl, sym, ap, ◌∙◌, inl, inr, arith}
 use Rattle.std.specs.List.{filter}
 use Rattle.std.proofs.lemmas.Bool.{cases_Bool, eqb-true, not_from_true, not_from_false}
 use Rattle.std.proofs.lemmas.List.{map-append, append-nil, length-map}
 use Rattle.std.proofs.lemmas.List.Elements.{filter-append}
 use Rattle.std.proofs.lemmas.List.Sums.{length-filter}
 use Rattle.std.proofs.lemmas.List.Filters.{length-filter_both}
-use Rattle.deadpool_parts.specs.Gate.{Waiter, arrived, find_waiter, without_waiter, granted_count, waiting_count, granted_tickets, waiting_tickets, IsApart}
+use Rattle.deadpool_parts.specs.Gate.{Waiter, change_first, with_place, with_word, arrived, find_waiter, without_waiter, grant_next, grant, granted_count, waiting_count, granted_tickets, waiting_tickets, untold_tickets, IsApart}
 use Rattle.deadpool_parts.specs.Numbers.{without_number, has_number}
 use Rattle.deadpool_parts.proofs.GateListed.{find_none-head, find_none-tail}
 
@@ -145,3 +145,50 @@ length-both_tickets ws =
       length-map lacks (λ (w : Waiter). w.ticket),
       length-filter_both (λ (w : Waiter). w.granted) (λ w. not w.granted) (λ _. refl) ws,
     )
+
+-- the tickets of two lines with heads that are alike
+alike : (P : Waiter → Bool) (x y : Waiter) (xs ys : List Waiter) → P x ≡ P y → x.ticket ≡ y.ticket
+    → map (λ w. w.ticket) (filter P xs) ≡ map (λ w. w.ticket) (filter P ys) → map (λ w. w.ticket) (filter P (x ∷ xs)) ≡ map (λ w. w.ticket) (filter P (y ∷ ys))
+alike P x y xs ys same ticket rest =
+    elim (cases_Bool (P y)) [
+      | inl has ↦ let had = same ∙ has in rw (had, has) cc
+      | inr lacks ↦ let lacked = same ∙ lacks in rw (lacked, lacks) rest
+    ]
+
+-- a waiter is changed in its place, and keeps its ticket and what the test sees of it
+tickets-changed : (P : Waiter → Bool) (change : Waiter → Waiter) → ((w : Waiter) → P (change w) ≡ P w) → ((w : Waiter) → (change w).ticket ≡ w.ticket) → (test : Waiter → Bool) (ws : List Waiter)
+    → map (λ w. w.ticket) (filter P (change_first test change ws)) ≡ map (λ w. w.ticket) (filter P ws)
+tickets-changed P change blind same test [] = refl
+tickets-changed P change blind same test (w ∷ ws) =
+    elim (cases_Bool (test w)) [
+      | inl here ↦ rw here (alike P (change w) w ws ws (blind w) (same w) refl)
+      | inr later ↦ rw later (alike P w w (change_first test change ws) ws refl refl (tickets-changed P change blind same test ws))
+    ]
+
+-- who was told makes no difference to both lists
+
+pub granted_tickets-told : (test : Waiter → Bool) (ws : List Waiter) → granted_tickets (change_first test with_word ws) ≡ granted_tickets ws
+granted_tickets-told = tickets-changed (λ w. w.granted) with_word (λ w. refl) (λ w. refl)
+
+pub waiting_tickets-told : (test : Waiter → Bool) (ws : List Waiter) → waiting_tickets (change_first test with_word ws) ≡ waiting_tickets ws
+waiting_tickets-told = tickets-changed (λ w. not w.granted) with_word (λ w. refl) (λ w. refl)
+
+-- those that were not told: one that comes is the last of them, one that leaves is none of them, and a place changes nothing
+
+pub untold_tickets-arrived : (t : ℕ) (ws : List Waiter) → untold_tickets (ws ++ arrived t ∷ []) ≡ untold_tickets ws ++ t ∷ []
+untold_tickets-arrived t ws =
+    ap (map (λ (w : Waiter). w.ticket)) (filter-append (λ (w : Waiter). not w.told) ws (arrived t ∷ []))
+    ∙ map-append (λ (w : Waiter). w.ticket) (filter (λ (w : Waiter). not w.told) ws) (arrived t ∷ [])
+
+pub untold_tickets-without_waiter : (t : ℕ) (ws : List Waiter) → IsApart ws → untold_tickets (without_waiter t ws) ≡ without_number t (untold_tickets ws)
+untold_tickets-without_waiter t ws apart = tickets-without_waiter (λ w. not w.told) t ws apart
+
+pub untold_tickets-unlisted : (t : ℕ) (ws : List Waiter) → find_waiter t ws ≡ None → without_number t (untold_tickets ws) ≡ untold_tickets ws
+untold_tickets-unlisted t ws none = without_number_none (λ w. not w.told) t ws none
+
+untold_tickets-grant_next : (ws : List Waiter) → untold_tickets (grant_next ws) ≡ untold_tickets ws
+untold_tickets-grant_next = tickets-changed (λ w. not w.told) with_place (λ w. refl) (λ w. refl) (λ w. not w.granted)
+
+pub untold_tickets-grant : (n : ℕ) (ws : List Waiter) → untold_tickets (grant n ws) ≡ untold_tickets ws
+untold_tickets-grant zero ws = refl
+untold_tickets-grant (suc n) ws = untold_tickets-grant_next (grant n ws) ∙ untold_tickets-grant n ws

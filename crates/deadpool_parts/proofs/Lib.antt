@@ -8,6 +8,7 @@ pub mod GateLinks
 pub mod GateListed
 pub mod GatePlaces
 pub mod GateTickets
+pub mod GateWaking
 pub mod Lists
 pub mod Numbered
 pub mod NumberedCounts
@@ -15,5 +16,6 @@ pub mod Numbers
 pub mod Orders
 pub mod Owners
 pub mod Places
+pub mod Pointers
 pub mod Programs
 pub mod ReadsBack

@@ -2,12 +2,13 @@
 use Rattle.std.proofs.Common.{◌≡◌, ◌≢◌, ℕ, ◌+◌, ◌≤◌, List, [], ◌∷◌, ◌++◌, Bool, true, false, cond, not, ◌||◌, ◌&&◌, eqb, length, map, take, drop, refl, sym, ap, ◌∙◌, arith, inl, inr}
 use Rattle.std.specs.Prelude.{◌==◌}
 use Rattle.std.proofs.Math.Bool.{or_assoc, or-false, and-or_distrib_right}
-use Rattle.std.proofs.lemmas.Bool.{eq-eqb, cases_Bool, or_parts, or_right, cond_both}
+use Rattle.std.proofs.lemmas.Bool.{eq-eqb, eqb-true, cases_Bool, or_parts, or_right, cond_both}
 use Rattle.std.proofs.lemmas.Bool.Decides.{nat_tests, eqb_tells}
 use Rattle.std.proofs.lemmas.List.{take-append-drop}
 use Rattle.std.proofs.lemmas.List.Elements.{filter-append}
 use Rattle.std.proofs.lemmas.List.Folds.{list_any-append}
 use Rattle.deadpool_parts.specs.Numbers.{has_number, without_number}
+use Rattle.deadpool_parts.specs.Orders.{IsOnce}
 
 -- a test of two numbers does not depend on their order
 pub differs_sym : (a b : ℕ) → (a == b) ≡ false → (b == a) ≡ false
@@ -64,6 +65,17 @@ without_number-fewer n (m ∷ ns) has =
     elim (cases_Bool (m == n)) [
       | inl here ↦ rw here (omega (arith, without_number-shorter n ns))
       | inr other ↦ rw other (omega (arith, without_number-fewer n ns (rw other at has)))
+    ]
+
+-- but for one, where no number stands twice
+pub without_number-one : (n : ℕ) (ns : List ℕ) → IsOnce ns → length ns ≤ length (without_number n ns) + 1
+without_number-one n [] once = omega arith
+without_number-one n (m ∷ ns) once =
+    elim (cases_Bool (m == n)) [
+      | inl here ↦
+          let gone : has_number n ns ≡ false = rw (eqb-true m n here) at once.0 in
+          rw here (let same = ap length (without_number-same n ns gone) in omega (arith, same))
+      | inr other ↦ rw other (let rest = without_number-one n ns once.1 in omega (arith, rest))
     ]
 
 -- one that goes from the front of one list to the end of another is in one of the two as before

@@ -36,6 +36,11 @@ IsOnce-append (x ∷ xs) ys left right apart =
     let here : has_number x ys ≡ false = apart x (ap (λ b. b || has_number x xs) (eq-eqb x x refl)) in
     (has_number-append x xs ys ∙ (rw (left.0, here) refl), IsOnce-append xs ys left.1 right (λ n h. apart n (or_right (x == n) (has_number n xs) h)))
 
+-- the front of such a list
+pub IsOnce-front : (xs ys : List ℕ) → IsOnce (xs ++ ys) → IsOnce xs
+IsOnce-front [] ys once = tt
+IsOnce-front (x ∷ xs) ys once = ((or_parts (has_number x xs) (has_number x ys) (sym (has_number-append x xs ys) ∙ once.0)).0, IsOnce-front xs ys once.1)
+
 -- nothing changes, one leaves, or one that was not there joins at the end
 pub order_same : (xs : List ℕ) → KeepsOrder xs xs
 order_same xs = record { stays = λ n. true; joins = []; is = sym (append-nil (filter (λ n. true) xs) ∙ filter-all xs); few = omega arith; fresh = λ n h. cc }

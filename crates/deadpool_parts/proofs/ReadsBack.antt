@@ -3,7 +3,7 @@ use Rattle.std.proofs.Common.{ℕ, ◌≡◌, ◌<◌, ◌^◌, Option, Some, No
 use Rattle.std.specs.Duration.{FitsDuration}
 use Rattle.deadpool_parts.specs.declared.config.QueueMode.{QueueMode}
 use Rattle.deadpool_parts.specs.declared.config.QueueMode.TheVariants.{Fifo, Lifo}
-use Rattle.deadpool_parts.specs.PoolConfig.{ReadsWritten, mode_name, read_queue_mode, read_size}
+use Rattle.deadpool_parts.specs.PoolConfig.{ReadsWritten, mode_name, read_min_idle, read_queue_mode, read_size}
 use Rattle.deadpool_parts.specs.Timeouts.{Limits, FitsTimeouts, read_duration, read_limits, read_timeout, written_duration, written_limits, written_timeout}
 use Rattle.serde_json.specs.Data.{number, string, unsigned}
 
@@ -21,10 +21,13 @@ read_limits-written_limits l fits =
 pub read_size-written : (n : ℕ) → n < 2 ^ 64 → read_size (Some (number (unsigned n))) ≡ Ok n
 read_size-written n fits = search rules
 
+read_min_idle-written : (n : ℕ) → n < 2 ^ 64 → read_min_idle (Some (number (unsigned n))) ≡ Ok n
+read_min_idle-written n fits = search rules
+
 read_queue_mode-mode_name : (mode : QueueMode) → read_queue_mode (Some (string (mode_name mode))) ≡ Ok mode
 read_queue_mode-mode_name Fifo = refl
 read_queue_mode-mode_name Lifo = refl
 
 pub reads_written : ReadsWritten
 reads_written s fits =
-    rw (read_size-written s.max_size fits.max_size, read_limits-written_limits s.limits fits.limits, read_queue_mode-mode_name s.queue_mode)
+    rw (read_size-written s.max_size fits.max_size, read_limits-written_limits s.limits fits.limits, read_queue_mode-mode_name s.queue_mode, read_min_idle-written s.min_idle fits.min_idle)

@@ -15,12 +15,13 @@ pub record Waiter : Type 0 where
   pub granted : Bool
   pub told : Bool
 
--- a gate: its waiters, and how many it can list before it has to find memory; how many accesses to waiters it has made
--- so far, and where that count stood when its last call began
+-- a gate: its waiters, and how many it can list before it has to find memory; the number on the next ticket; how many
+-- accesses to waiters it has made so far, and where that count stood when its last call began
 pub record Line : Type 0 where
   pub waiters : List Waiter
   pub is_closed : Bool
   pub capacity : ℕ
+  pub next_ticket : ℕ
   pub accesses : ℕ
   pub mark : ℕ
 
@@ -69,6 +70,10 @@ granted_tickets ws = map (λ w. w.ticket) (filter (λ w. w.granted) ws)
 -- the tickets of those without
 abbrev pub waiting_tickets : List Waiter → List ℕ
 waiting_tickets ws = map (λ w. w.ticket) (filter (λ w. not w.granted) ws)
+
+-- the tickets of those that were not told that their wait has ended
+abbrev pub untold_tickets : List Waiter → List ℕ
+untold_tickets ws = map (λ w. w.ticket) (filter (λ w. not w.told) ws)
 
 -- how many of the waiters get one of so many free places: a closed gate gives none
 abbrev pub grant_count : Bool → ℕ → List Waiter → ℕ

@@ -12,6 +12,7 @@ line_of gate = record {
   waiters = waiters_of gate;
   is_closed = gate.is_closed;
   capacity = min gate.store.nodes.capacity (2 ^ 63 - 1);
+  next_ticket = gate.store.nodes.vacant_key;
   accesses = gate.store.accesses;
   mark = gate.mark;
 }

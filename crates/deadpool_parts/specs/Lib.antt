@@ -14,3 +14,4 @@ pub mod Result
 pub mod Runs
 pub mod Texts
 pub mod Timeouts
+pub mod Waking

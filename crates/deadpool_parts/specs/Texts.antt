@@ -35,6 +35,7 @@ config_error_text config.MissingMaxSize = codes "max_size is missing"
 config_error_text config.BadNumber = codes "max_size is not a whole number in range"
 config_error_text config.BadDuration = codes "A timeout is not a duration"
 config_error_text config.BadQueueMode = codes "queue_mode is not Fifo or Lifo"
+config_error_text config.BadMinIdle = codes "min_idle is not a whole number in range"
 config_error_text config.OutOfMemory = codes "Out of memory"
 
 module _ {E : Type 0} where

@@ -1,13 +1,14 @@
 //! How a pool is configured, and configurations in JSON.
 //!
-//! A configuration is an object with `max_size` and, if wanted, `timeouts` and `queue_mode`. In
-//! `timeouts`, an object too, `wait`, `create` and `recycle` are each missing, null or a duration:
-//! an object with `secs` and `nanos` and nothing else. Elsewhere keys of other names are ignored.
+//! A configuration is an object with `max_size` and, if wanted, `timeouts`, `queue_mode` and
+//! `min_idle`. In `timeouts`, an object too, `wait`, `create` and `recycle` are each missing, null
+//! or a duration: an object with `secs` and `nanos` and nothing else. Elsewhere keys of other names
+//! are ignored.
 ghost use Rattle.std.specs.Prelude.{◌≡◌, ◌*◌, min, codes, Some, None, option_map, IfOk, IsSomeAnd, IsOkUnless};
 ghost use Rattle.std.specs.Duration.{as_nanos};
 ghost use Rattle.serde_json.specs.Find.{get};
 ghost use Rattle.serde_json.specs.View.{view};
-ghost use Rattle.deadpool_parts.specs.PoolConfig.{ReadsWritten, mode_name, read_config, read_max_size, read_queue_mode, settings_of, written_config};
+ghost use Rattle.deadpool_parts.specs.PoolConfig.{ReadsWritten, mode_name, read_config, read_max_size, read_min_idle, read_queue_mode, settings_of, written_config};
 ghost use Rattle.deadpool_parts.specs.Result.{result_map};
 ghost use Rattle.deadpool_parts.specs.Timeouts.{limits_of, no_timeouts, number_at, read_duration, read_limits, read_timeout, written_limits, written_timeout};
 
@@ -80,6 +81,9 @@ pub struct PoolConfig {
     pub timeouts: Timeouts,
     /// Which idle object is handed out first.
     pub queue_mode: QueueMode,
+    /// How many objects a shrink and a retain leave idle, if as many are. It may be above
+    /// `max_size`.
+    pub min_idle: usize,
 }
 
 impl PoolConfig {
@@ -88,11 +92,13 @@ impl PoolConfig {
         ensures size { result.max_size ≡ max_size }
         ensures timeouts { result.timeouts ≡ no_timeouts }
         ensures mode { result.queue_mode ≡ QueueMode.Fifo }
+        ensures floor { result.min_idle ≡ 0 }
     {
         PoolConfig {
             max_size,
             timeouts: Timeouts::new(),
             queue_mode: QueueMode::default(),
+            min_idle: 0,
         }
     }
 
@@ -101,22 +107,25 @@ impl PoolConfig {
         ensures size { result.max_size ≡ min (2 * count) usize.MAX }
         ensures timeouts { result.timeouts ≡ no_timeouts }
         ensures mode { result.queue_mode ≡ QueueMode.Fifo }
+        ensures floor { result.min_idle ≡ 0 }
     {
         PoolConfig::new(count.saturating_mul(2))
     }
 
     /// The configuration that a value is, or the first fault in it: in `max_size`, in `timeouts`
-    /// with its wait, its creation and its recycling, and last in `queue_mode`.
+    /// with its wait, its creation and its recycling, in `queue_mode`, and last in `min_idle`.
     pub fn from_json(value: &Value) -> Result<Self, ConfigError>
         ensures { result_map settings_of result ≡ read_config (view value.now) }
     {
         let max_size = max_size_of(value)?;
         let timeouts = timeouts_of(value)?;
         let queue_mode = queue_mode_of(value)?;
+        let min_idle = min_idle_of(value)?;
         Ok(PoolConfig {
             max_size,
             timeouts,
             queue_mode,
+            min_idle,
         })
     }
 
@@ -178,6 +187,16 @@ fn queue_mode_of(value: &Value) -> Result<QueueMode, ConfigError>
     }
 }
 
+fn min_idle_of(value: &Value) -> Result<usize, ConfigError>
+    ensures { result ≡ read_min_idle (get (codes "min_idle") (view value.now)) }
+{
+    let Some(min_idle) = value.get("min_idle") else {
+        return Ok(0);
+    };
+    let min_idle = min_idle.as_u64().ok_or(ConfigError::BadMinIdle)?;
+    usize::try_from(min_idle).map_err(|_| ConfigError::BadMinIdle)
+}
+
 /// The timeout at a key of an object: not set where the key is missing or null.
 pub fn timeout_at(value: &Value, key: &str) -> Result<Option<Duration>, ConfigError>
     ensures { result_map (option_map as_nanos) result ≡ read_timeout (get key.now (view value.now)) }
@@ -222,7 +241,13 @@ fn written_config(alloc: Global, config: PoolConfig) -> Result<Value, AllocError
     let timeouts = written_timeouts(alloc, config.timeouts)?;
     let queue_mode = config.queue_mode.name();
     let max_size = config.max_size;
-    json!(in alloc; {"max_size": max_size, "queue_mode": queue_mode, "timeouts": timeouts})
+    let min_idle = config.min_idle;
+    json!(in alloc; {
+        "max_size": max_size,
+        "min_idle": min_idle,
+        "queue_mode": queue_mode,
+        "timeouts": timeouts
+    })
 }
 
 fn written_timeouts(alloc: Global, timeouts: Timeouts) -> Result<Value, AllocError>

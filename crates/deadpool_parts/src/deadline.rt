@@ -59,7 +59,7 @@ pub fn cannot_wait(runtime: Option<Runtime>, wait: Option<Duration>) -> bool
 
 const NANOS_PER_SECOND: u128 = 1_000_000_000;
 
-/// How long after `from` it is now: zero where now is earlier, and at most the longest duration.
+/// How long after `from` it is now: zero if `from` is still to come, and at most the longest duration.
 pub fn duration_between(from: Moment, now: Moment) -> Duration
     ensures { as_nanos result ≡ nanos_between from now }
 {

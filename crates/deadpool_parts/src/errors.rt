@@ -6,7 +6,7 @@ use std::fmt;
 /// Why a pool was not made.
 #[derive(Clone, Copy, Debug, PartialEq, Eq)]
 pub enum BuildError {
-    /// A timeout is set, zero included, and no runtime is there to serve it.
+    /// There is a timeout, if only one of zero, and no runtime to serve it.
     NoRuntimeSpecified,
     /// The pool's tables found no memory.
     OutOfMemory,
@@ -213,6 +213,8 @@ pub enum ConfigError {
     BadDuration,
     /// `queue_mode` is another value than the two modes' names.
     BadQueueMode,
+    /// `min_idle` is not a whole number, or does not fit a `usize`.
+    BadMinIdle,
     /// The value found no memory. Reading never gives this.
     OutOfMemory,
 }
@@ -230,6 +232,7 @@ impl fmt::Display for ConfigError {
             ConfigError::BadNumber => f.write_str("max_size is not a whole number in range"),
             ConfigError::BadDuration => f.write_str("A timeout is not a duration"),
             ConfigError::BadQueueMode => f.write_str("queue_mode is not Fifo or Lifo"),
+            ConfigError::BadMinIdle => f.write_str("min_idle is not a whole number in range"),
             ConfigError::OutOfMemory => f.write_str("Out of memory"),
         }
     }

@@ -1,10 +1,11 @@
 //! The line at a pool: those that found no place, in order of arrival, and what each of them was answered.
 
-ghost use Rattle.std.specs.Prelude.{◌≡◌, ◌<◌, ◌≤◌, ◌^◌, ◌*◌, ◌++◌, [], true, false, IfSome, IfNone, length, take, drop};
+ghost use Rattle.std.specs.Prelude.{◌≡◌, ℕ, ◌<◌, ◌≤◌, ◌^◌, ◌*◌, ◌++◌, [], true, false, not, IfSome, IfNone, is_some, length, take, drop};
 ghost use Rattle.std.specs.Option.{option_map};
-ghost use Rattle.deadpool_parts.specs.Gate.{find_waiter, without_waiter, grant_next, grant, granted_count, waiting_count, granted_tickets, waiting_tickets, grant_count, entry_at_once, Joins, answer_of, asked, standing_of, tell_next, due_ticket, RisesAtMost, touched, IsLine};
+ghost use Rattle.deadpool_parts.specs.Gate.{find_waiter, without_waiter, grant_next, grant, granted_count, waiting_count, granted_tickets, waiting_tickets, untold_tickets, grant_count, entry_at_once, Joins, answer_of, asked, standing_of, tell_next, due_ticket, RisesAtMost, touched, IsLine};
 ghost use Rattle.deadpool_parts.specs.GateLinks.{moved_on, ChangesAt};
 ghost use Rattle.deadpool_parts.specs.GateNodes.{changed};
+ghost use Rattle.deadpool_parts.specs.Waking.{next_due, still_untold};
 ghost use Rattle.slab.specs.Slab.{slab_len};
 
 mod store;
@@ -17,7 +18,7 @@ use store::{Change, Node, NodeStore};
 
 /// Stands for one waiter while it is listed. Its number says nothing of the order, and a later waiter may get it again
 /// once this one has left.
-#[derive(Clone, Copy, PartialEq, Eq, Debug)]
+#[derive(Clone, Copy, PartialEq, Eq, PartialOrd, Ord, Hash, Debug)]
 pub struct Ticket {
     number: usize,
 }
@@ -30,6 +31,15 @@ impl Model for Ticket {
     ghost view = { λ t. t.number };
 
     ghost inverse = { λ n. record { number = n } };
+}
+
+impl Ticket {
+    /// Its number. Numbers of waiters that are listed are small: a gate gives those of waiters that have left again.
+    pub fn number(self) -> usize
+        ensures { result ≡ self }
+    {
+        self.number
+    }
 }
 
 /// The answer to an entry.
@@ -128,6 +138,7 @@ impl Gate {
     pub fn new(alloc: Global) -> Self
         ensures waiters { result.waiters ≡ [] }
         ensures open { result.is_closed ≡ false }
+        ensures touched { touched result ≡ 0 }
     {
         Gate {
             store: NodeStore::new(alloc),
@@ -150,6 +161,7 @@ impl Gate {
         ensures unchanged { IfSome (entry_at_once self.old.is_closed room wait) (λ _. self.new.waiters ≡ self.old.waiters) }
         ensures joins { IfNone (entry_at_once self.old.is_closed room wait) (Joins self.old.waiters result self.new.waiters) }
         ensures memory { result ≡ Entry.OutOfMemory → self.old.capacity ≤ length self.old.waiters }
+        ensures number { (ticket : ℕ) → result ≡ Entry.Waiting ticket → ticket ≡ self.old.next_ticket }
         ensures closed { self.new.is_closed ≡ self.old.is_closed }
         ensures accesses { RisesAtMost 2 self.old.accesses self.new.accesses }
         ensures mark { self.new.mark ≡ self.old.accesses }
@@ -182,6 +194,13 @@ impl Gate {
         Entry::Waiting(Ticket { number: key })
     }
 
+    /// The number of the ticket that the next waiter gets.
+    pub fn next_number(&self) -> usize
+        ensures { result ≡ self.now.next_ticket }
+    {
+        self.store.next_key()
+    }
+
     // Gives a place to the earliest waiter without one.
     fn grant_one(&mut self)
         ensures waiters { self.new.waiters ≡ grant_next self.old.waiters }
@@ -208,6 +227,7 @@ impl Gate {
         ensures waiters { self.new.waiters ≡ grant result self.old.waiters }
         ensures places { granted_tickets self.new.waiters ≡ granted_tickets self.old.waiters ++ take result (waiting_tickets self.old.waiters) }
         ensures left { waiting_tickets self.new.waiters ≡ drop result (waiting_tickets self.old.waiters) }
+        ensures untold { untold_tickets self.new.waiters ≡ untold_tickets self.old.waiters }
         ensures closed { self.new.is_closed ≡ self.old.is_closed }
         ensures accesses { RisesAtMost (2 * result) self.old.accesses self.new.accesses }
         ensures mark { self.new.mark ≡ self.old.accesses }
@@ -319,6 +339,10 @@ impl Gate {
     pub fn take_wake(&mut self) -> Option<Ticket>
         ensures ticket { result ≡ due_ticket self.old.is_closed self.old.waiters }
         ensures waiters { self.new.waiters ≡ tell_next self.old.is_closed self.old.waiters }
+        ensures granted { granted_tickets self.new.waiters ≡ granted_tickets self.old.waiters }
+        ensures waiting { waiting_tickets self.new.waiters ≡ waiting_tickets self.old.waiters }
+        ensures next { result ≡ next_due (not self.old.is_closed) (granted_tickets self.old.waiters) (untold_tickets self.old.waiters) }
+        ensures untold { untold_tickets self.new.waiters ≡ still_untold result (untold_tickets self.old.waiters) }
         ensures closed { self.new.is_closed ≡ self.old.is_closed }
         ensures accesses { RisesAtMost 2 self.old.accesses self.new.accesses }
         ensures mark { self.new.mark ≡ self.old.accesses }
@@ -332,6 +356,17 @@ impl Gate {
         self.store.write(key, Change::Told);
         self.first_untold = node.next;
         Some(Ticket { number: key })
+    }
+
+    /// Whether `take_wake` would name somebody. It looks at no waiter.
+    pub fn is_wake_due(&self) -> bool
+        ensures due { result ≡ is_some (due_ticket self.now.is_closed self.now.waiters) }
+        ensures next { result ≡ is_some (next_due (not self.now.is_closed) (granted_tickets self.now.waiters) (untold_tickets self.now.waiters)) }
+    {
+        let Some(key) = self.first_untold else {
+            return false;
+        };
+        self.is_closed || self.first_waiting != Some(key)
     }
 
     /// Whether the gate was closed.

@@ -1,4 +1,6 @@
 //! Moments, and the clock that is handed to a pool.
+ghost use Rattle.futures.specs.Task.{Keeps};
+
 use futures::task::Context;
 
 /// A point in time, in nanoseconds since a beginning that the clock chooses.
@@ -11,7 +13,8 @@ pub trait Clock {
     fn now(&self) -> Moment;
 
     /// Wakes the task of `cx` when the moment has come.
-    fn wake_at(&self, at: Moment, cx: &mut Context<'_>);
+    fn wake_at(&self, at: Moment, cx: &mut Context<'_>)
+        ensures { Keeps cx.old cx.new };
 }
 
 /// What may serve a pool's timeouts.

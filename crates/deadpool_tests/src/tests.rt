@@ -1,17 +1,26 @@
 //! Pools on one thread, by the moves of a trial.
 mod calls;
+mod crowds;
 mod drops;
+mod drops_of_gets;
 mod gets;
 mod hooks;
 mod managers;
 mod metrics;
 mod object_ids;
+mod polls;
+mod quiet;
 mod retain;
+mod runs;
 mod timeouts;
+mod told;
 mod unmanaged;
+mod unmanaged_crowds;
+mod unmanaged_drops;
+mod wakes;
 mod watched;
 
-use deadpool::managed::{AsyncHook, Manager, PoolBuilder, PoolError, SyncHook};
+use deadpool::managed::{AsyncHook, Core, Manager, PoolBuilder, PoolError, QueueMode, SyncHook};
 use deadpool::replay::{Move, Reply, Trial};
 use deadpool::{Moment, Status};
 use futures::test::MockTask;
@@ -28,16 +37,39 @@ pub struct Bench<M: Manager + Drop, F: SyncHook<M> + Drop, A: AsyncHook<M> + Dro
 }
 
 impl<M: Manager + Drop, F: SyncHook<M> + Drop, A: AsyncHook<M> + Drop> Bench<M, F, A> {
-    /// A pool whose first object gets the number 0.
+    /// A pool whose first object gets the number 0, with room for 16 gets.
     pub fn new<R: RandomSource + AllocGlobal>(
         rt: &R,
         builder: PoolBuilder<M, F, A, ()>,
     ) -> Result<Self, Fail> {
+        Bench::with_room(rt, builder, 16)
+    }
+
+    /// A pool whose first object gets the number 0, with room for so many gets.
+    pub fn with_room<R: RandomSource + AllocGlobal>(
+        rt: &R,
+        builder: PoolBuilder<M, F, A, ()>,
+        gets: usize,
+    ) -> Result<Self, Fail> {
         Ok(Bench {
             alloc: rt.alloc(),
             task: MockTask::new(rt)?,
-            trial: Trial::new(builder, 16, 0)?,
+            trial: Trial::new(builder, gets, 0)?,
         })
+    }
+
+    /// Makes the moves as one list.
+    pub fn run(
+        &mut self,
+        moves: Vec<Move<M::Type>>,
+    ) -> Result<Vec<Reply<M::Type, M::Error>>, Fail> {
+        let Bench {
+            alloc: _,
+            task,
+            trial,
+        } = self;
+        task.enter(|cx| trial.run(moves, cx))
+            .map_err(|_| Fail::new("no memory for the replies"))
     }
 
     /// Makes one move.
@@ -126,10 +158,15 @@ impl<M: Manager + Drop, F: SyncHook<M> + Drop, A: AsyncHook<M> + Drop> Bench<M, 
         }
     }
 
-    /// The value of an object that is out.
+    /// What value an object has that is out.
     pub fn value(&self, number: usize) -> Result<&M::Type, Fail> {
         self.trial.value(number).ok_or_else(|| Fail::new("not out"))
     }
+}
+
+/// The state of a new pool whose first object gets the number 0.
+pub fn new_core<T: Drop>(alloc: Global, limit: usize, mode: QueueMode) -> Result<Core<T>, Fail> {
+    Ok(Core::new(alloc, limit, mode, 0, 0)?)
 }
 
 /// How a pool is to stand.

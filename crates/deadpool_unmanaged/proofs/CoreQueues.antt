@@ -1,17 +1,18 @@
 -- What the steps of a gate do to the queue that its waiters are.
-use Rattle.std.proofs.Common.{◌≡◌, ℕ, ◌+◌, ◌<◌, ◌≤◌, Bool, not, List, [], ◌∷◌, ◌++◌, length, min, cond, take, drop, refl, ◌∙◌, arith, true, false, None, zero, suc, ◌-◌}
+use Rattle.std.proofs.Common.{◌≡◌, ℕ, ◌+◌, ◌<◌, ◌≤◌, Bool, not, List, [], ◌∷◌, ◌++◌, length, min, cond, take, drop, refl, ◌∙◌, arith, true, false, Option, None, zero, suc, ◌-◌, length-append}
 use Rattle.std.specs.List.{slice_get}
-use Rattle.deadpool_parts.specs.Gate.{Waiter, Line, arrived, without_waiter, granted_tickets, waiting_tickets, grant_count, IsApart}
+use Rattle.deadpool_parts.specs.Gate.{Waiter, Line, arrived, without_waiter, granted_tickets, waiting_tickets, untold_tickets, grant_count, IsApart}
 use Rattle.deadpool_parts.specs.Numbers.{has_number}
 use Rattle.deadpool_parts.specs.Queue.{joined, without, served}
+use Rattle.deadpool_parts.specs.Waking.{still_untold}
 use Rattle.deadpool_parts.proofs.GateAnswers.{grant_count-length}
-use Rattle.deadpool_parts.proofs.GateTickets.{granted_tickets-arrived, waiting_tickets-arrived, granted_tickets-without_waiter, waiting_tickets-without_waiter}
+use Rattle.deadpool_parts.proofs.GateTickets.{granted_tickets-arrived, waiting_tickets-arrived, untold_tickets-arrived, granted_tickets-without_waiter, waiting_tickets-without_waiter, untold_tickets-without_waiter, length-both_tickets}
 use Rattle.deadpool_parts.proofs.Numbers.{without_number-shorter, without_number-fewer}
 use Rattle.deadpool_unmanaged.specs.CoreFields.{queue_of, state_of, IsSound}
-use Rattle.deadpool_unmanaged.specs.State.{free_objects, free_room, settled}
-use Rattle.deadpool_unmanaged.specs.StateSteps.{without_get, without_add}
+use Rattle.deadpool_unmanaged.specs.State.{IsFull, free_objects, free_room, settled}
+use Rattle.deadpool_unmanaged.specs.StateSteps.{without_get, without_add, with_get, with_add}
 use Rattle.deadpool_unmanaged.specs.Steps.{last_idle}
-use Rattle.deadpool_unmanaged.specs.declared.state.Core.TheInside.{Inside}
+use Rattle.deadpool_unmanaged.specs.declared.state.PoolState.TheInside.{Inside}
 
 -- one leaves
 pub queue-without : (t : ℕ) (ws : List Waiter) → IsApart ws → queue_of (without_waiter t ws) ≡ without t (queue_of ws)
@@ -20,6 +21,10 @@ queue-without t ws apart = rw (granted_tickets-without_waiter t ws apart, waitin
 -- one comes
 pub queue-joined : (t : ℕ) (ws : List Waiter) → queue_of (ws ++ arrived t ∷ []) ≡ joined t (queue_of ws)
 queue-joined t ws = rw (granted_tickets-arrived t ws, waiting_tickets-arrived t ws) refl
+
+-- a line that is full is a queue that is
+pub queue-full : (room : ℕ) (ws : List Waiter) → room ≤ length ws → IsFull room (queue_of ws)
+queue-full room ws full = let all = length-append (granted_tickets ws) (waiting_tickets ws) in omega (arith, full, all, length-both_tickets ws)
 
 -- nothing stands past the end
 pub past_end : {T : Type 0} (xs : List T) (n : ℕ) → slice_get xs n ≡ None → length xs ≤ n
@@ -51,11 +56,12 @@ module _ {T : Type 0} (core : Inside T) where
       → n ≡ grant_count core.gets.is_closed objects core.gets.waiters → m ≡ grant_count core.adds.is_closed room core.adds.waiters
       → granted_tickets gets.waiters ≡ granted_tickets core.gets.waiters ++ take n (waiting_tickets core.gets.waiters) → waiting_tickets gets.waiters ≡ drop n (waiting_tickets core.gets.waiters)
       → granted_tickets adds.waiters ≡ granted_tickets core.adds.waiters ++ take m (waiting_tickets core.adds.waiters) → waiting_tickets adds.waiters ≡ drop m (waiting_tickets core.adds.waiters)
+      → untold_tickets gets.waiters ≡ untold_tickets core.gets.waiters → untold_tickets adds.waiters ≡ untold_tickets core.adds.waiters
       → gets.is_closed ≡ core.gets.is_closed → state_of (record core { gets = gets; adds = adds }) ≡ settled (state_of core)
-  state_of-settled gets adds objects room n m sound free_gets free_adds count_gets count_adds granted_gets waiting_gets granted_adds waiting_adds closed =
+  state_of-settled gets adds objects room n m sound free_gets free_adds count_gets count_adds granted_gets waiting_gets granted_adds waiting_adds untold_gets untold_adds closed =
       rw (queue-served core.gets.is_closed objects n core.gets.waiters gets.waiters count_gets granted_gets waiting_gets)
       (rw (queue-served core.adds.is_closed room m core.adds.waiters adds.waiters count_adds granted_adds waiting_adds)
-      (rw (closed, free_gets, free_adds, sound.together) refl))
+      (rw (untold_gets, untold_adds, closed, free_gets, free_adds, sound.together) refl))
 
 module _ {T : Type 0} (core : Inside T) (gate : Line) where
   abbrev with_gets : Inside T
@@ -64,29 +70,41 @@ module _ {T : Type 0} (core : Inside T) (gate : Line) where
   abbrev with_adds : Inside T
   with_adds = record core { adds = gate }
 
-  -- the line of the gets is as it was, or a get has left it, or has joined it
+  -- the line of the gets is as it was, or a get has left it, or has joined it, or was told
   pub gets-same : gate.waiters ≡ core.gets.waiters → gate.is_closed ≡ core.gets.is_closed → state_of with_gets ≡ state_of core
   gets-same same closed = rw (same, closed) refl
 
   pub gets-without : (t : ℕ) → IsApart core.gets.waiters → gate.waiters ≡ without_waiter t core.gets.waiters → gate.is_closed ≡ core.gets.is_closed
       → state_of with_gets ≡ without_get t (state_of core)
-  gets-without t apart gone closed = rw (gone, closed, queue-without t core.gets.waiters apart) refl
+  gets-without t apart gone closed = rw (gone, closed, queue-without t core.gets.waiters apart, untold_tickets-without_waiter t core.gets.waiters apart) refl
 
-  pub gets-joined : (t : ℕ) → gate.waiters ≡ core.gets.waiters ++ arrived t ∷ [] → gate.is_closed ≡ core.gets.is_closed
-      → state_of with_gets ≡ record (state_of core) { gets = joined t (queue_of core.gets.waiters) }
-  gets-joined t longer closed = rw (longer, closed, queue-joined t core.gets.waiters) refl
+  pub gets-joined : (t : ℕ) → gate.waiters ≡ core.gets.waiters ++ arrived t ∷ [] → gate.is_closed ≡ core.gets.is_closed → state_of with_gets ≡ with_get t (state_of core)
+  gets-joined t longer closed = rw (longer, closed, queue-joined t core.gets.waiters, untold_tickets-arrived t core.gets.waiters) refl
+
+  pub gets-told : (named : Option ℕ) → granted_tickets gate.waiters ≡ granted_tickets core.gets.waiters → waiting_tickets gate.waiters ≡ waiting_tickets core.gets.waiters
+      → untold_tickets gate.waiters ≡ still_untold named (untold_tickets core.gets.waiters) → gate.is_closed ≡ core.gets.is_closed
+      → state_of with_gets ≡ record (state_of core) { untold_gets = still_untold named (untold_tickets core.gets.waiters) }
+  gets-told named granted waiting untold closed = rw (granted, waiting, untold, closed) refl
 
   -- the same of the adds
   pub adds-same : gate.waiters ≡ core.adds.waiters → state_of with_adds ≡ state_of core
   adds-same same = rw same refl
 
   pub adds-without : (t : ℕ) → IsApart core.adds.waiters → gate.waiters ≡ without_waiter t core.adds.waiters → state_of with_adds ≡ without_add t (state_of core)
-  adds-without t apart gone = rw (gone, queue-without t core.adds.waiters apart) refl
+  adds-without t apart gone = rw (gone, queue-without t core.adds.waiters apart, untold_tickets-without_waiter t core.adds.waiters apart) refl
 
-  pub adds-joined : (t : ℕ) → gate.waiters ≡ core.adds.waiters ++ arrived t ∷ [] → state_of with_adds ≡ record (state_of core) { adds = joined t (queue_of core.adds.waiters) }
-  adds-joined t longer = rw (longer, queue-joined t core.adds.waiters) refl
+  pub adds-joined : (t : ℕ) → gate.waiters ≡ core.adds.waiters ++ arrived t ∷ [] → state_of with_adds ≡ with_add t (state_of core)
+  adds-joined t longer = rw (longer, queue-joined t core.adds.waiters, untold_tickets-arrived t core.adds.waiters) refl
 
-  -- where an add leaves, a core keeps what it has to
+  pub adds-told : (named : Option ℕ) → granted_tickets gate.waiters ≡ granted_tickets core.adds.waiters → waiting_tickets gate.waiters ≡ waiting_tickets core.adds.waiters
+      → untold_tickets gate.waiters ≡ still_untold named (untold_tickets core.adds.waiters)
+      → state_of with_adds ≡ record (state_of core) { untold_adds = still_untold named (untold_tickets core.adds.waiters) }
+  adds-told named granted waiting untold = rw (granted, waiting, untold) refl
+
+  -- where an add is told, or leaves, a core keeps what it has to
+  pub IsSound-adds_told : IsSound core → granted_tickets gate.waiters ≡ granted_tickets core.adds.waiters → gate.is_closed ≡ core.adds.is_closed → IsSound with_adds
+  IsSound-adds_told sound granted closed = record { together = closed ∙ sound.together; held = rw granted sound.held; reserve = sound.reserve }
+
   pub IsSound-adds : (t : ℕ) → IsSound core → IsApart core.adds.waiters → gate.waiters ≡ without_waiter t core.adds.waiters → gate.is_closed ≡ core.adds.is_closed → IsSound with_adds
   IsSound-adds t sound apart gone closed =
       let fewer = without_number-shorter t (granted_tickets core.adds.waiters) in

@@ -12,7 +12,7 @@ use Rattle.deadpool_parts.specs.declared.moment.Moment.{Moment}
 use Rattle.deadpool_parts.specs.Queue.{Queue, served}
 use Rattle.deadpool_parts.proofs.Numbers.{without_number-shorter, without_number-fewer}
 use Rattle.deadpool_unmanaged.specs.Laws.{HasRoom, IsLawful}
-use Rattle.deadpool_unmanaged.specs.Moves.{IsWithinLimit, unsettled, moved, by_party, by_seat, by_number, started}
+use Rattle.deadpool_unmanaged.specs.Moves.{IsWithinLimit, unsettled, moved, by_party, by_newcomer, by_number, started}
 use Rattle.deadpool_unmanaged.specs.Pool.{Pool, Party, new_get, queued_get, new_add, queued_add, finished, opened, size, free_objects, free_room, settle, status_of}
 use Rattle.deadpool_unmanaged.specs.Steps.{find_item, without_item, with_item, last_idle, handed, hand_out, store, ended, enter_get, inquire_get, enter_add, inquire_add, poll, cancelled, try_get, try_store, back, take_out, closed, cloned, handle_dropped}
 use Rattle.deadpool_unmanaged.specs.declared.replay.moves.Item.{Item}
@@ -22,7 +22,7 @@ use Rattle.deadpool_unmanaged.specs.declared.replay.moves.Reply.{Reply}
 use Rattle.deadpool_unmanaged.specs.declared.replay.moves.Reply.TheVariants as reply
 
 -- of what is there in all some is granted: nobody waits for what is left
-nobody_left : (is_open : Bool) (total : ℕ) (q : Queue) → is_open ≡ true → 0 < total - length (served is_open (total - length q.granted) q).granted
+pub nobody_left : (is_open : Bool) (total : ℕ) (q : Queue) → is_open ≡ true → 0 < total - length (served is_open (total - length q.granted) q).granted
     → (served is_open (total - length q.granted) q).waiting ≡ []
 nobody_left false total q is some = cc
 nobody_left true total q is some =
@@ -172,8 +172,8 @@ module _ {V : Type 0} where
   by_handle_keeps : (p : Pool V) (x : Reply V × Pool V) → HasRoom p → Keeps p x.1 → Keeps p (if p.handles == 0 then (reply.NoHandle, p) else x).1
   by_handle_keeps p x room kept = let P : Reply V × Pool V → Type 0 = λ y. Keeps p y.1 in cond_both (p.handles == 0) (reply.NoHandle, p) x P (λ _. same_keeps p room) (λ _. kept)
 
-  by_seat_keeps : (p : Pool V) (x : Reply V × Pool V) → HasRoom p → Keeps p x.1 → Keeps p (if nat_lt (length p.parties) p.most_parties then x else (reply.NoRoom, p)).1
-  by_seat_keeps p x room kept =
+  by_newcomer_keeps : (p : Pool V) (x : Reply V × Pool V) → HasRoom p → Keeps p x.1 → Keeps p (if nat_lt (length p.parties) p.most_parties then x else (reply.NoRoom, p)).1
+  by_newcomer_keeps p x room kept =
       let P : Reply V × Pool V → Type 0 = λ y. Keeps p y.1 in
       cond_both (nat_lt (length p.parties) p.most_parties) x (reply.NoRoom, p) P (λ _. kept) (λ _. same_keeps p room)
 
@@ -191,12 +191,12 @@ module _ {V : Type 0} where
   unsettled_keeps : (found : Bool) (m : Move V) (p : Pool V) → HasRoom p → Keeps p (unsettled found m p).1
   unsettled_keeps found (move.Get wait) p room =
       let starts = started (new_get wait) p in
-      by_handle_keeps p (by_seat (started (new_get wait)) p) room (by_seat_keeps p starts room (record { room = room; limit = refl }))
+      by_handle_keeps p (by_newcomer (started (new_get wait)) p) room (by_newcomer_keeps p starts room (record { room = room; limit = refl }))
   unsettled_keeps found (move.Add v) p room =
       let start : Item V → Pool V → Reply V × Pool V = λ item. started (new_add item) in
       let numbered = record p { next = p.next + 1 } in
-      by_handle_keeps p (by_seat (by_number start v) p) room
-      (by_seat_keeps p (by_number start v p) room
+      by_handle_keeps p (by_newcomer (by_number start v) p) room
+      (by_newcomer_keeps p (by_number start v p) room
       (by_number_keeps v p (start (record { number = p.next; value = v }) numbered) room (record { room = room; limit = refl })))
   unsettled_keeps found (move.Poll n now) p room = by_party_keeps (slice_get p.parties n) (poll found n now) p room (λ party. poll_keeps found n now party p room)
   unsettled_keeps found move.TryGet p room = by_handle_keeps p (try_get p) room (try_get_keeps p room)

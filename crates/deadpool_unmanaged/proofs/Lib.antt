@@ -4,6 +4,7 @@ pub mod Copies
 pub mod CoreQueues
 pub mod Follows
 pub mod GetPolls
+pub mod Kept
 pub mod Lawful
 pub mod Lined
 pub mod OtherMoves
@@ -12,6 +13,6 @@ pub mod Passes
 pub mod PassesMoves
 pub mod Polls
 pub mod Runs
-pub mod Seats
 pub mod Settling
+pub mod Visitors
 pub mod Well

@@ -14,10 +14,10 @@ use Rattle.deadpool_unmanaged.specs.Pool.{Party}
 use Rattle.deadpool_unmanaged.specs.RunLaws.{IsLined}
 
 -- the members, as one leaves, joins, or some are granted what they ask for
-members-without : (n : ℕ) (q : Queue) → members (without n q) ≡ without_number n (members q)
+pub members-without : (n : ℕ) (q : Queue) → members (without n q) ≡ without_number n (members q)
 members-without n q = sym (without_number-append n q.granted q.waiting)
 
-members-joined : (n : ℕ) (q : Queue) → members (joined n q) ≡ members q ++ n ∷ []
+pub members-joined : (n : ℕ) (q : Queue) → members (joined n q) ≡ members q ++ n ∷ []
 members-joined n q = sym (append_assoc q.granted q.waiting (n ∷ []))
 
 pub members-served : (is_open : Bool) (free : ℕ) (q : Queue) → members (served is_open free q) ≡ members q

@@ -8,13 +8,13 @@ use Rattle.deadpool_parts.specs.Numbers.{largest_usize}
 use Rattle.deadpool_parts.specs.declared.moment.Runtime.{Runtime}
 use Rattle.deadpool_parts.proofs.Owners.{NoTicket, owned-push, renamed-push}
 use Rattle.deadpool_unmanaged.specs.Image.{image, party_of, has_get, has_add, IsCounted}
-use Rattle.deadpool_unmanaged.specs.Laws.{IsLawful}
+use Rattle.deadpool_unmanaged.specs.RunLaws.{IsWell}
 use Rattle.deadpool_unmanaged.specs.Moves.{NobodyWaits, unsettled, by_party}
 use Rattle.deadpool_unmanaged.specs.Pool.{Pool}
 use Rattle.deadpool_unmanaged.specs.State.{State}
 use Rattle.deadpool_unmanaged.specs.StateSteps.{without_get, without_add}
 use Rattle.deadpool_unmanaged.specs.Steps.{cancelled}
-use Rattle.deadpool_unmanaged.specs.TrialFields.{CancelsSeat}
+use Rattle.deadpool_unmanaged.specs.TrialFields.{CancelsVisitor}
 use Rattle.deadpool_unmanaged.specs.declared.add.AddStage.TheVariants as add
 use Rattle.deadpool_unmanaged.specs.declared.get.GetStage.TheVariants as get
 use Rattle.deadpool_unmanaged.specs.declared.replay.moves.Item.{Item}
@@ -22,11 +22,11 @@ use Rattle.deadpool_unmanaged.specs.declared.replay.moves.Move.{Move}
 use Rattle.deadpool_unmanaged.specs.declared.replay.moves.Move.TheVariants as move
 use Rattle.deadpool_unmanaged.specs.declared.replay.moves.Reply.{Reply}
 use Rattle.deadpool_unmanaged.specs.declared.replay.moves.Reply.TheVariants as reply
-use Rattle.deadpool_unmanaged.specs.declared.replay.trial.Seat.{Seat}
-use Rattle.deadpool_unmanaged.specs.declared.replay.trial.Seat.TheVariants as seat
+use Rattle.deadpool_unmanaged.specs.declared.replay.trial.Visitor.{Visitor}
+use Rattle.deadpool_unmanaged.specs.declared.replay.trial.Visitor.TheVariants as visitor
 use Rattle.deadpool_parts.specs.declared.replies.StepReply.TheVariants.{Done, Unknown}
 use Rattle.deadpool_unmanaged.proofs.Follows.{Follows, by_settling, by_resting}
-use Rattle.deadpool_unmanaged.proofs.Seats.{party-here, counted-set, image-set, left-none, nobody-set, counted-without_get, image-without_get, counted-without_add, image-without_add}
+use Rattle.deadpool_unmanaged.proofs.Visitors.{party-here, counted-set, image-set, left-none, nobody-set, counted-without_get, image-without_get, counted-without_add, image-without_add}
 
 -- no handle is left
 pub no_handle : (b : Bool) (n : ℕ) → b ≡ nat_lt 0 n → b ≡ false → eqb n 0 ≡ true
@@ -40,91 +40,91 @@ some_handle b n e h = grind (arith, nat_tests)
 pub differs : (n m : ℕ) → n ≢ m → eqb n m ≡ false
 differs n m h = grind (arith, nat_tests)
 
-module _ {V : Type 0} (runtime : Option Runtime) (most next : ℕ) (d : State (Item V)) (seats : List (Option (Seat V))) (out : List (Item V)) (k : IsCounted d seats out)
-    (lawful : IsLawful (image runtime most next d seats out)) where
+module _ {V : Type 0} (runtime : Option Runtime) (most next : ℕ) (d : State (Item V)) (visitors : List (Option (Visitor V))) (out : List (Item V)) (k : IsCounted d visitors out)
+    (well : IsWell (image runtime most next d visitors out)) where
   abbrev pool : Pool V
-  pool = image runtime most next d seats out
+  pool = image runtime most next d visitors out
 
   -- a move that changes nothing
-  pub stays : (m : Move V) (answer : Reply V) → unsettled true m pool ≡ (answer, pool) → Follows m pool answer d seats out pool
-  stays m answer makes = by_resting m pool lawful answer runtime most next d seats out k true makes d refl lawful.nobody_waits
+  pub stays : (m : Move V) (answer : Reply V) → unsettled true m pool ≡ (answer, pool) → Follows m pool answer d visitors out pool
+  stays m answer makes = by_resting m pool well answer runtime most next d visitors out k true makes d refl well.lawful.nobody_waits
 
   -- ---- a party starts
 
-  module _ (new : Option (Seat V)) (no_get : NoTicket has_get new) (no_add : NoTicket has_add new) where
-    counted-push : IsCounted d (seats ++ new ∷ []) out
-    counted-push = record { gets = owned-push has_get d.gets seats k.gets new no_get; adds = owned-push has_add d.adds seats k.adds new no_add; outside = k.outside }
+  module _ (new : Option (Visitor V)) (no_get : NoTicket has_get new) (no_add : NoTicket has_add new) where
+    counted-push : IsCounted d (visitors ++ new ∷ []) out
+    counted-push = record { gets = owned-push has_get d.gets visitors k.gets new no_get; adds = owned-push has_add d.adds visitors k.adds new no_add; outside = k.outside }
 
-    image-push : (later : ℕ) → image runtime most later d (seats ++ new ∷ []) out ≡ record (image runtime most later d seats out) { parties = map party_of seats ++ party_of new ∷ [] }
-    image-push later = rw (map-append party_of seats (new ∷ []), renamed-push has_get d.gets seats k.gets new, renamed-push has_add d.adds seats k.adds new) refl
+    image-push : (later : ℕ) → image runtime most later d (visitors ++ new ∷ []) out ≡ record (image runtime most later d visitors out) { parties = map party_of visitors ++ party_of new ∷ [] }
+    image-push later = rw (map-append party_of visitors (new ∷ []), renamed-push has_get d.gets visitors k.gets new, renamed-push has_add d.adds visitors k.adds new) refl
 
-    starts : (m : Move V) (number later : ℕ) → number ≡ length (map party_of seats)
-        → unsettled true m pool ≡ (reply.Started (length (map party_of seats)), record (image runtime most later d seats out) { parties = map party_of seats ++ party_of new ∷ [] })
-        → Follows m pool (reply.Started number) d (seats ++ new ∷ []) out (image runtime most later d (seats ++ new ∷ []) out)
+    starts : (m : Move V) (number later : ℕ) → number ≡ length (map party_of visitors)
+        → unsettled true m pool ≡ (reply.Started (length (map party_of visitors)), record (image runtime most later d visitors out) { parties = map party_of visitors ++ party_of new ∷ [] })
+        → Follows m pool (reply.Started number) d (visitors ++ new ∷ []) out (image runtime most later d (visitors ++ new ∷ []) out)
     starts m number later is makes =
         let after = image-push later in
-        let nobody = lawful.nobody_waits in
+        let nobody = well.lawful.nobody_waits in
         rw is
-        (by_resting m pool lawful (reply.Started (length (map party_of seats))) runtime most later d (seats ++ new ∷ []) out counted-push true
-        (makes ∙ ap (λ (q : Pool V). (reply.Started (length (map party_of seats)), q)) (sym after)) d refl
+        (by_resting m pool well (reply.Started (length (map party_of visitors))) runtime most later d (visitors ++ new ∷ []) out counted-push true
+        (makes ∙ ap (λ (q : Pool V). (reply.Started (length (map party_of visitors)), q)) (sym after)) d refl
         (subst NobodyWaits (sym after) (record { objects = nobody.objects; room = nobody.room })))
 
-  module _ (some : eqb d.handles 0 ≡ false) (few : nat_lt (length (map party_of seats)) most ≡ true) (number : ℕ) (is : number ≡ length (map party_of seats)) where
+  module _ (some : eqb d.handles 0 ≡ false) (few : nat_lt (length (map party_of visitors)) most ≡ true) (number : ℕ) (is : number ≡ length (map party_of visitors)) where
     pub get_started : (wait : Option Duration)
-        → Follows (move.Get wait) pool (reply.Started number) d (seats ++ Some (seat.Get (get.Unpolled wait)) ∷ []) out (image runtime most next d (seats ++ Some (seat.Get (get.Unpolled wait)) ∷ []) out)
-    get_started wait = starts (Some (seat.Get (get.Unpolled wait))) (λ u. refl) (λ u. refl) (move.Get wait) number next is (rw (some, few) refl)
+        → Follows (move.Get wait) pool (reply.Started number) d (visitors ++ Some (visitor.Get (get.Unpolled wait)) ∷ []) out (image runtime most next d (visitors ++ Some (visitor.Get (get.Unpolled wait)) ∷ []) out)
+    get_started wait = starts (Some (visitor.Get (get.Unpolled wait))) (λ u. refl) (λ u. refl) (move.Get wait) number next is (rw (some, few) refl)
 
     pub add_started : (v : V) (item : Item V) (later : ℕ) → eqb next largest_usize ≡ false → item ≡ record { number = next; value = v } → later ≡ next + 1
-        → Follows (move.Add v) pool (reply.Started number) d (seats ++ Some (seat.Add (add.Unpolled item)) ∷ []) out (image runtime most later d (seats ++ Some (seat.Add (add.Unpolled item)) ∷ []) out)
+        → Follows (move.Add v) pool (reply.Started number) d (visitors ++ Some (visitor.Add (add.Unpolled item)) ∷ []) out (image runtime most later d (visitors ++ Some (visitor.Add (add.Unpolled item)) ∷ []) out)
     add_started v item later left named more =
         rw (named, more)
-        (starts (Some (seat.Add (add.Unpolled (record { number = next; value = v })))) (λ u. refl) (λ u. refl) (move.Add v) number (next + 1) is (rw (some, few, left) refl))
+        (starts (Some (visitor.Add (add.Unpolled (record { number = next; value = v })))) (λ u. refl) (λ u. refl) (move.Add v) number (next + 1) is (rw (some, few, left) refl))
 
   -- ---- a party is cancelled
 
   module _ (n : ℕ) where
     abbrev Cancelled : State (Item V) → Type 0
-    Cancelled d' = Follows (move.Cancel n) pool reply.Cancelled d' (set seats n None) out (image runtime most next d' (set seats n None) out)
+    Cancelled d' = Follows (move.Cancel n) pool reply.Cancelled d' (set visitors n None) out (image runtime most next d' (set visitors n None) out)
 
-    makes_cancelled : (old : Seat V) → slice_get seats n ≡ Some (Some old) → unsettled true (move.Cancel n) pool ≡ (reply.Cancelled, cancelled n pool)
-    makes_cancelled (seat.Get stage) here =
-        ap (λ o. by_party o (λ party q. (reply.Cancelled, cancelled n q)) pool) (party-here runtime most next d seats out k n (Some (seat.Get stage)) None here)
-    makes_cancelled (seat.Add stage) here =
-        ap (λ o. by_party o (λ party q. (reply.Cancelled, cancelled n q)) pool) (party-here runtime most next d seats out k n (Some (seat.Add stage)) None here)
+    makes_cancelled : (old : Visitor V) → slice_get visitors n ≡ Some (Some old) → unsettled true (move.Cancel n) pool ≡ (reply.Cancelled, cancelled n pool)
+    makes_cancelled (visitor.Get stage) here =
+        ap (λ o. by_party o (λ party q. (reply.Cancelled, cancelled n q)) pool) (party-here runtime most next d visitors out k n (Some (visitor.Get stage)) None here)
+    makes_cancelled (visitor.Add stage) here =
+        ap (λ o. by_party o (λ party q. (reply.Cancelled, cancelled n q)) pool) (party-here runtime most next d visitors out k n (Some (visitor.Add stage)) None here)
 
     -- one that is in no queue
-    unqueued : (old : Seat V) → slice_get seats n ≡ Some (Some old) → NoTicket has_get (Some old) → NoTicket has_add (Some old) → (d' : State (Item V)) → d' ≡ d → Cancelled d'
+    unqueued : (old : Visitor V) → slice_get visitors n ≡ Some (Some old) → NoTicket has_get (Some old) → NoTicket has_add (Some old) → (d' : State (Item V)) → d' ≡ d → Cancelled d'
     unqueued old here no_get no_add d' same =
-        let gone = left-none runtime most next d seats out k n (Some old) None here no_get no_add in
-        let after : image runtime most next d (set seats n None) out ≡ cancelled n pool =
-        image-set runtime most next d seats out k n (Some old) None here no_get (λ u. refl) no_add (λ u. refl) ∙ ap (λ (q : Pool V). record q { parties = set (map party_of seats) n None }) (sym gone) in
+        let gone = left-none runtime most next d visitors out k n (Some old) None here no_get no_add in
+        let after : image runtime most next d (set visitors n None) out ≡ cancelled n pool =
+        image-set runtime most next d visitors out k n (Some old) None here no_get (λ u. refl) no_add (λ u. refl) ∙ ap (λ (q : Pool V). record q { parties = set (map party_of visitors) n None }) (sym gone) in
         let makes = makes_cancelled old here ∙ ap (λ (q : Pool V). (reply.Cancelled, q)) (sym after) in
-        by_resting (move.Cancel n) pool lawful reply.Cancelled runtime most next d (set seats n None) out
-        (counted-set runtime most next d seats out k n (Some old) None here no_get (λ u. refl) no_add (λ u. refl)) true makes d' same
-        (nobody-set runtime most next d seats out k n (Some old) None here no_get (λ u. refl) no_add (λ u. refl) lawful.nobody_waits)
+        by_resting (move.Cancel n) pool well reply.Cancelled runtime most next d (set visitors n None) out
+        (counted-set runtime most next d visitors out k n (Some old) None here no_get (λ u. refl) no_add (λ u. refl)) true makes d' same
+        (nobody-set runtime most next d visitors out k n (Some old) None here no_get (λ u. refl) no_add (λ u. refl) well.lawful.nobody_waits)
 
-    pub cancels : (old : Seat V) → slice_get seats n ≡ Some (Some old) → (d' : State (Item V)) → CancelsSeat old d d' → Cancelled d'
-    cancels (seat.Get (get.Unpolled wait)) here d' same = unqueued (seat.Get (get.Unpolled wait)) here (λ u. refl) (λ u. refl) d' same
-    cancels (seat.Get get.Finished) here d' same = unqueued (seat.Get get.Finished) here (λ u. refl) (λ u. refl) d' same
-    cancels (seat.Add (add.Unpolled item)) here d' same = unqueued (seat.Add (add.Unpolled item)) here (λ u. refl) (λ u. refl) d' same
-    cancels (seat.Add add.Finished) here d' same = unqueued (seat.Add add.Finished) here (λ u. refl) (λ u. refl) d' same
-    cancels (seat.Get (get.Queued t deadline)) here d' (Unknown, e) =
-        let mine = k.gets.listed n t (Some (seat.Get (get.Queued t deadline))) here (eq-eqb t t refl) in
+    pub cancels : (old : Visitor V) → slice_get visitors n ≡ Some (Some old) → (d' : State (Item V)) → CancelsVisitor old d d' → Cancelled d'
+    cancels (visitor.Get (get.Unpolled wait)) here d' same = unqueued (visitor.Get (get.Unpolled wait)) here (λ u. refl) (λ u. refl) d' same
+    cancels (visitor.Get get.Finished) here d' same = unqueued (visitor.Get get.Finished) here (λ u. refl) (λ u. refl) d' same
+    cancels (visitor.Add (add.Unpolled item)) here d' same = unqueued (visitor.Add (add.Unpolled item)) here (λ u. refl) (λ u. refl) d' same
+    cancels (visitor.Add add.Finished) here d' same = unqueued (visitor.Add add.Finished) here (λ u. refl) (λ u. refl) d' same
+    cancels (visitor.Get (get.Queued t deadline)) here d' (Unknown, e) =
+        let mine = k.gets.listed n t (Some (visitor.Get (get.Queued t deadline))) here (eq-eqb t t refl) in
         absurd (let differ : true ≡ false = sym mine.0 ∙ e.0 in cc)
-    cancels (seat.Get (get.Queued t deadline)) here d' (Done, e) =
-        let old : Seat V = seat.Get (get.Queued t deadline) in
+    cancels (visitor.Get (get.Queued t deadline)) here d' (Done, e) =
+        let old : Visitor V = visitor.Get (get.Queued t deadline) in
         let mine = k.gets.listed n t (Some old) here (eq-eqb t t refl) in
-        let after = image-without_get runtime most next d seats out k n (Some old) None here t mine.1 (λ u. refl) (λ u. refl) (λ u. refl) (λ u. refl) in
+        let after = image-without_get runtime most next d visitors out k n (Some old) None here t mine.1 (λ u. refl) (λ u. refl) (λ u. refl) (λ u. refl) in
         let makes = makes_cancelled old here ∙ ap (λ (q : Pool V). (reply.Cancelled, q)) (sym after) in
-        by_settling (move.Cancel n) pool lawful reply.Cancelled runtime most next (without_get t d) (set seats n None) out
-        (counted-without_get runtime most next d seats out k n (Some old) None here t mine.1 (λ u. refl) (λ u. refl) (λ u. refl) (λ u. refl)) true makes d' e.1
-    cancels (seat.Add (add.Queued t item)) here d' (Unknown, e) =
-        let mine = k.adds.listed n t (Some (seat.Add (add.Queued t item))) here (eq-eqb t t refl) in
+        by_settling (move.Cancel n) pool well reply.Cancelled runtime most next (without_get t d) (set visitors n None) out
+        (counted-without_get runtime most next d visitors out k n (Some old) None here t mine.1 (λ u. refl) (λ u. refl) (λ u. refl) (λ u. refl)) true makes d' e.1
+    cancels (visitor.Add (add.Queued t item)) here d' (Unknown, e) =
+        let mine = k.adds.listed n t (Some (visitor.Add (add.Queued t item))) here (eq-eqb t t refl) in
         absurd (let differ : true ≡ false = sym mine.0 ∙ e.0 in cc)
-    cancels (seat.Add (add.Queued t item)) here d' (Done, e) =
-        let old : Seat V = seat.Add (add.Queued t item) in
+    cancels (visitor.Add (add.Queued t item)) here d' (Done, e) =
+        let old : Visitor V = visitor.Add (add.Queued t item) in
         let mine = k.adds.listed n t (Some old) here (eq-eqb t t refl) in
-        let after = image-without_add runtime most next d seats out k n (Some old) None here t mine.1 (λ u. refl) (λ u. refl) (λ u. refl) (λ u. refl) in
+        let after = image-without_add runtime most next d visitors out k n (Some old) None here t mine.1 (λ u. refl) (λ u. refl) (λ u. refl) (λ u. refl) in
         let makes = makes_cancelled old here ∙ ap (λ (q : Pool V). (reply.Cancelled, q)) (sym after) in
-        by_settling (move.Cancel n) pool lawful reply.Cancelled runtime most next (without_add t d) (set seats n None) out
-        (counted-without_add runtime most next d seats out k n (Some old) None here t mine.1 (λ u. refl) (λ u. refl) (λ u. refl) (λ u. refl)) true makes d' e.1
+        by_settling (move.Cancel n) pool well reply.Cancelled runtime most next (without_add t d) (set visitors n None) out
+        (counted-without_add runtime most next d visitors out k n (Some old) None here t mine.1 (λ u. refl) (λ u. refl) (λ u. refl) (λ u. refl)) true makes d' e.1

@@ -12,7 +12,7 @@ use Rattle.deadpool_unmanaged.specs.Steps.{find_item, without_item, store, poll,
 use Rattle.deadpool_unmanaged.specs.declared.replay.moves.Item.{Item}
 use Rattle.deadpool_unmanaged.specs.declared.replay.moves.Reply.{Reply}
 use Rattle.deadpool_unmanaged.specs.declared.replay.moves.Reply.TheVariants as reply
-use Rattle.deadpool_unmanaged.specs.Moves.{unsettled, by_seat, by_number, by_party, started}
+use Rattle.deadpool_unmanaged.specs.Moves.{unsettled, by_newcomer, by_number, by_party, started}
 use Rattle.deadpool_unmanaged.specs.declared.replay.moves.Move.{Move}
 use Rattle.deadpool_unmanaged.specs.declared.replay.moves.Move.TheVariants as move
 use Rattle.deadpool_unmanaged.proofs.Copies.{one}
@@ -66,9 +66,9 @@ module _ {V : Type 0} where
     unfolding P
     by_handle_passes leaving x step = cond_both (p.handles == 0) (reply.NoHandle, p) x (P leaving) (λ _. same_passes None leaving p well) step
 
-    by_seat_passes : (x : Reply V × Pool V) → Passes None [] p x.1 → Passes None [] p (if nat_lt (length p.parties) p.most_parties then x else (reply.NoRoom, p)).1
+    by_newcomer_passes : (x : Reply V × Pool V) → Passes None [] p x.1 → Passes None [] p (if nat_lt (length p.parties) p.most_parties then x else (reply.NoRoom, p)).1
     unfolding P
-    by_seat_passes x step = cond_both (nat_lt (length p.parties) p.most_parties) x (reply.NoRoom, p) (P []) (λ _. step) (λ _. same_passes None [] p well)
+    by_newcomer_passes x step = cond_both (nat_lt (length p.parties) p.most_parties) x (reply.NoRoom, p) (P []) (λ _. step) (λ _. same_passes None [] p well)
 
     by_number_passes : (v : V) (x : Reply V × Pool V) → Passes None [] p x.1 → Passes None [] p (if p.next == largest_usize then (reply.Exhausted v, p) else x).1
     unfolding P
@@ -246,10 +246,10 @@ module _ {V : Type 0} where
 
     pub unsettled_passes : (found : Bool) (m : Move V) → Passes (named m) (may_leave m p) p (unsettled found m p).1
     unfolding P
-    unsettled_passes found (move.Get wait) = by_handle_passes [] (by_seat (started (new_get wait)) p) (λ _. by_seat_passes (started (new_get wait) p) (get_started_passes wait))
+    unsettled_passes found (move.Get wait) = by_handle_passes [] (by_newcomer (started (new_get wait)) p) (λ _. by_newcomer_passes (started (new_get wait) p) (get_started_passes wait))
     unsettled_passes found (move.Add v) =
         let start : Item V → Pool V → Reply V × Pool V = λ item. started (new_add item) in
-        by_handle_passes [] (by_seat (by_number start v) p) (λ _. by_seat_passes (by_number start v p) (by_number_passes v (start (drawn v) numbered) (add_started_passes v)))
+        by_handle_passes [] (by_newcomer (by_number start v) p) (λ _. by_newcomer_passes (by_number start v p) (by_number_passes v (start (drawn v) numbered) (add_started_passes v)))
     unsettled_passes found (move.Poll n now) = by_party_passes n (slice_get p.parties n) (poll found n now) (λ party here. poll_passes found n now p well party here)
     unsettled_passes found move.TryGet = by_handle_passes [] (try_get p) (λ _. try_get_passes)
     unsettled_passes found (move.TryAdd v) = by_handle_passes [] (by_number try_store v p) (λ _. by_number_passes v (try_store (drawn v) numbered) (try_store_passes v))

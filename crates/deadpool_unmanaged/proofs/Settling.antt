@@ -11,7 +11,7 @@ use Rattle.deadpool_unmanaged.specs.Moves.{NobodyWaits}
 use Rattle.deadpool_unmanaged.specs.Pool.{Pool, settle, free_objects, free_room}
 use Rattle.deadpool_unmanaged.specs.State.{State, settled, free_objects as objects_left, free_room as room_left}
 use Rattle.deadpool_unmanaged.specs.declared.replay.moves.Item.{Item}
-use Rattle.deadpool_unmanaged.specs.declared.replay.trial.Seat.{Seat}
+use Rattle.deadpool_unmanaged.specs.declared.replay.trial.Visitor.{Visitor}
 
 -- the same are granted under other names
 pub renamed-served : (f : ℕ → ℕ) (is_open : Bool) (free : ℕ) (q : Queue) → renamed f (served is_open free q) ≡ served is_open free (renamed f q)
@@ -39,16 +39,16 @@ module _ {V : Type 0} where
   settle-none p nobody = rw (served-none p.is_open (free_objects p) p.gets nobody.objects, served-none p.is_open (free_room p) p.adds nobody.room) refl
 
   -- a settled core has the same tickets
-  pub counted-settled : (d : State (Item V)) (seats : List (Option (Seat V))) (out : List (Item V)) → IsCounted d seats out → IsCounted (settled d) seats out
-  counted-settled d seats out k =
-      record { gets = owned-granting has_get d.gets seats k.gets _; adds = owned-granting has_add d.adds seats k.adds _; outside = k.outside }
+  pub counted-settled : (d : State (Item V)) (visitors : List (Option (Visitor V))) (out : List (Item V)) → IsCounted d visitors out → IsCounted (settled d) visitors out
+  counted-settled d visitors out k =
+      record { gets = owned-granting has_get d.gets visitors k.gets _; adds = owned-granting has_add d.adds visitors k.adds _; outside = k.outside }
 
-  pub settles : (runtime : Option Runtime) (most next : ℕ) (d : State (Item V)) (seats : List (Option (Seat V))) (out : List (Item V)) → IsCounted d seats out
-      → image runtime most next (settled d) seats out ≡ settle (image runtime most next d seats out)
-  settles runtime most next d seats out k =
-      let p : Pool V = image runtime most next d seats out in
-      let gets : length (map (owner has_get seats) d.gets.granted) ≡ length d.gets.granted = length-map d.gets.granted (owner has_get seats) in
-      let adds : length (map (owner has_add seats) d.adds.granted) ≡ length d.adds.granted = length-map d.adds.granted (owner has_add seats) in
+  pub settles : (runtime : Option Runtime) (most next : ℕ) (d : State (Item V)) (visitors : List (Option (Visitor V))) (out : List (Item V)) → IsCounted d visitors out
+      → image runtime most next (settled d) visitors out ≡ settle (image runtime most next d visitors out)
+  settles runtime most next d visitors out k =
+      let p : Pool V = image runtime most next d visitors out in
+      let gets : length (map (owner has_get visitors) d.gets.granted) ≡ length d.gets.granted = length-map d.gets.granted (owner has_get visitors) in
+      let adds : length (map (owner has_add visitors) d.adds.granted) ≡ length d.adds.granted = length-map d.adds.granted (owner has_add visitors) in
       let objects : objects_left d ≡ free_objects p = omega (arith, gets) in
       let room : room_left d ≡ free_room p = omega (arith, adds, k.outside) in
-      rw (renamed-served (owner has_get seats) d.is_open (objects_left d) d.gets, renamed-served (owner has_add seats) d.is_open (room_left d) d.adds, objects, room) refl
+      rw (renamed-served (owner has_get visitors) d.is_open (objects_left d) d.gets, renamed-served (owner has_add visitors) d.is_open (room_left d) d.adds, objects, room) refl

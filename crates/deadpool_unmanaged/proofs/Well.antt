@@ -9,10 +9,10 @@ use Rattle.deadpool_parts.specs.Queue.{Queue, members, served}
 use Rattle.deadpool_parts.proofs.Orders.{IsOnce-append}
 use Rattle.deadpool_unmanaged.specs.Moves.{unsettled, moved}
 use Rattle.deadpool_unmanaged.specs.Pool.{Pool, Party, new_get, queued_get, new_add, queued_add, finished}
-use Rattle.deadpool_unmanaged.specs.RunLaws.{IsWell, IsNumbered, CountsOn, IsLined, HasRoomForAll, IsListedOnce, Succeeds, EachState, EachStep, EachLater, EachMove, EndsWell, NoneReturns, copies, asks_for_object, asks_for_room, named, OthersStayInPool, OthersStayQueued, OthersStand}
+use Rattle.deadpool_unmanaged.specs.RunLaws.{IsWell, OpensWell, IsNumbered, CountsOn, IsLined, HasRoomForAll, IsListedOnce, Succeeds, EachState, EachStep, EachLater, EachMove, EndsWell, NoneReturns, copies, asks_for_object, asks_for_room, named, OthersStayInPool, OthersStayQueued, OthersStand}
 use Rattle.deadpool_unmanaged.specs.declared.replay.moves.Move.{Move}
 use Rattle.deadpool_unmanaged.specs.declared.replay.moves.Reply.{Reply}
-use Rattle.deadpool_unmanaged.proofs.Lawful.{moved_lawful, served_within}
+use Rattle.deadpool_unmanaged.proofs.Lawful.{opened_lawful, moved_lawful, served_within}
 use Rattle.deadpool_unmanaged.proofs.Lined.{members-served, moves_lined, moves_stay}
 use Rattle.deadpool_unmanaged.proofs.PassesMoves.{unsettled_passes}
 use Rattle.deadpool_unmanaged.proofs.Runs.{runs_have, Each-more}
@@ -51,6 +51,17 @@ module _ {V : Type 0} where
   lined_served asks is_open free q parties lined =
       let same = members-served is_open free q in
       record { once = rw same lined.once; marks = λ n. ap (has_number n) same ∙ lined.marks n }
+
+  -- a new pool is well
+  pub opened_well : OpensWell V
+  opened_well limit runtime most = record {
+    lawful = opened_lawful limit runtime most;
+    numbered = record { once = λ n. omega arith; drawn = λ n past. refl };
+    promises = λ is some. omega arith;
+    closed = λ shut. refl;
+    gets = record { once = tt; marks = λ n. refl };
+    adds = record { once = tt; marks = λ n. refl };
+  }
 
   pub moved_well : (found : Bool) (m : Move V) (p : Pool V) → IsWell p → IsWell (moved found m p).1 × Succeeds p (moved found m p).1
   moved_well found m p well =

@@ -21,6 +21,11 @@ module _ {T : Type 0} where
   held_by (Queued ticket value) = Some value
   held_by Finished = None
 
+  -- the ticket of an add in the queue
+  abbrev pub ticket_of : AddStage T → Option ℕ
+  ticket_of (Queued ticket value) = Some ticket
+  ticket_of _ = None
+
   -- where an add stands whose entry was answered so, and what its poll comes to
   abbrev pub stage_entered : AddEnterReply T → AddStage T
   stage_entered (entered.Waiting ticket value) = Queued ticket value
@@ -32,6 +37,11 @@ module _ {T : Type 0} where
   turn_entered (entered.Full value) = Ready (Err (value, Timeout))
   turn_entered (entered.Waiting ticket value) = Pending
   turn_entered (entered.OutOfMemory value) = Ready (Err (value, OutOfMemory))
+
+  -- it ends for want of memory
+  abbrev pub IsWithoutMemory : Poll (Result (Unit {0}) (T × PoolError)) → Type 0
+  IsWithoutMemory (Ready (Err (value, OutOfMemory))) = Unit {0}
+  IsWithoutMemory _ = ⊥
 
   -- the same where it asked
   abbrev pub stage_asked : ℕ → AddAskReply T → AddStage T

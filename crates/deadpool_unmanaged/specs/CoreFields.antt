@@ -1,9 +1,9 @@
--- The state that the fields of a `Core` are, and what they keep.
+-- The state that the fields of a core are, and what they keep.
 use Rattle.std.specs.Prelude.{◌≡◌, ◌+◌, ◌≤◌, not, List, length, vec_capacity}
-use Rattle.deadpool_parts.specs.Gate.{Waiter, granted_tickets, waiting_tickets}
+use Rattle.deadpool_parts.specs.Gate.{Waiter, granted_tickets, waiting_tickets, untold_tickets}
 use Rattle.deadpool_parts.specs.Queue.{Queue}
-use Rattle.deadpool_unmanaged.specs.State.{State}
-use Rattle.deadpool_unmanaged.specs.declared.state.Core.TheInside.{Inside}
+use Rattle.deadpool_unmanaged.specs.State.{State, CoreState}
+use Rattle.deadpool_unmanaged.specs.declared.state.PoolState.TheInside.{Inside}
 
 abbrev pub queue_of : List Waiter → Queue
 queue_of ws = record { granted = granted_tickets ws; waiting = waiting_tickets ws }
@@ -18,6 +18,17 @@ module _ {T : Type 0} where
     outside = c.outside;
     gets = queue_of c.gets.waiters;
     adds = queue_of c.adds.waiters;
+    untold_gets = untold_tickets c.gets.waiters;
+    untold_adds = untold_tickets c.adds.waiters;
+  }
+
+  abbrev pub core_of : Inside T → CoreState T
+  core_of c = record {
+    pool = state_of c;
+    gets_room = c.gets.capacity;
+    adds_room = c.adds.capacity;
+    next_get = c.gets.next_ticket;
+    next_add = c.adds.next_ticket;
   }
 
   -- the two lines close together, and there is room for each object and for each that may come

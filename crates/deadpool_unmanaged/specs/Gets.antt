@@ -1,5 +1,5 @@
 -- A get as a state that is polled: what one poll makes of it and of the pool, and what its cancelling does.
-use Rattle.std.specs.Prelude.{◌≡◌, ℕ, true, false, not, ◌⊎◌, Option, Result, Ok, Err}
+use Rattle.std.specs.Prelude.{◌≡◌, ℕ, true, false, not, ◌⊎◌, Option, Some, None, Result, Ok, Err}
 use Rattle.futures.specs.declared.task.Poll.{Poll}
 use Rattle.futures.specs.declared.task.Poll.TheVariants.{Ready, Pending}
 use Rattle.deadpool_parts.specs.Moments.{deadline_after, is_reached, cannot_wait}
@@ -16,6 +16,15 @@ use Rattle.deadpool_unmanaged.specs.declared.steps.GetAskReply.TheVariants as as
 use Rattle.deadpool_unmanaged.specs.declared.steps.GetEnterReply.{GetEnterReply}
 use Rattle.deadpool_unmanaged.specs.declared.steps.GetEnterReply.TheVariants as entered
 use Rattle.deadpool_parts.specs.declared.replies.StepReply.{StepReply}
+
+-- the ticket and the deadline of a get in the queue
+abbrev pub ticket_of : GetStage → Option ℕ
+ticket_of (Queued ticket deadline) = Some ticket
+ticket_of _ = None
+
+abbrev pub deadline_of : GetStage → Option Moment
+deadline_of (Queued ticket deadline) = deadline
+deadline_of _ = None
 
 module _ {T : Type 0} where
   -- where a get stands whose entry was answered so, and what its poll comes to

@@ -10,8 +10,8 @@ use Rattle.deadpool_unmanaged.specs.declared.add.AddStage.TheVariants as add
 use Rattle.deadpool_unmanaged.specs.declared.get.GetStage.{GetStage}
 use Rattle.deadpool_unmanaged.specs.declared.get.GetStage.TheVariants as get
 use Rattle.deadpool_unmanaged.specs.declared.replay.moves.Item.{Item}
-use Rattle.deadpool_unmanaged.specs.declared.replay.trial.Seat.{Seat}
-use Rattle.deadpool_unmanaged.specs.declared.replay.trial.Seat.TheVariants as seat
+use Rattle.deadpool_unmanaged.specs.declared.replay.trial.Visitor.{Visitor}
+use Rattle.deadpool_unmanaged.specs.declared.replay.trial.Visitor.TheVariants as visitor
 
 -- the ticket is a queued get's
 abbrev pub holds_get : ℕ → GetStage → Bool
@@ -30,13 +30,13 @@ module _ {V : Type 0} where
   adding (add.Queued ticket item) = queued_add item
   adding add.Finished = finished
 
-  abbrev pub party_of : Option (Seat V) → Option (Party V)
+  abbrev pub party_of : Option (Visitor V) → Option (Party V)
   party_of None = None
-  party_of (Some (seat.Get stage)) = Some (getting stage)
-  party_of (Some (seat.Add stage)) = Some (adding stage)
+  party_of (Some (visitor.Get stage)) = Some (getting stage)
+  party_of (Some (visitor.Add stage)) = Some (adding stage)
 
-  abbrev pub has_get : ℕ → Option (Seat V) → Bool
-  has_get t (Some (seat.Get stage)) = holds_get t stage
+  abbrev pub has_get : ℕ → Option (Visitor V) → Bool
+  has_get t (Some (visitor.Get stage)) = holds_get t stage
   has_get t _ = false
 
   -- the ticket is a queued add's
@@ -44,27 +44,27 @@ module _ {V : Type 0} where
   holds_add t (add.Queued ticket item) = ticket == t
   holds_add t _ = false
 
-  abbrev pub has_add : ℕ → Option (Seat V) → Bool
-  has_add t (Some (seat.Add stage)) = holds_add t stage
+  abbrev pub has_add : ℕ → Option (Visitor V) → Bool
+  has_add t (Some (visitor.Add stage)) = holds_add t stage
   has_add t _ = false
 
-  -- the queues are those of the seats, and as many objects are out as the core counts
-  pub record IsCounted (d : State (Item V)) (seats : List (Option (Seat V))) (out : List (Item V)) : Type 0 where
-    pub gets : IsOwned has_get d.gets seats
-    pub adds : IsOwned has_add d.adds seats
+  -- the queues are those of the visitors, and as many objects are out as the core counts
+  pub record IsCounted (d : State (Item V)) (visitors : List (Option (Visitor V))) (out : List (Item V)) : Type 0 where
+    pub gets : IsOwned has_get d.gets visitors
+    pub adds : IsOwned has_add d.adds visitors
     pub outside : d.outside ≡ length out
 
-  abbrev pub image : Option Runtime → ℕ → ℕ → State (Item V) → List (Option (Seat V)) → List (Item V) → Pool V
-  image runtime most next d seats out = record {
+  abbrev pub image : Option Runtime → ℕ → ℕ → State (Item V) → List (Option (Visitor V)) → List (Item V) → Pool V
+  image runtime most next d visitors out = record {
     limit = d.limit;
     is_open = d.is_open;
     handles = d.handles;
     runtime = runtime;
     next = next;
     most_parties = most;
-    parties = map party_of seats;
+    parties = map party_of visitors;
     idle = d.idle;
     out = out;
-    gets = renamed (owner has_get seats) d.gets;
-    adds = renamed (owner has_add seats) d.adds;
+    gets = renamed (owner has_get visitors) d.gets;
+    adds = renamed (owner has_add visitors) d.adds;
   }

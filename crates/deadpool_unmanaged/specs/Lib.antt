@@ -3,9 +3,11 @@ pub mod Config
 pub mod CoreFields
 pub mod Gets
 pub mod Image
+pub mod Kept
 pub mod Laws
 pub mod Moves
 pub mod Pool
+pub mod Queueing
 pub mod RunLaws
 pub mod Script
 pub mod Scripts

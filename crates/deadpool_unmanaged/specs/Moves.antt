@@ -25,8 +25,8 @@ module _ {V : Type 0} where
   started party p = (reply.Started (length p.parties), record p { parties = p.parties ++ Some party ∷ [] })
 
   -- a step of a new party, if another may start
-  abbrev pub by_seat : (Pool V → Reply V × Pool V) → Pool V → Reply V × Pool V
-  by_seat step p = if nat_lt (length p.parties) p.most_parties then step p else (reply.NoRoom, p)
+  abbrev pub by_newcomer : (Pool V → Reply V × Pool V) → Pool V → Reply V × Pool V
+  by_newcomer step p = if nat_lt (length p.parties) p.most_parties then step p else (reply.NoRoom, p)
 
   -- a step of an object that is handed in, which draws the next number
   abbrev pub by_number : (Item V → Pool V → Reply V × Pool V) → V → Pool V → Reply V × Pool V
@@ -39,8 +39,8 @@ module _ {V : Type 0} where
 
   -- What one move makes, before anybody is granted anything. `found` says whether there is memory for an entry in a queue.
   abbrev pub unsettled : Bool → Move V → Pool V → Reply V × Pool V
-  unsettled found (move.Get wait) p = by_handle (by_seat (started (new_get wait))) p
-  unsettled found (move.Add v) p = by_handle (by_seat (by_number (λ item. started (new_add item)) v)) p
+  unsettled found (move.Get wait) p = by_handle (by_newcomer (started (new_get wait))) p
+  unsettled found (move.Add v) p = by_handle (by_newcomer (by_number (λ item. started (new_add item)) v)) p
   unsettled found (move.Poll n now) p = by_party (slice_get p.parties n) (poll found n now) p
   unsettled found move.TryGet p = by_handle try_get p
   unsettled found (move.TryAdd v) p = by_handle (by_number try_store v) p

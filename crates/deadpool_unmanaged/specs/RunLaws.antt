@@ -98,7 +98,7 @@ module _ {V : Type 0} where
   abbrev pub IsListedOnce : Pool V → Type 0
   IsListedOnce p = IsOnce (members p.gets ++ members p.adds)
 
-  -- each queue changes only by removals and by one party at its end
+  -- some leave each queue, and at most one party joins it, at its end
   pub record KeepsQueues (p q : Pool V) : Type 0 where
     pub gets : KeepsOrder (members p.gets) (members q.gets)
     pub adds : KeepsOrder (members p.adds) (members q.adds)

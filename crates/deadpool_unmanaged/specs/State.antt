@@ -1,7 +1,8 @@
 -- The state of an unmanaged pool without names: tickets in its queues, and a count of the objects that are out.
-use Rattle.std.specs.Prelude.{ℕ, ◌+◌, ◌-◌, Bool, List, length}
+use Rattle.std.specs.Prelude.{ℕ, ◌+◌, ◌-◌, ◌≤◌, Bool, true, ◌||◌, ◌&&◌, ◌==◌, List, [], length, Option, is_some}
+use Rattle.deadpool_parts.specs.Waking.{next_due}
 use Rattle.deadpool_parts.specs.declared.status.Status.{Status}
-use Rattle.deadpool_parts.specs.Queue.{Queue, served}
+use Rattle.deadpool_parts.specs.Queue.{Queue, nobody, members, served}
 
 pub record State (T : Type 0) : Type 0 where
   pub limit : ℕ
@@ -14,8 +15,37 @@ pub record State (T : Type 0) : Type 0 where
   -- tickets: the gets ask for an object, and the adds for room
   pub gets : Queue
   pub adds : Queue
+  -- of these, in order of arrival, those that were not told that their wait has ended
+  pub untold_gets : List ℕ
+  pub untold_adds : List ℕ
+
+-- a core: its pool; of each queue how many it can list before it has to find memory, and the number on its next ticket
+pub record CoreState (T : Type 0) : Type 0 where
+  pub pool : State T
+  pub gets_room : ℕ
+  pub adds_room : ℕ
+  pub next_get : ℕ
+  pub next_add : ℕ
+
+-- the queue can list nobody more without memory
+abbrev pub IsFull : ℕ → Queue → Type 0
+IsFull room q = room ≤ length (members q)
 
 module _ {T : Type 0} where
+  -- an open pool with these objects, one handle, and nobody in its queues
+  abbrev pub opened : ℕ → List T → State T
+  opened limit idle = record {
+    limit = limit;
+    is_open = true;
+    handles = 1;
+    idle = idle;
+    outside = 0;
+    gets = nobody;
+    adds = nobody;
+    untold_gets = [];
+    untold_adds = [];
+  }
+
   abbrev pub size : State T → ℕ
   size d = length d.idle + d.outside
 
@@ -38,3 +68,21 @@ module _ {T : Type 0} where
     available = length d.idle;
     waiting = length d.gets.waiting + length d.gets.granted;
   }
+
+  -- the get, or the add, that is to be told next
+  abbrev pub due_get : State T → Option ℕ
+  due_get d = next_due d.is_open d.gets.granted d.untold_gets
+
+  abbrev pub due_add : State T → Option ℕ
+  due_add d = next_due d.is_open d.adds.granted d.untold_adds
+
+  -- somebody is to be told
+  abbrev pub has_due : State T → Bool
+  has_due d = is_some (due_get d) || is_some (due_add d)
+
+  -- one that enters now and wants to wait joins the queue
+  abbrev pub get_would_queue : State T → Bool
+  get_would_queue d = d.is_open && (free_objects d == 0)
+
+  abbrev pub add_would_queue : State T → Bool
+  add_would_queue d = d.is_open && (free_room d == 0)

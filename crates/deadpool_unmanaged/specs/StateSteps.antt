@@ -1,8 +1,9 @@
 -- The steps of a pool without names, each by its reply: when the reply comes, and the state after it.
-use Rattle.std.specs.Prelude.{◌≡◌, ℕ, ◌+◌, ◌-◌, ◌<◌, min, Bool, true, false, ◌&&◌, ◌==◌, nat_lt, if◌then◌else◌, [], ◌∷◌, ◌++◌, Some}
-use Rattle.deadpool_parts.specs.Numbers.{has_number, most_handles}
+use Rattle.std.specs.Prelude.{◌≡◌, ℕ, ◌+◌, ◌-◌, ◌<◌, min, Bool, true, false, ◌&&◌, ◌==◌, nat_lt, if◌then◌else◌, [], ◌∷◌, ◌++◌, Option, Some}
+use Rattle.deadpool_parts.specs.Numbers.{has_number, without_number, most_handles}
 use Rattle.deadpool_parts.specs.Queue.{is_listed, joined, without}
-use Rattle.deadpool_unmanaged.specs.State.{State, free_objects, free_room, settled}
+use Rattle.deadpool_parts.specs.Waking.{still_untold}
+use Rattle.deadpool_unmanaged.specs.State.{State, free_objects, free_room, settled, due_get, due_add}
 use Rattle.deadpool_unmanaged.specs.Steps.{last_idle, other_idle}
 use Rattle.deadpool_unmanaged.specs.declared.steps.GetEnterReply.{GetEnterReply}
 use Rattle.deadpool_unmanaged.specs.declared.steps.GetEnterReply.TheVariants as get
@@ -31,10 +32,17 @@ module _ {T : Type 0} where
 
   -- a get, or an add, leaves its queue
   abbrev pub without_get : ℕ → State T → State T
-  without_get ticket d = record d { gets = without ticket d.gets }
+  without_get ticket d = record d { gets = without ticket d.gets; untold_gets = without_number ticket d.untold_gets }
 
   abbrev pub without_add : ℕ → State T → State T
-  without_add ticket d = record d { adds = without ticket d.adds }
+  without_add ticket d = record d { adds = without ticket d.adds; untold_adds = without_number ticket d.untold_adds }
+
+  -- or joins it, and was told nothing yet
+  abbrev pub with_get : ℕ → State T → State T
+  with_get ticket d = record d { gets = joined ticket d.gets; untold_gets = d.untold_gets ++ ticket ∷ [] }
+
+  abbrev pub with_add : ℕ → State T → State T
+  with_add ticket d = record d { adds = joined ticket d.adds; untold_adds = d.untold_adds ++ ticket ∷ [] }
 
   -- a get that is not in the queue yet
   abbrev pub GetEnters : State T → Bool → GetEnterReply T → State T → Type 0
@@ -42,7 +50,7 @@ module _ {T : Type 0} where
   GetEnters d wait (get.Object value) d' = (d.is_open ≡ true) × (0 < free_objects d) × (last_idle d.idle ≡ Some value) × (d' ≡ settled (handed d))
   GetEnters d wait get.Full d' = (d.is_open ≡ true) × (free_objects d ≡ 0) × (wait ≡ false) × (d' ≡ d)
   GetEnters d wait (get.Waiting ticket) d' =
-      (d.is_open ≡ true) × (free_objects d ≡ 0) × (wait ≡ true) × (is_listed ticket d.gets ≡ false) × (d' ≡ record d { gets = joined ticket d.gets })
+      (d.is_open ≡ true) × (free_objects d ≡ 0) × (wait ≡ true) × (is_listed ticket d.gets ≡ false) × (d' ≡ with_get ticket d)
   GetEnters d wait get.OutOfMemory d' = (d.is_open ≡ true) × (free_objects d ≡ 0) × (wait ≡ true) × (d' ≡ d)
 
   -- A get in the queue. In an open pool one that was granted an object finds none only where nothing is idle.
@@ -70,7 +78,7 @@ module _ {T : Type 0} where
   AddEnters d value wait (add.Full given) d' = (d.is_open ≡ true) × (free_room d ≡ 0) × (wait ≡ false) × (given ≡ value) × (d' ≡ d)
   AddEnters d value wait (add.Waiting ticket given) d' =
       (d.is_open ≡ true) × (free_room d ≡ 0) × (wait ≡ true) × (is_listed ticket d.adds ≡ false) × (given ≡ value)
-      × (d' ≡ record d { adds = joined ticket d.adds })
+      × (d' ≡ with_add ticket d)
   AddEnters d value wait (add.OutOfMemory given) d' = (d.is_open ≡ true) × (free_room d ≡ 0) × (wait ≡ true) × (given ≡ value) × (d' ≡ d)
 
   -- an add in the queue
@@ -127,3 +135,10 @@ module _ {T : Type 0} where
   abbrev pub Upgrades : State T → Bool → State T → Type 0
   Upgrades d true d' = (0 < d.handles) × (d' ≡ one_handle_more d)
   Upgrades d false d' = (d.handles ≡ 0) × (d' ≡ d)
+
+  -- the get, or the add, that is to be told next is named, and counts as told; or nobody is
+  abbrev pub TakesGetWake : State T → Option ℕ → State T → Type 0
+  TakesGetWake d named d' = (named ≡ due_get d) × (d' ≡ record d { untold_gets = still_untold named d.untold_gets })
+
+  abbrev pub TakesAddWake : State T → Option ℕ → State T → Type 0
+  TakesAddWake d named d' = (named ≡ due_add d) × (d' ≡ record d { untold_adds = still_untold named d.untold_adds })

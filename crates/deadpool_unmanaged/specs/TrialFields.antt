@@ -14,8 +14,8 @@ use Rattle.deadpool_unmanaged.specs.declared.get.GetStage.{GetStage}
 use Rattle.deadpool_unmanaged.specs.declared.replay.moves.Item.{Item}
 use Rattle.deadpool_unmanaged.specs.declared.replay.moves.Reply.{Reply}
 use Rattle.deadpool_unmanaged.specs.declared.replay.moves.Reply.TheVariants as reply
-use Rattle.deadpool_unmanaged.specs.declared.replay.trial.Seat.{Seat}
-use Rattle.deadpool_unmanaged.specs.declared.replay.trial.Seat.TheVariants as seat
+use Rattle.deadpool_unmanaged.specs.declared.replay.trial.Visitor.{Visitor}
+use Rattle.deadpool_unmanaged.specs.declared.replay.trial.Visitor.TheVariants as visitor
 use Rattle.deadpool_unmanaged.specs.declared.replay.trial.Turn.{Turn}
 use Rattle.deadpool_unmanaged.specs.declared.replay.trial.Turn.TheVariants as turn
 use Rattle.deadpool_unmanaged.specs.declared.error.PoolError.TheVariants.{Closed, Timeout}
@@ -84,28 +84,28 @@ module _ {V : Type 0} where
   reply_to_handle handle.Done = reply.Done
   reply_to_handle handle.NoHandle = reply.NoHandle
 
-  -- one poll of a get by its seat: what it comes to, the seat and the state after it
-  pub record PolledGet (runtime : Option Runtime) (now : Moment) (stage : GetStage) (d : State (Item V)) (came_to : Option (Turn V)) (after : Option (Seat V)) (d' : State (Item V)) : Type 0 where
+  -- one poll of a get: what it comes to, the visitor and the state after it
+  pub record PolledGet (runtime : Option Runtime) (now : Moment) (stage : GetStage) (d : State (Item V)) (came_to : Option (Turn V)) (after : Option (Visitor V)) (d' : State (Item V)) : Type 0 where
     pub polled : Poll (Result (Item V) PoolError)
     pub left : GetStage
     pub polls : PollsGet runtime now stage d polled left d'
     pub turn_is : came_to ≡ Some (got polled)
-    pub seat_is : after ≡ Some (seat.Get left)
+    pub visitor_is : after ≡ Some (visitor.Get left)
 
   -- the same of an add
-  pub record PolledAdd (stage : AddStage (Item V)) (d : State (Item V)) (came_to : Option (Turn V)) (after : Option (Seat V)) (d' : State (Item V)) : Type 0 where
+  pub record PolledAdd (stage : AddStage (Item V)) (d : State (Item V)) (came_to : Option (Turn V)) (after : Option (Visitor V)) (d' : State (Item V)) : Type 0 where
     pub polled : Poll (Result (Unit {0}) (Item V × PoolError))
     pub left : AddStage (Item V)
     pub polls : PollsAdd stage d polled left d'
     pub turn_is : came_to ≡ Some (added (held_by stage) polled)
-    pub seat_is : after ≡ Some (seat.Add left)
+    pub visitor_is : after ≡ Some (visitor.Add left)
 
   -- a poll of a party that was cancelled changes nothing
-  abbrev pub PollsSeat : Option Runtime → Moment → Option (Seat V) → State (Item V) → Option (Turn V) → Option (Seat V) → State (Item V) → Type 0
-  PollsSeat runtime now None d came_to after d' = (came_to ≡ None) × (after ≡ None) × (d' ≡ d)
-  PollsSeat runtime now (Some (seat.Get stage)) d came_to after d' = PolledGet runtime now stage d came_to after d'
-  PollsSeat runtime now (Some (seat.Add stage)) d came_to after d' = PolledAdd stage d came_to after d'
+  abbrev pub PollsVisitor : Option Runtime → Moment → Option (Visitor V) → State (Item V) → Option (Turn V) → Option (Visitor V) → State (Item V) → Type 0
+  PollsVisitor runtime now None d came_to after d' = (came_to ≡ None) × (after ≡ None) × (d' ≡ d)
+  PollsVisitor runtime now (Some (visitor.Get stage)) d came_to after d' = PolledGet runtime now stage d came_to after d'
+  PollsVisitor runtime now (Some (visitor.Add stage)) d came_to after d' = PolledAdd stage d came_to after d'
 
-  abbrev pub CancelsSeat : Seat V → State (Item V) → State (Item V) → Type 0
-  CancelsSeat (seat.Get stage) d d' = CancelsGet stage d d'
-  CancelsSeat (seat.Add stage) d d' = CancelsAdd stage d d'
+  abbrev pub CancelsVisitor : Visitor V → State (Item V) → State (Item V) → Type 0
+  CancelsVisitor (visitor.Get stage) d d' = CancelsGet stage d d'
+  CancelsVisitor (visitor.Add stage) d d' = CancelsAdd stage d d'

@@ -1,9 +1,11 @@
 //! An add, as a state that its owner polls.
-ghost use Rattle.std.specs.Prelude.{◌≡◌, option_map};
-ghost use Rattle.deadpool_unmanaged.specs.Adds.{PollsAdd, CancelsAdd, held_by, stage_entered, turn_entered, stage_asked, turn_asked};
+ghost use Rattle.std.specs.Prelude.{◌≡◌, IfSome, option_map};
+ghost use Rattle.deadpool_unmanaged.specs.Adds.{PollsAdd, CancelsAdd, held_by, ticket_of, stage_entered, turn_entered, stage_asked, turn_asked, IsWithoutMemory};
+ghost use Rattle.deadpool_unmanaged.specs.Queueing.{add_joins};
+ghost use Rattle.deadpool_unmanaged.specs.State.{IsFull};
 
 use crate::PoolError;
-use crate::state::Core;
+use crate::settled::Core;
 use crate::steps::{AddAskReply, AddEnterReply};
 use deadpool_parts::gate::Ticket;
 use futures::task::Poll;
@@ -57,10 +59,43 @@ impl<T: Drop> AddState<T> {
         }
     }
 
+    /// The add as it stands, in whose place is one that has ended.
+    pub fn take(&mut self) -> AddState<T>
+        ensures add { result ≡ self.old }
+        ensures ended { self.new ≡ AddStage.Finished }
+    {
+        AddState {
+            stage: mem::replace(&mut self.stage, AddStage::Finished),
+        }
+    }
+
+    /// The ticket, while the add is in the queue.
+    pub fn ticket(&self) -> Option<Ticket>
+        ensures { result ≡ ticket_of self.now }
+    {
+        match &self.stage {
+            AddStage::Queued(ticket, _) => Some(*ticket),
+            _ => None,
+        }
+    }
+
+    /// Whether a poll would join the queue now, if there is memory for its entry: it was not polled yet, and there is no room
+    /// for it.
+    pub fn would_queue(&self, core: &Core<T>) -> bool
+        ensures { result ≡ add_joins self.now core.now.pool }
+    {
+        match &self.stage {
+            AddStage::Unpolled(_) => core.add_would_queue(),
+            _ => false,
+        }
+    }
+
     /// Brings the object to the pool, with at most one step. Where the add is refused, the object comes back with the
-    /// cause. An add that has ended stays pending.
+    /// cause. An add that joins the queue has the ticket that `next_add` told. An add that has ended stays pending.
     pub fn poll(&mut self, core: &mut Core<T>) -> Poll<Result<(), (T, PoolError)>>
-        ensures { PollsAdd self.old core.old result self.new core.new }
+        ensures polls { PollsAdd self.old core.old.pool result self.new core.new.pool }
+        ensures memory { IsWithoutMemory result → IsFull core.old.adds_room core.old.pool.adds }
+        ensures number { ticket_of self.old ≡ None → IfSome (ticket_of self.new) (λ ticket. ticket ≡ core.old.next_add) }
     {
         match mem::replace(&mut self.stage, AddStage::Finished) {
             AddStage::Unpolled(value) => {
@@ -113,16 +148,19 @@ impl<T: Drop> AddState<T> {
         }
     }
 
-    /// Gives the add up, and drops its object. The room that it was granted is free again.
-    pub fn cancel(self, core: &mut Core<T>)
-        ensures { CancelsAdd self core.old core.new }
+    /// Gives the add up, and its object back. The room that it was granted is free again.
+    pub fn cancel(self, core: &mut Core<T>) -> Option<T>
+        ensures cancels { CancelsAdd self core.old.pool core.new.pool }
+        ensures value { result ≡ held_by self }
     {
         let AddState { stage } = self;
         match stage {
-            AddStage::Queued(ticket, _) => {
+            AddStage::Queued(ticket, value) => {
                 core.add_cancel(ticket);
+                Some(value)
             }
-            AddStage::Unpolled(_) | AddStage::Finished => {}
+            AddStage::Unpolled(value) => Some(value),
+            AddStage::Finished => None,
         }
     }
 }

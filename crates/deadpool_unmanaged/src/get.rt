@@ -1,8 +1,10 @@
 //! A get, as a state that its owner polls.
-ghost use Rattle.std.specs.Prelude.{◌≡◌};
-ghost use Rattle.deadpool_unmanaged.specs.Gets.{PollsGet, CancelsGet, stage_entered, turn_entered, stage_asked, turn_asked};
+ghost use Rattle.std.specs.Prelude.{◌≡◌, IfSome};
+ghost use Rattle.deadpool_unmanaged.specs.Gets.{PollsGet, CancelsGet, ticket_of, deadline_of, stage_entered, turn_entered, stage_asked, turn_asked};
+ghost use Rattle.deadpool_unmanaged.specs.Queueing.{get_joins};
+ghost use Rattle.deadpool_unmanaged.specs.State.{IsFull};
 
-use crate::state::Core;
+use crate::settled::Core;
 use crate::steps::{GetAskReply, GetEnterReply};
 use crate::{Moment, PoolError, Runtime};
 use deadpool_parts::deadline::{cannot_wait, deadline_after, is_reached};
@@ -51,15 +53,67 @@ impl GetState {
         }
     }
 
+    /// The get as it stands, in whose place is one that has ended.
+    pub fn take(&mut self) -> GetState
+        ensures get { result ≡ self.old }
+        ensures ended { self.new ≡ GetStage.Finished }
+    {
+        GetState {
+            stage: mem::replace(&mut self.stage, GetStage::Finished),
+        }
+    }
+
+    /// The ticket, while the get is in the queue.
+    pub fn ticket(&self) -> Option<Ticket>
+        ensures { result ≡ ticket_of self.now }
+    {
+        match &self.stage {
+            GetStage::Queued(ticket, _) => Some(*ticket),
+            _ => None,
+        }
+    }
+
+    /// The deadline, while the get is in the queue.
+    pub fn deadline(&self) -> Option<Moment>
+        ensures { result ≡ deadline_of self.now }
+    {
+        match &self.stage {
+            GetStage::Queued(_, deadline) => *deadline,
+            _ => None,
+        }
+    }
+
+    /// Whether a poll would join the queue now, if there is memory for its entry: it was not polled yet, may wait, and nothing is
+    /// free for it.
+    pub fn would_queue<T: Drop>(
+        &self,
+        core: &Core<T>,
+        runtime: Option<Runtime>,
+        now: Moment,
+    ) -> bool
+        ensures { result ≡ get_joins runtime now self.now core.now.pool }
+    {
+        match &self.stage {
+            GetStage::Unpolled(wait) => {
+                core.get_would_queue()
+                    && !cannot_wait(runtime, *wait)
+                    && !is_reached(deadline_after(now, *wait), now)
+            }
+            _ => false,
+        }
+    }
+
     /// Asks the pool for an object, with at most one step. A wait above zero needs a runtime, which is looked for before the
-    /// pool is asked. A get that has ended stays pending.
+    /// pool is asked. A get that joins the queue has the ticket that `next_get` told. A get that has ended stays pending.
     pub fn poll<T: Drop>(
         &mut self,
         core: &mut Core<T>,
         runtime: Option<Runtime>,
         now: Moment,
     ) -> Poll<Result<T, PoolError>>
-        ensures { PollsGet runtime now self.old core.old result self.new core.new }
+        ensures polls { PollsGet runtime now self.old core.old.pool result self.new core.new.pool }
+        ensures memory { result ≡ Poll.Ready (Err PoolError.OutOfMemory) → IsFull core.old.gets_room core.old.pool.gets }
+        ensures number { ticket_of self.old ≡ None → IfSome (ticket_of self.new) (λ ticket. ticket ≡ core.old.next_get) }
     {
         match mem::replace(&mut self.stage, GetStage::Finished) {
             GetStage::Unpolled(wait) => {
@@ -122,7 +176,7 @@ impl GetState {
 
     /// Gives the get up. What it was granted is free again.
     pub fn cancel<T: Drop>(self, core: &mut Core<T>)
-        ensures { CancelsGet self core.old core.new }
+        ensures { CancelsGet self core.old.pool core.new.pool }
     {
         let GetState { stage } = self;
         match stage {

@@ -7,6 +7,7 @@ mod config;
 mod error;
 mod get;
 pub mod replay;
+mod settled;
 mod state;
 mod steps;
 #[cfg(test)]
@@ -18,5 +19,5 @@ pub use deadpool_parts::errors::ConfigError;
 pub use deadpool_parts::{Clock, HandleReply, Moment, Runtime, Status, StepReply, gate};
 pub use error::PoolError;
 pub use get::{GetStage, GetState};
-pub use state::Core;
+pub use settled::Core;
 pub use steps::{AddAskReply, AddEnterReply, BackReply, GetAskReply, GetEnterReply, TakeReply};

@@ -1,8 +1,7 @@
 //! The state of an unmanaged pool on one thread: a line for objects, a line for room, and the idle objects.
-ghost use Rattle.std.specs.Prelude.{◌≡◌, ◌<◌, nat_lt, true, [], IfOk, IfSome, IfNone};
-ghost use Rattle.deadpool_parts.specs.Queue.{nobody};
-ghost use Rattle.deadpool_unmanaged.specs.State.{free_objects, free_room, settled, status_of};
-ghost use Rattle.deadpool_unmanaged.specs.StateSteps.{GetEnters, GetAsks, GetCancels, AddEnters, AddAsks, AddCancels, TakesBack, Takes, Clones, DropsHandle, Upgrades, handed, stored, shut};
+ghost use Rattle.std.specs.Prelude.{◌≡◌, ℕ, ◌<◌, ◌≤◌, nat_lt, not, [], length, vec_capacity, IfOk, IfSome, IfNone};
+ghost use Rattle.deadpool_unmanaged.specs.State.{IsFull, has_due, free_objects, free_room, get_would_queue, add_would_queue, opened, settled, status_of};
+ghost use Rattle.deadpool_unmanaged.specs.StateSteps.{GetEnters, GetAsks, GetCancels, AddEnters, AddAsks, AddCancels, TakesBack, Takes, TakesGetWake, TakesAddWake, Clones, DropsHandle, Upgrades, handed, stored, shut};
 ghost use Rattle.deadpool_unmanaged.specs.Steps.{last_idle};
 
 use crate::steps::{AddAskReply, AddEnterReply, BackReply, GetAskReply, GetEnterReply, TakeReply};
@@ -11,11 +10,10 @@ use deadpool_parts::gate::{Ask, Entry, Gate, Ticket, Withdrawn};
 use std::alloc::{AllocError, Global};
 use std::marker::Model;
 
-/// The state of an unmanaged pool on one thread. A step that puts something in or gives something back ends with the
-/// settling: the earliest gets that wait are granted the objects that are free, and the earliest adds the free room. In an
-/// open pool with a handle, an object or room that was granted is nobody else's until its party has asked or cancelled.
+/// A pool's state. In the middle of a step somebody may wait for what is free: a step that puts something in or gives
+/// something back settles at its end. `Core` makes whole steps over it.
 #[derive(Drop)]
-pub struct Core<T> {
+pub(crate) struct PoolState<T> {
     // Gets ask for objects, and adds for room.
     gets: Gate,
     adds: Gate,
@@ -27,59 +25,123 @@ pub struct Core<T> {
     handles: u64,
 }
 
-impl<T> Model for Core<T> {
-    ghost use Rattle.deadpool_unmanaged.specs.State.{State};
+impl<T> Model for PoolState<T> {
+    ghost use Rattle.deadpool_unmanaged.specs.State.{CoreState};
 
-    ghost Value = { State T };
+    ghost Value = { CoreState T };
 
-    ghost use Rattle.deadpool_unmanaged.specs.CoreFields.{state_of, IsSound};
+    ghost use Rattle.deadpool_unmanaged.specs.CoreFields.{core_of, IsSound};
 
-    ghost view = { state_of };
+    ghost view = { core_of };
 
     ghost invariant = { IsSound };
 }
 
-impl<T: Drop> Core<T> {
-    /// An open pool with nothing idle and one handle. It has room for `max_size` objects from now on: only `get_enter` and
-    /// `add_enter` answer want of memory, for an entry in a queue, and no other step does.
-    pub fn new(alloc: Global, max_size: usize) -> Result<Core<T>, AllocError>
-        ensures { IfOk result (λ core. core ≡ record { limit = max_size; is_open = true; handles = 1; idle = []; outside = 0; gets = nobody; adds = nobody }) }
+impl<T: Drop> PoolState<T> {
+    /// With nothing idle, and room for so many objects.
+    pub fn new(alloc: Global, max_size: usize) -> Result<PoolState<T>, AllocError>
+        ensures { IfOk result (λ state. state.pool ≡ opened max_size []) }
     {
-        Ok(Core {
-            gets: Gate::new(alloc),
-            adds: Gate::new(alloc),
-            idle: Vec::with_capacity(alloc, max_size)?,
-            limit: max_size,
-            outside: 0,
-            handles: 1,
-        })
+        let idle = Vec::with_capacity(alloc, max_size)?;
+        Ok(PoolState::open(alloc, idle, max_size))
     }
 
-    // Whether a pool handle is left.
-    pub(crate) fn has_handle(&self) -> bool
-        ensures { result ≡ nat_lt 0 self.now.handles }
+    /// With these objects idle, and room for no more.
+    pub fn from_items(alloc: Global, items: Vec<T>) -> PoolState<T>
+        ensures { result.pool ≡ opened (length items.items) items.items }
+    {
+        let limit = items.len();
+        PoolState::open(alloc, items, limit)
+    }
+
+    // An open pool with these objects idle and one handle.
+    fn open(alloc: Global, idle: Vec<T>, limit: usize) -> PoolState<T>
+        requires few { length idle.items ≤ limit }
+        requires room { limit ≤ vec_capacity idle }
+        ensures { result.pool ≡ opened limit idle.items }
+    {
+        PoolState {
+            gets: Gate::new(alloc),
+            adds: Gate::new(alloc),
+            idle,
+            limit,
+            outside: 0,
+            handles: 1,
+        }
+    }
+
+    pub fn is_closed(&self) -> bool
+        ensures { result ≡ not self.now.pool.is_open }
+    {
+        self.gets.is_closed()
+    }
+
+    pub fn next_get(&self) -> usize
+        ensures { result ≡ self.now.next_get }
+    {
+        self.gets.next_number()
+    }
+
+    pub fn next_add(&self) -> usize
+        ensures { result ≡ self.now.next_add }
+    {
+        self.adds.next_number()
+    }
+
+    pub fn take_get_wake(&mut self) -> Option<Ticket>
+        ensures { TakesGetWake self.old.pool result self.new.pool }
+    {
+        self.gets.take_wake()
+    }
+
+    pub fn take_add_wake(&mut self) -> Option<Ticket>
+        ensures { TakesAddWake self.old.pool result self.new.pool }
+    {
+        self.adds.take_wake()
+    }
+
+    pub fn is_wake_due(&self) -> bool
+        ensures { result ≡ has_due self.now.pool }
+    {
+        self.gets.is_wake_due() || self.adds.is_wake_due()
+    }
+
+    pub fn has_handle(&self) -> bool
+        ensures { result ≡ nat_lt 0 self.now.pool.handles }
     {
         self.handles > 0
     }
 
     // How many idle objects no get was granted.
     fn free_objects(&self) -> usize
-        ensures { result ≡ free_objects self.now }
+        ensures { result ≡ free_objects self.now.pool }
     {
         self.idle.len().saturating_sub(self.gets.granted())
     }
 
     // How much room no add was granted.
     fn free_room(&self) -> usize
-        ensures { result ≡ free_room self.now }
+        ensures { result ≡ free_room self.now.pool }
     {
         let used = self.idle.len() + self.outside + self.adds.granted();
         self.limit.saturating_sub(used)
     }
 
+    pub fn get_would_queue(&self) -> bool
+        ensures { result ≡ get_would_queue self.now.pool }
+    {
+        !self.gets.is_closed() && self.free_objects() == 0
+    }
+
+    pub fn add_would_queue(&self) -> bool
+        ensures { result ≡ add_would_queue self.now.pool }
+    {
+        !self.gets.is_closed() && self.free_room() == 0
+    }
+
     // Grants the free objects to the earliest gets that wait, and the free room to the earliest adds.
     fn settle(&mut self)
-        ensures { self.new ≡ settled self.old }
+        ensures { self.new.pool ≡ settled self.old.pool }
     {
         let objects = self.free_objects();
         let room = self.free_room();
@@ -89,9 +151,9 @@ impl<T: Drop> Core<T> {
 
     // The next object goes out.
     fn take_last(&mut self) -> Option<T>
-        ensures value { result ≡ last_idle self.old.idle }
-        ensures some { IfSome result (λ _. self.new ≡ handed self.old) }
-        ensures none { IfNone result (self.new ≡ self.old) }
+        ensures value { result ≡ last_idle self.old.pool.idle }
+        ensures some { IfSome result (λ _. self.new.pool ≡ handed self.old.pool) }
+        ensures none { IfNone result (self.new.pool ≡ self.old.pool) }
     {
         let value = self.idle.pop()?;
         self.outside += 1;
@@ -100,8 +162,8 @@ impl<T: Drop> Core<T> {
 
     // An object joins the idle ones. There is room for it.
     fn store(&mut self, value: T)
-        requires { 0 < free_room self.old }
-        ensures { self.new ≡ settled (stored value self.old) }
+        requires { 0 < free_room self.old.pool }
+        ensures { self.new.pool ≡ settled (stored value self.old.pool) }
     {
         match self.idle.push(value) {
             Ok(()) => self.settle(),
@@ -109,9 +171,10 @@ impl<T: Drop> Core<T> {
         }
     }
 
-    /// A new get asks for an object, and joins the queue where none is free and `wait` says so.
     pub fn get_enter(&mut self, wait: bool) -> GetEnterReply<T>
-        ensures { GetEnters self.old wait result self.new }
+        ensures enters { GetEnters self.old.pool wait result self.new.pool }
+        ensures memory { result ≡ GetEnterReply.OutOfMemory → IsFull self.old.gets_room self.old.pool.gets }
+        ensures number { (ticket : ℕ) → result ≡ GetEnterReply.Waiting ticket → ticket ≡ self.old.next_get }
     {
         let objects = self.free_objects();
         match self.gets.enter(objects, wait) {
@@ -129,9 +192,8 @@ impl<T: Drop> Core<T> {
         }
     }
 
-    /// A get in the queue asks for its object. `expired` says that it has waited long enough.
     pub fn get_ask(&mut self, ticket: Ticket, expired: bool) -> GetAskReply<T>
-        ensures { GetAsks self.old ticket expired result self.new }
+        ensures { GetAsks self.old.pool ticket expired result self.new.pool }
     {
         match self.gets.ask(ticket) {
             Ask::Granted => match self.take_last() {
@@ -155,9 +217,8 @@ impl<T: Drop> Core<T> {
         }
     }
 
-    /// A get leaves the queue. What it was granted is free again.
     pub fn get_cancel(&mut self, ticket: Ticket) -> StepReply
-        ensures { GetCancels self.old ticket result self.new }
+        ensures { GetCancels self.old.pool ticket result self.new.pool }
     {
         match self.gets.withdraw(ticket) {
             Withdrawn::Unknown => StepReply::Unknown,
@@ -168,10 +229,10 @@ impl<T: Drop> Core<T> {
         }
     }
 
-    /// A new add brings an object, and joins the queue where there is no room and `wait` says so. The object stays with the
-    /// caller until it is stored.
     pub fn add_enter(&mut self, value: T, wait: bool) -> AddEnterReply<T>
-        ensures { AddEnters self.old value wait result self.new }
+        ensures enters { AddEnters self.old.pool value wait result self.new.pool }
+        ensures memory { result ≡ AddEnterReply.OutOfMemory value → IsFull self.old.adds_room self.old.pool.adds }
+        ensures number { (ticket : ℕ) → result ≡ AddEnterReply.Waiting ticket value → ticket ≡ self.old.next_add }
     {
         let room = self.free_room();
         match self.adds.enter(room, wait) {
@@ -186,9 +247,8 @@ impl<T: Drop> Core<T> {
         }
     }
 
-    /// An add in the queue asks for its room, and brings its object.
     pub fn add_ask(&mut self, ticket: Ticket, value: T) -> AddAskReply<T>
-        ensures { AddAsks self.old ticket value result self.new }
+        ensures { AddAsks self.old.pool ticket value result self.new.pool }
     {
         match self.adds.ask(ticket) {
             Ask::Granted => {
@@ -201,9 +261,8 @@ impl<T: Drop> Core<T> {
         }
     }
 
-    /// An add leaves the queue. The room that it was granted is free again.
     pub fn add_cancel(&mut self, ticket: Ticket) -> StepReply
-        ensures { AddCancels self.old ticket result self.new }
+        ensures { AddCancels self.old.pool ticket result self.new.pool }
     {
         match self.adds.withdraw(ticket) {
             Withdrawn::Unknown => StepReply::Unknown,
@@ -214,9 +273,8 @@ impl<T: Drop> Core<T> {
         }
     }
 
-    /// An object comes back.
     pub fn back(&mut self, value: T) -> BackReply<T>
-        ensures { TakesBack self.old value result self.new }
+        ensures { TakesBack self.old.pool value result self.new.pool }
     {
         if self.outside == 0 {
             return BackReply::Unknown(value);
@@ -230,9 +288,8 @@ impl<T: Drop> Core<T> {
         BackReply::Kept
     }
 
-    /// An object that is out leaves the pool for good, and its room is free.
     pub fn take(&mut self) -> TakeReply
-        ensures { Takes self.old result self.new }
+        ensures { Takes self.old.pool result self.new.pool }
     {
         if self.outside == 0 {
             return TakeReply::Unknown;
@@ -242,19 +299,16 @@ impl<T: Drop> Core<T> {
         TakeReply::Taken
     }
 
-    /// The pool closes for good. The idle objects are dropped, and the limit stays.
     pub fn close(&mut self)
-        ensures { self.new ≡ shut self.old }
+        ensures { self.new.pool ≡ shut self.old.pool }
     {
         self.gets.close();
         self.adds.close();
         self.idle.clear();
     }
 
-    /// How the pool stands. All idle objects are available, also those that a get was granted, and all gets in the queue
-    /// wait.
     pub fn status(&self) -> Status
-        ensures { result ≡ status_of self.now }
+        ensures { result ≡ status_of self.now.pool }
     {
         let available = self.idle.len();
         Status {
@@ -265,9 +319,8 @@ impl<T: Drop> Core<T> {
         }
     }
 
-    /// There is one more handle. A count that has reached the greatest `u64` stays there.
     pub fn clone_handle(&mut self) -> HandleReply
-        ensures { Clones self.old result self.new }
+        ensures { Clones self.old.pool result self.new.pool }
     {
         if self.handles == 0 {
             return HandleReply::NoHandle;
@@ -276,10 +329,8 @@ impl<T: Drop> Core<T> {
         HandleReply::Done
     }
 
-    /// There is one handle less. The last one takes the idle objects with it, which are dropped. A count that has reached the
-    /// greatest `u64` stays there.
     pub fn drop_handle(&mut self) -> HandleReply
-        ensures { DropsHandle self.old result self.new }
+        ensures { DropsHandle self.old.pool result self.new.pool }
     {
         if self.handles == 0 {
             return HandleReply::NoHandle;
@@ -294,9 +345,8 @@ impl<T: Drop> Core<T> {
         HandleReply::Done
     }
 
-    /// There is one more handle, for an owner that has none: true exactly where one is left. Otherwise nothing changes.
     pub fn upgrade(&mut self) -> bool
-        ensures { Upgrades self.old result self.new }
+        ensures { Upgrades self.old.pool result self.new.pool }
     {
         match self.clone_handle() {
             HandleReply::Done => true,

@@ -1,4 +1,7 @@
 //! What no clause says: printed texts, success where memory is there, and runs step by step.
 mod errors;
+mod many;
+mod rows;
 mod runs;
 mod states;
+mod wakes;

@@ -2,7 +2,7 @@
 //! the manager and the hooks answer. A function here does nothing: its contract is the law.
 ghost use Rattle.deadpool.specs.Laws.{MarksQueued};
 ghost use Rattle.deadpool_managed.specs.Outside.{may};
-ghost use Rattle.deadpool.specs.RunLaws.{OpensWell, EachState, EachStep, EachLater, EachMove, EachReply, EndsWell, StaysWithin, HasFewIdle, IsEmptyIfClosed, IsNumbered, CountsOn, NoneReturns, KeepsQueue, OthersStayInPool, OthersStayQueued, OthersStand, IsOutIfGiven, IsIdleIfKept, IsListedOnce};
+ghost use Rattle.deadpool.specs.RunLaws.{OpensWell, EachState, EachStep, EachLater, EachMove, EachReply, EndsWell, StaysWithin, HasFewIdle, IsEmptyIfClosed, IsNumbered, CountsOn, NoneReturns, KeepsQueue, OthersStayInPool, OthersStayQueued, OthersStand, KeepsFloor, LeavesEnough, IsOutIfGiven, IsIdleIfKept, IsListedOnce};
 
 use crate::managed::{AsyncHook, Manager, SyncHook};
 
@@ -39,10 +39,17 @@ pub fn new_object_has_next<M: Manager, F: SyncHook<M>, A: AsyncHook<M>>()
 {}
 
 /// An object leaves the pool only by a move that may take it: by an advance, a poll or a cancel of the party that prepares it,
-/// by its own return or take, by a smaller limit, a close or the drop of the last handle while it is idle, or by a retain
+/// by its own return or take, by a smaller limit, which takes those at the front and none that is to stay idle, a close or the drop of the last handle while it is idle, or by a retain
 /// that does not keep it. A poll is looked at advance by advance.
 pub fn no_object_is_lost<M: Manager, F: SyncHook<M>, A: AsyncHook<M>>()
     ensures { (manager : M) → EachMove (may M.Manager F.SyncHook A.AsyncHook manager) OthersStayInPool }
+{}
+
+/// How many objects are to stay idle never changes. A resize and a retain leave as many idle, as far as the limit after them
+/// allows, if as many were. A poll is looked at advance by advance.
+pub fn enough_stay_idle<M: Manager, F: SyncHook<M>, A: AsyncHook<M>>()
+    ensures floor { (manager : M) → EachMove (may M.Manager F.SyncHook A.AsyncHook manager) KeepsFloor }
+    ensures idle { (manager : M) → EachMove (may M.Manager F.SyncHook A.AsyncHook manager) LeavesEnough }
 {}
 
 /// After a move that gives an object it is out, and after a return that keeps its object it is idle.
@@ -69,7 +76,7 @@ pub fn no_waiter_is_lost<M: Manager, F: SyncHook<M>, A: AsyncHook<M>>()
     ensures parties { (manager : M) → EachMove (may M.Manager F.SyncHook A.AsyncHook manager) OthersStand }
 {}
 
-/// A party is in at most one list.
+/// No party stands in two lists, nor twice in one.
 pub fn party_in_one_list<M: Manager, F: SyncHook<M>, A: AsyncHook<M>>()
     ensures { (manager : M) → EachState (may M.Manager F.SyncHook A.AsyncHook manager) IsListedOnce }
 {}

@@ -13,7 +13,7 @@ pub enum Move<T> {
     Poll(usize, Moment),
     /// The party is cancelled.
     Cancel(usize),
-    /// The value of an object that is out is replaced.
+    /// An object that is out gets another value.
     Put(usize, T),
     /// An object comes back.
     Back(usize),

@@ -5,12 +5,14 @@ ghost use Rattle.futures.specs.Task.{Keeps};
 ghost use Rattle.deadpool_parts.specs.Program.{Gives};
 ghost use Rattle.deadpool_parts.specs.Runs.{last_of, all_states, Each, Neighbours};
 ghost use Rattle.deadpool_parts.specs.declared.errors.BuildError.{BuildError};
+ghost use Rattle.deadpool_managed.specs.declared.desk.Holding.{Holding};
 ghost use Rattle.deadpool_managed.specs.Building.{lacks_any_runtime};
 ghost use Rattle.deadpool_managed.specs.Outside.{may};
 ghost use Rattle.deadpool.specs.Pool.{Pool, opened};
 ghost use Rattle.deadpool.specs.Steps.{find_slot};
 ghost use Rattle.deadpool.specs.Moves.{moved, Polls, Makes, PoolRuns, NobodyWaits, WithinReach};
 ghost use Rattle.deadpool.specs.Rank.{rank_at};
+ghost use Rattle.deadpool.specs.RunLaws.{IsWell};
 ghost use Rattle.deadpool.specs.TrialFields.{AdvancesGet, given, reply_to, IsTaken, reply_to_back, reply_to_take, reply_to_handle};
 ghost use Rattle.deadpool_parts.specs.Numbers.{has_number};
 ghost use Rattle.deadpool_managed.specs.Answers.{LeavesOrKeeps};
@@ -52,13 +54,13 @@ impl<M: Manager + Drop, F: SyncHook<M> + Drop, A: AsyncHook<M> + Drop, C: Drop> 
 
     ghost use Rattle.std.specs.Prelude.{◌≤◌, vec_len, vec_capacity};
     ghost use Rattle.deadpool.specs.Image.{image, IsCounted};
-    ghost use Rattle.deadpool.specs.Laws.{IsLawful};
+    ghost use Rattle.deadpool.specs.RunLaws.{IsWell};
 
-    ghost view = { λ t. record { pool = image t.environment.runtime t.environment.hooks t.timeouts t.first t.most_parties t.core t.parties.items t.out.items; manager = t.environment.manager } };
+    ghost view = { λ t. record { pool = image t.environment.runtime t.environment.hooks t.timeouts t.first t.most_parties t.core.desk t.parties.items t.out.items; manager = t.environment.manager } };
 
     ghost invariant = { λ t. record {
-      counted : IsCounted t.core t.parties.items t.out.items;
-      lawful : IsLawful (image t.environment.runtime t.environment.hooks t.timeouts t.first t.most_parties t.core t.parties.items t.out.items);
+      counted : IsCounted t.core.desk t.parties.items t.out.items;
+      well : IsWell (image t.environment.runtime t.environment.hooks t.timeouts t.first t.most_parties t.core.desk t.parties.items t.out.items);
       parties : vec_len t.parties ≤ t.most_parties;
       seats : t.most_parties ≤ vec_capacity t.parties;
       hands : t.most_parties ≤ vec_capacity t.out;
@@ -74,7 +76,7 @@ impl<M: Manager + Drop, F: SyncHook<M> + Drop, A: AsyncHook<M> + Drop, C: Drop> 
         first_number: usize,
     ) -> Result<Self, BuildError>
         ensures refused { (result ≡ Err BuildError.NoRuntimeSpecified) ↔ (lacks_any_runtime builder.runtime builder.timeouts ≡ true) }
-        ensures pool { IfOk result (λ t. t.pool ≡ opened builder.max_size builder.queue_mode builder.runtime builder.hooks builder.timeouts first_number parties) }
+        ensures pool { IfOk result (λ t. t.pool ≡ opened builder.max_size builder.queue_mode builder.runtime builder.hooks builder.timeouts first_number parties builder.min_idle) }
         ensures manager { IfOk result (λ t. t.manager ≡ builder.manager) }
     {
         let OpenPool {
@@ -97,7 +99,14 @@ impl<M: Manager + Drop, F: SyncHook<M> + Drop, A: AsyncHook<M> + Drop, C: Drop> 
         })
     }
 
-    /// The value of an object that is out.
+    /// What is true of the pool of every trial. The call does nothing.
+    pub fn laws(&self)
+        ensures { IsWell self.now.pool }
+    {
+        let _ = &self.core;
+    }
+
+    /// What value an object has, if it is out.
     pub fn value(&self, number: usize) -> Option<&M::Type>
         ensures { option_map (λ v. v.now) result ≡ option_map (λ s. s.value) (find_slot number self.now.pool.out) }
     {
@@ -107,8 +116,8 @@ impl<M: Manager + Drop, F: SyncHook<M> + Drop, A: AsyncHook<M> + Drop, C: Drop> 
             .map(|slot| &slot.value)
     }
 
-    /// Makes the moves in turn, and gives the reply to each. Where the list of replies finds no memory, the moves come
-    /// back and nothing ran.
+    /// Makes the moves in turn, and gives the reply to each. If there is no memory for so many replies, no move is made,
+    /// and all of them come back.
     pub fn run(
         &mut self,
         moves: Vec<Move<M::Type>>,
@@ -132,8 +141,8 @@ impl<M: Manager + Drop, F: SyncHook<M> + Drop, A: AsyncHook<M> + Drop, C: Drop> 
         Ok(replies)
     }
 
-    // One move.
-    fn make(&mut self, next: Move<M::Type>, cx: &mut Context<'_>) -> Reply<M::Type, M::Error>
+    /// Makes one move, and gives its reply. A move that finds no memory says so in its reply, and has changed nothing.
+    pub fn make(&mut self, next: Move<M::Type>, cx: &mut Context<'_>) -> Reply<M::Type, M::Error>
         ensures made { (passed : List (Pool M.Type M.Creating M.Recycling A.State F A)) × Makes (may M.Manager F.SyncHook A.AsyncHook self.old.manager) self.old.pool next passed result × (self.new.pool ≡ last_of self.old.pool passed) }
         ensures manager { self.new.manager ≡ self.old.manager }
         ensures kept { Keeps cx.old cx.new }
@@ -248,8 +257,9 @@ impl<M: Manager + Drop, F: SyncHook<M> + Drop, A: AsyncHook<M> + Drop, C: Drop> 
         }
     }
 
-    fn status(&self) -> Reply<M::Type, M::Error>
-        ensures { Gives (may M.Manager F.SyncHook A.AsyncHook self.now.manager) (moved move.Status self.now.pool) (result, self.now.pool) }
+    fn status(&mut self) -> Reply<M::Type, M::Error>
+        ensures made { Gives (may M.Manager F.SyncHook A.AsyncHook self.old.manager) (moved move.Status self.old.pool) (result, self.new.pool) }
+        ensures manager { self.new.manager ≡ self.old.manager }
     {
         if !self.core.has_handle() {
             return Reply::NoHandle;
@@ -369,6 +379,7 @@ where
     F: SyncHook<M> + Drop,
     A: AsyncHook<M> + Drop,
     D: Desk<M::Type>,
+    requires { (holding : Holding) → D.holds desk.old holding }
     ensures advanced { AdvancesGet D.Desk (may M.Manager F.SyncHook A.AsyncHook environment.now.manager) environment.now.runtime environment.now.hooks now get.old desk.old get.new desk.new result }
     ensures kept { Keeps cx.old cx.new }
 {
@@ -400,7 +411,7 @@ fn hand_out<T: Drop, E>(out: &mut Vec<Slot<T>>, turn: Turn<T, E>) -> Reply<T, E>
 // Says what became of an object that came back. One that is given up is detached.
 fn after_back<M: Manager + Drop, F: SyncHook<M> + Drop, A: AsyncHook<M> + Drop>(
     environment: &Environment<M, F, A>,
-    reply: BackReply<M::Type>,
+    reply: BackReply<Slot<M::Type>>,
 ) -> Reply<M::Type, M::Error>
     requires { IsTaken reply }
     ensures { Gives (may M.Manager F.SyncHook A.AsyncHook environment.now.manager) (reply_to_back reply) result }

@@ -45,8 +45,27 @@ fn names_the_first_fault(rt: HostRuntime) -> Result<(), Fail> {
             r#"{"max_size":1,"queue_mode":"lifo"}"#,
             ConfigError::BadQueueMode,
         ),
+        (
+            r#"{"max_size":1,"queue_mode":5,"min_idle":null}"#,
+            ConfigError::BadQueueMode,
+        ),
     ] {
         assert_eq!(rt; read(&rt, text)?, Err(fault), "at {text}");
+    }
+    Ok(())
+}
+
+#[test]
+fn refuses_a_bad_floor(rt: HostRuntime) -> Result<(), Fail> {
+    for text in [
+        r#"{"max_size":1,"min_idle":null}"#,
+        r#"{"max_size":1,"min_idle":-1}"#,
+        r#"{"max_size":1,"min_idle":1.5}"#,
+        r#"{"max_size":1,"min_idle":1e0}"#,
+        r#"{"max_size":1,"min_idle":"1"}"#,
+        r#"{"max_size":1,"min_idle":18446744073709551616}"#,
+    ] {
+        assert_eq!(rt; read(&rt, text)?, Err(ConfigError::BadMinIdle), "at {text}");
     }
     Ok(())
 }
@@ -84,6 +103,13 @@ fn reads_configurations(rt: HostRuntime) -> Result<(), Fail> {
                 ..PoolConfig::new(1)
             },
         ),
+        (
+            r#"{"max_size":1,"min_idle":18446744073709551615}"#,
+            PoolConfig {
+                min_idle: usize::MAX,
+                ..PoolConfig::new(1)
+            },
+        ),
     ] {
         assert_eq!(rt; read(&rt, text)?, Ok(config), "at {text}");
     }
@@ -97,7 +123,7 @@ fn writes_every_key(rt: HostRuntime) -> Result<(), Fail> {
     let written = config.to_json(rt.alloc()).map_err(|_| AllocError)?;
     assert_eq!(rt;
         written.to_string(rt.alloc())?.as_str(),
-        r#"{"max_size":42,"queue_mode":"Fifo","timeouts":{"create":null,"recycle":null,"wait":{"nanos":0,"secs":1}}}"#
+        r#"{"max_size":42,"min_idle":0,"queue_mode":"Fifo","timeouts":{"create":null,"recycle":null,"wait":{"nanos":0,"secs":1}}}"#
     );
     assert_eq!(rt; PoolConfig::from_json(&written), Ok(config));
     Ok(())

@@ -109,6 +109,10 @@ fn prints_each_error(rt: HostRuntime) -> Result<(), AllocError> {
         ),
         (ConfigError::BadDuration, "A timeout is not a duration"),
         (ConfigError::BadQueueMode, "queue_mode is not Fifo or Lifo"),
+        (
+            ConfigError::BadMinIdle,
+            "min_idle is not a whole number in range",
+        ),
         (ConfigError::OutOfMemory, "Out of memory"),
     ] {
         shows(rt, error, text)?;

@@ -68,6 +68,13 @@ impl NodeStore {
         self.accesses
     }
 
+    /// The key that the next node gets. It is no access to a node.
+    pub fn next_key(&self) -> usize
+        ensures { result ≡ self.now.nodes.vacant_key }
+    {
+        self.nodes.vacant_key()
+    }
+
     /// Reads a node: one access.
     pub fn read(&mut self, key: usize) -> Option<Node>
         ensures node { result ≡ get self.old.nodes key }
@@ -95,6 +102,7 @@ impl NodeStore {
     /// Puts a node in, under a key that had none: one access. Where memory is wanting only the count changes. Half of
     /// all numbers is taken to be more nodes than any memory has.
     pub fn put(&mut self, node: Node) -> Result<usize, AllocError>
+        ensures next { IfOk result (λ key. key ≡ self.old.nodes.vacant_key) }
         ensures vacant { IfOk result (λ key. get self.old.nodes key ≡ None) }
         ensures updates { IfOk result (λ key. Updates self.old.nodes self.new.nodes key (Some node)) }
         ensures len { OnOk result (slab_len self.new.nodes ≡ slab_len self.old.nodes + 1) }

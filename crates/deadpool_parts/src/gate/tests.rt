@@ -145,7 +145,7 @@ fn no_call_walks_a_long_line(rt: HostRuntime) -> Result<(), Fail> {
     }
     both.stands(0, 1_000, &rt);
 
-    // The middle, the first, the last, and the first waiting, which is the second arrival by now.
+    // One in the middle, the earliest, the latest, and who is the earliest after that: the second to arrive.
     for number in [500, 0, 999, 1] {
         assert_eq!(rt; both.withdraw(number, &rt)?, Withdrawn::Waiting);
     }

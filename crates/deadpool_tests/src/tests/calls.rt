@@ -1,46 +1,19 @@
 //! Calls of a manager, which no contract counts.
 use super::managers::{Calls, Counted};
+use super::polls::{Answering, poll, task};
 use super::watched::Watched;
-use super::{Bench, stands};
-use deadpool::Moment;
+use super::{Bench, new_core, stands};
 use deadpool::managed::{
-    AsyncHook, BackReply, Core, Desk, EnterReply, Environment, GetState, Hook, HookError,
-    HookResult, Hooks, Manager, Metrics, NoHook, PoolBuilder, PoolError, QueueMode, Serving, Slot,
-    Timeouts, Turn,
+    BackReply, Desk, EnterReply, Environment, GetState, Hook, Hooks, NoHook, PoolBuilder,
+    PoolError, QueueMode, Serving, Timeouts,
 };
 use deadpool::replay::{Move, Reply};
-use futures::task::{Context, Doorbell, Poll, Solo};
+use futures::task::Solo;
 use std::random::RandomSource;
 use std::test::Fail;
 use std::time::Duration;
 
 type Counting<'a> = Bench<Counted<'a>, NoHook, Answering>;
-
-// A hook that refuses each object, or is pending for ever.
-#[derive(Drop)]
-enum Answering {
-    Refuses,
-    Stalls,
-}
-
-impl<M: Manager> AsyncHook<M> for Answering {
-    type State = ();
-
-    fn begin(&self, _value: &mut M::Type, _metrics: &Metrics) -> () {}
-
-    fn poll(
-        &self,
-        _state: &mut (),
-        _value: &mut M::Type,
-        _metrics: &Metrics,
-        _cx: &mut Context<'_>,
-    ) -> Poll<HookResult<M::Error>> {
-        match self {
-            Answering::Refuses => Poll::Ready(Err(HookError::message("refused"))),
-            Answering::Stalls => Poll::Pending,
-        }
-    }
-}
 
 // A pool for two objects, without a runtime.
 fn bench<'a, R: RandomSource + AllocGlobal>(
@@ -206,27 +179,6 @@ fn what_the_owner_gives_up(rt: HostRuntime) -> Result<(), Fail> {
 
 type Plain<'a> = Environment<Counted<'a>, NoHook, Answering>;
 
-// Polls a get over a desk once: what it ended with, or none where it is pending.
-fn poll<M: Manager + Drop, D: Desk<M::Type>>(
-    state: &mut GetState<M, Answering>,
-    desk: &mut D,
-    environment: &Environment<M, NoHook, Answering>,
-    task: &Solo,
-) -> Option<Result<Slot<M::Type>, PoolError<M::Error>>> {
-    let mut cx = task.begin();
-    let turn = state.poll_over(desk, environment, Moment(0), &mut cx);
-    cx.cancel();
-    match turn {
-        Turn::Done(result) => Some(result),
-        Turn::Pending | Turn::More => None,
-    }
-}
-
-// A task to poll in.
-fn task<R: RandomSource + AllocGlobal>(rt: &R) -> Result<Solo, Fail> {
-    Solo::new(rt, Doorbell::spinning()).map_err(|_| Fail::new("no memory for a task"))
-}
-
 // A desk with one idle object, and what its gets are lent.
 fn desk_with_object<'a, R: RandomSource + AllocGlobal>(
     rt: &R,
@@ -234,7 +186,7 @@ fn desk_with_object<'a, R: RandomSource + AllocGlobal>(
     task: &Solo,
 ) -> Result<(Watched<'a, u64>, Plain<'a>), Fail> {
     let mut desk = Watched {
-        core: Core::new(rt.alloc(), 2, QueueMode::Fifo, 0)?,
+        core: new_core(rt.alloc(), 2, QueueMode::Fifo)?,
         calls,
         knows: true,
         detached: 0,

@@ -7,9 +7,9 @@ use deadpool::{Moment, unmanaged};
 use std::cell::Cell;
 use std::test::Fail;
 
-// An object that counts its drop.
-struct Tracked<'a> {
-    drops: &'a Cell<usize>,
+/// An object that counts its drop.
+pub struct Tracked<'a> {
+    pub drops: &'a Cell<usize>,
 }
 
 impl Drop for Tracked<'_> {
@@ -48,7 +48,7 @@ fn keep<'a>(core: &mut Core<Tracked<'a>>, slot: Slot<Tracked<'a>>) -> Result<(),
 #[test]
 fn a_smaller_limit_drops_each_once(rt: HostRuntime) -> Result<(), Fail> {
     let drops = Cell::new(0);
-    let mut core = Core::new(rt.alloc(), 3, QueueMode::Fifo, 0)?;
+    let mut core = Core::new(rt.alloc(), 3, QueueMode::Fifo, 0, 0)?;
     let first = created(&mut core, &drops)?;
     let second = created(&mut core, &drops)?;
     let third = created(&mut core, &drops)?;
@@ -69,9 +69,26 @@ fn a_smaller_limit_drops_each_once(rt: HostRuntime) -> Result<(), Fail> {
 }
 
 #[test]
+fn what_stays_idle_is_not_dropped(rt: HostRuntime) -> Result<(), Fail> {
+    let drops = Cell::new(0);
+    let mut core = Core::new(rt.alloc(), 2, QueueMode::Fifo, 0, 2)?;
+    let first = created(&mut core, &drops)?;
+    let second = created(&mut core, &drops)?;
+    keep(&mut core, first)?;
+    keep(&mut core, second)?;
+    // Two are to stay, and one has to go for the limit.
+    core.resize(1)?;
+    assert_eq!(rt; drops.get(), 1);
+    // The last handle spares none.
+    core.drop_handle();
+    assert_eq!(rt; drops.get(), 2);
+    Ok(())
+}
+
+#[test]
 fn the_last_handle_drops_each_once(rt: HostRuntime) -> Result<(), Fail> {
     let drops = Cell::new(0);
-    let mut core = Core::new(rt.alloc(), 2, QueueMode::Lifo, 0)?;
+    let mut core = Core::new(rt.alloc(), 2, QueueMode::Lifo, 0, 0)?;
     let idle = created(&mut core, &drops)?;
     let out = created(&mut core, &drops)?;
     keep(&mut core, idle)?;
@@ -88,7 +105,7 @@ fn the_last_handle_drops_each_once(rt: HostRuntime) -> Result<(), Fail> {
 #[test]
 fn a_pool_that_is_dropped_drops_its_idle_objects(rt: HostRuntime) -> Result<(), Fail> {
     let drops = Cell::new(0);
-    let mut core = Core::new(rt.alloc(), 1, QueueMode::Fifo, 0)?;
+    let mut core = Core::new(rt.alloc(), 1, QueueMode::Fifo, 0, 0)?;
     let slot = created(&mut core, &drops)?;
     keep(&mut core, slot)?;
     drop(core);

@@ -177,6 +177,9 @@ impl Manager for Draining {
 pub struct Calls {
     pub answers: Cell<bool>,
     pub created: Cell<usize>,
+    pub recycled: Cell<usize>,
+    /// Polls of creations and of recyclings.
+    pub polled: Cell<usize>,
     pub detached: Cell<usize>,
 }
 
@@ -185,11 +188,24 @@ impl Calls {
         Calls {
             answers: Cell::new(true),
             created: Cell::new(0),
+            recycled: Cell::new(0),
+            polled: Cell::new(0),
             detached: Cell::new(0),
         }
     }
 
+    /// How many of each: creations, recyclings, polls of either, and objects that were detached.
+    pub fn counts(&self) -> (usize, usize, usize, usize) {
+        (
+            self.created.get(),
+            self.recycled.get(),
+            self.polled.get(),
+            self.detached.get(),
+        )
+    }
+
     fn answer<T: Drop>(&self, answer: T) -> Poll<T> {
+        count(&self.polled);
         if self.answers.get() {
             Poll::Ready(answer)
         } else {
@@ -198,7 +214,7 @@ impl Calls {
     }
 }
 
-/// Counts the calls of `create` and `detach`. Its creations and recyclings are pending while it does not answer.
+/// Counts its calls. Its creations and recyclings are pending while it does not answer.
 #[derive(Drop)]
 pub struct Counted<'a> {
     pub calls: &'a Calls,
@@ -221,7 +237,9 @@ impl<'a> Manager for Counted<'a> {
         self.calls.answer(Ok(0))
     }
 
-    fn recycle(&self, _value: &mut u64, _metrics: &Metrics) -> () {}
+    fn recycle(&self, _value: &mut u64, _metrics: &Metrics) -> () {
+        count(&self.calls.recycled);
+    }
 
     fn poll_recycle(
         &self,

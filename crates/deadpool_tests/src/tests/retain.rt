@@ -53,7 +53,7 @@ impl Retainer<u64> for Younger {
 
 #[test]
 fn keeps_the_young(rt: HostRuntime) -> Result<(), Fail> {
-    let mut core = Core::new(rt.alloc(), 4, QueueMode::Fifo, 0)?;
+    let mut core = Core::new(rt.alloc(), 4, QueueMode::Fifo, 0, 0)?;
     pool(&mut core, &[0, 0, 10])?;
     assert_eq!(rt; core.status(), stands(4, 3, 3, 0));
     let mut younger = Younger {
@@ -91,7 +91,7 @@ impl Retainer<u64> for Counting {
 
 #[test]
 fn asks_once_about_each(rt: HostRuntime) -> Result<(), Fail> {
-    let mut core = Core::new(rt.alloc(), 4, QueueMode::Lifo, 0)?;
+    let mut core = Core::new(rt.alloc(), 4, QueueMode::Lifo, 0, 0)?;
     pool(&mut core, &[0, 0, 0, 0])?;
     let mut counting = Counting {
         asked: 0,
@@ -99,9 +99,25 @@ fn asks_once_about_each(rt: HostRuntime) -> Result<(), Fail> {
     };
     let result = core.retain(&mut counting)?;
     assert_eq!(rt; result.retained, 0);
-    // Each is detached before the next is asked about.
+    // The nth was detached after n questions.
     assert_eq!(rt; result.removed.as_slice(), [1, 2, 3, 4].as_slice());
     assert_eq!(rt; (counting.asked, counting.detached), (4, 4));
     assert_eq!(rt; core.status(), stands(4, 0, 0, 0));
+    Ok(())
+}
+
+#[test]
+fn asks_about_those_that_it_spares(rt: HostRuntime) -> Result<(), Fail> {
+    let mut core = Core::new(rt.alloc(), 4, QueueMode::Fifo, 0, 3)?;
+    pool(&mut core, &[0, 0, 0, 0])?;
+    let mut counting = Counting {
+        asked: 0,
+        detached: 0,
+    };
+    let result = core.retain(&mut counting)?;
+    assert_eq!(rt; result.retained, 3);
+    assert_eq!(rt; result.removed.as_slice(), [1].as_slice());
+    assert_eq!(rt; (counting.asked, counting.detached), (4, 1));
+    assert_eq!(rt; core.status(), stands(4, 3, 3, 0));
     Ok(())
 }

@@ -1,4 +1,6 @@
 //! Timeouts of a pool and of its gets.
+ghost use Rattle.deadpool_managed.specs.declared.desk.Holding.{Holding};
+
 use super::managers::{Counter, Draining};
 use super::{Bench, stands};
 use deadpool::managed::{
@@ -112,7 +114,9 @@ fn poll_over<M: Manager + Drop, D: Desk<M::Type>>(
     environment: &Plain<M>,
     now: u128,
     cx: &mut Context<'_>,
-) -> Result<Option<Slot<M::Type>>, Fail> {
+) -> Result<Option<Slot<M::Type>>, Fail>
+    requires { (holding : Holding) → D.holds desk.old holding }
+{
     match state.poll_over(desk, environment, Moment(now), cx) {
         Turn::Pending => Ok(None),
         Turn::Done(Ok(slot)) => Ok(Some(slot)),
@@ -123,7 +127,7 @@ fn poll_over<M: Manager + Drop, D: Desk<M::Type>>(
 #[test]
 fn a_get_over_a_desk(rt: HostRuntime) -> Result<(), Fail> {
     let task = MockTask::new(&rt)?;
-    let mut core = Core::new(rt.alloc(), 1, QueueMode::Fifo, 7)?;
+    let mut core = Core::new(rt.alloc(), 1, QueueMode::Fifo, 7, 0)?;
     let environment = Environment {
         manager: Counter::new(),
         hooks: Hooks::<_, NoHook, NoHook>::new(rt.alloc()),
@@ -149,7 +153,7 @@ fn a_get_over_a_desk(rt: HostRuntime) -> Result<(), Fail> {
 #[test]
 fn a_get_that_is_given_up_leaves_its_place_to_the_next(rt: HostRuntime) -> Result<(), Fail> {
     let task = MockTask::new(&rt)?;
-    let mut core = Core::new(rt.alloc(), 1, QueueMode::Fifo, 0)?;
+    let mut core = Core::new(rt.alloc(), 1, QueueMode::Fifo, 0, 0)?;
     let environment = Environment {
         manager: Counter::new(),
         hooks: Hooks::<_, NoHook, NoHook>::new(rt.alloc()),

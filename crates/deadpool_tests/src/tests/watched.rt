@@ -47,7 +47,7 @@ impl<'a, T: Drop> Desk<T> for Watched<'a, T> {
 
     ghost cancels = { λ _ _ _ _. ⊤ };
 
-    ghost stands = { λ _ _. ⊤ };
+    ghost stands = { λ _ _ _. ⊤ };
 
     ghost takes = { λ _ _ _. ⊤ };
 
@@ -63,15 +63,15 @@ impl<'a, T: Drop> Desk<T> for Watched<'a, T> {
 
     ghost upgrades = { λ _ _ _. ⊤ };
 
-    fn enter(&mut self, wait: bool) -> EnterReply<T> {
+    fn enter(&mut self, wait: bool) -> EnterReply<Slot<T>> {
         self.core.enter(wait)
     }
 
-    fn ask(&mut self, ticket: Ticket, expired: bool) -> AskReply<T> {
+    fn ask(&mut self, ticket: Ticket, expired: bool) -> AskReply<Slot<T>> {
         self.core.ask(ticket, expired)
     }
 
-    fn again(&mut self, allowance: Option<usize>) -> AgainReply<T> {
+    fn again(&mut self, allowance: Option<usize>) -> AgainReply<Slot<T>> {
         self.core.again(allowance)
     }
 
@@ -99,7 +99,7 @@ impl<'a, T: Drop> Desk<T> for Watched<'a, T> {
         }
     }
 
-    fn back(&mut self, slot: Slot<T>) -> BackReply<T>
+    fn back(&mut self, slot: Slot<T>) -> BackReply<Slot<T>>
         ensures { ⊤ }
     {
         self.core.back(slot)
@@ -113,7 +113,7 @@ impl<'a, T: Drop> Desk<T> for Watched<'a, T> {
         }
     }
 
-    fn status(&self) -> Status {
+    fn status(&mut self) -> Status {
         self.core.status()
     }
 

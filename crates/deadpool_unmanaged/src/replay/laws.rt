@@ -63,7 +63,7 @@ pub fn no_object_is_lost<T>()
     ensures { EachMove (OthersStayInPool {V = T}) }
 {}
 
-/// A party is in at most one list.
+/// No party stands in two lists, nor twice in one.
 pub fn party_in_one_list<T>()
     ensures { EachState (IsListedOnce {V = T}) }
 {}

@@ -5,9 +5,10 @@ ghost use Rattle.deadpool_parts.specs.Numbers.{largest_usize};
 ghost use Rattle.deadpool_parts.specs.Runs.{all_states, Each};
 ghost use Rattle.deadpool_unmanaged.specs.Moves.{Gives, PoolRuns, NobodyWaits, IsWithinLimit};
 ghost use Rattle.deadpool_unmanaged.specs.Pool.{Pool, opened};
+ghost use Rattle.deadpool_unmanaged.specs.RunLaws.{IsWell};
 ghost use Rattle.deadpool_unmanaged.specs.Steps.{find_item};
-ghost use Rattle.deadpool_unmanaged.specs.TrialFields.{PollsSeat, PolledGet, PolledAdd, CancelsSeat, IsAtOnce, IsKnown, given, reply_to, reply_to_back, reply_to_handle, reply_to_try_add};
-ghost use Rattle.deadpool_unmanaged.specs.declared.replay.trial.Seat.TheVariants as seat;
+ghost use Rattle.deadpool_unmanaged.specs.TrialFields.{PollsVisitor, PolledGet, PolledAdd, CancelsVisitor, IsAtOnce, IsKnown, given, reply_to, reply_to_back, reply_to_handle, reply_to_try_add};
+ghost use Rattle.deadpool_unmanaged.specs.declared.replay.trial.Visitor.TheVariants as visitor;
 ghost use Rattle.deadpool_unmanaged.specs.declared.replay.moves.Move.TheVariants as move;
 
 use crate::replay::{Item, Move, Reply};
@@ -23,7 +24,7 @@ use std::time::Duration;
 
 // A party that was not cancelled.
 #[derive(Drop)]
-pub(crate) enum Seat<T> {
+pub(crate) enum Visitor<T> {
     Get(GetState),
     Add(AddState<Item<T>>),
 }
@@ -45,7 +46,7 @@ pub struct Trial<T> {
     core: Core<Item<T>>,
     runtime: Option<Runtime>,
     // By number; none where the party was cancelled.
-    seats: Vec<Option<Seat<T>>>,
+    visitors: Vec<Option<Visitor<T>>>,
     // By rising number.
     out: Vec<Item<T>>,
     most_parties: usize,
@@ -60,16 +61,16 @@ impl<T> Model for Trial<T> {
 
     ghost use Rattle.std.specs.Prelude.{◌≤◌, vec_len, vec_capacity};
     ghost use Rattle.deadpool_unmanaged.specs.Image.{image, IsCounted};
-    ghost use Rattle.deadpool_unmanaged.specs.Laws.{IsLawful};
+    ghost use Rattle.deadpool_unmanaged.specs.RunLaws.{IsWell};
 
-    ghost view = { λ t. image t.runtime t.most_parties t.next t.core t.seats.items t.out.items };
+    ghost view = { λ t. image t.runtime t.most_parties t.next t.core.pool t.visitors.items t.out.items };
 
     ghost invariant = { λ t. record {
-      counted : IsCounted t.core t.seats.items t.out.items;
-      lawful : IsLawful (image t.runtime t.most_parties t.next t.core t.seats.items t.out.items);
-      parties : vec_len t.seats ≤ t.most_parties;
-      places : t.most_parties ≤ vec_capacity t.seats;
-      hands : t.core.limit ≤ vec_capacity t.out;
+      counted : IsCounted t.core.pool t.visitors.items t.out.items;
+      well : IsWell (image t.runtime t.most_parties t.next t.core.pool t.visitors.items t.out.items);
+      parties : vec_len t.visitors ≤ t.most_parties;
+      places : t.most_parties ≤ vec_capacity t.visitors;
+      hands : t.core.pool.limit ≤ vec_capacity t.out;
     } };
 }
 
@@ -86,7 +87,7 @@ impl<T: Drop> Trial<T> {
         Ok(Trial {
             core: Core::new(alloc, max_size)?,
             runtime,
-            seats: Vec::with_capacity(alloc, parties)?,
+            visitors: Vec::with_capacity(alloc, parties)?,
             out: Vec::with_capacity(alloc, max_size)?,
             most_parties: parties,
             next: 0,
@@ -94,7 +95,14 @@ impl<T: Drop> Trial<T> {
         })
     }
 
-    /// The value of an object that is out.
+    /// What is true of the pool of every trial. The call does nothing.
+    pub fn laws(&self)
+        ensures { IsWell self.now }
+    {
+        let _ = &self.core;
+    }
+
+    /// What value an object has, if it is out.
     pub fn value(&self, number: usize) -> Option<&T>
         ensures { option_map (λ v. v.now) result ≡ option_map (λ s. s.value) (find_item number self.now.out) }
     {
@@ -104,8 +112,8 @@ impl<T: Drop> Trial<T> {
             .map(|item| &item.value)
     }
 
-    /// Makes the moves in turn, and gives the reply to each. Where the list of replies finds no memory, the moves come
-    /// back and nothing ran.
+    /// Makes the moves in turn, and gives the reply to each. If there is no memory for so many replies, no move is made,
+    /// and all of them come back.
     pub fn run(&mut self, moves: Vec<Move<T>>) -> Result<Vec<Reply<T>>, Vec<Move<T>>>
         ensures run { MatchResult result
             (λ replies. (passed : List (List (Pool T)))
@@ -123,8 +131,8 @@ impl<T: Drop> Trial<T> {
         Ok(replies)
     }
 
-    // One move.
-    fn make(&mut self, next: Move<T>) -> Reply<T>
+    /// Makes one move, and gives the reply to it.
+    pub fn make(&mut self, next: Move<T>) -> Reply<T>
         ensures { Gives next self.old result self.new }
     {
         match next {
@@ -150,11 +158,11 @@ impl<T: Drop> Trial<T> {
         if !self.core.has_handle() {
             return Reply::NoHandle;
         }
-        let party = self.seats.len();
+        let party = self.visitors.len();
         if party >= self.most_parties {
             return Reply::NoRoom;
         }
-        append(&mut self.seats, Some(Seat::Get(GetState::new(wait))));
+        append(&mut self.visitors, Some(Visitor::Get(GetState::new(wait))));
         Reply::Started(party)
     }
 
@@ -164,13 +172,13 @@ impl<T: Drop> Trial<T> {
         if !self.core.has_handle() {
             return Reply::NoHandle;
         }
-        let party = self.seats.len();
+        let party = self.visitors.len();
         if party >= self.most_parties {
             return Reply::NoRoom;
         }
         match draw(&mut self.next, value) {
             Ok(item) => {
-                append(&mut self.seats, Some(Seat::Add(AddState::new(item))));
+                append(&mut self.visitors, Some(Visitor::Add(AddState::new(item))));
                 Reply::Started(party)
             }
             Err(value) => Reply::Exhausted(value),
@@ -180,11 +188,11 @@ impl<T: Drop> Trial<T> {
     fn poll(&mut self, party: usize, now: Moment) -> Reply<T>
         ensures { Gives (move.Poll party now) self.old result self.new }
     {
-        if party >= self.seats.len() {
+        if party >= self.visitors.len() {
             return Reply::NoSuch;
         }
-        let seat = &mut self.seats[party];
-        match poll_seat(seat, &mut self.core, self.runtime, now) {
+        let visitor = &mut self.visitors[party];
+        match poll_visitor(visitor, &mut self.core, self.runtime, now) {
             None => Reply::NoSuch,
             Some(turn) => hand_out(&mut self.out, turn),
         }
@@ -226,13 +234,13 @@ impl<T: Drop> Trial<T> {
     fn cancel(&mut self, party: usize) -> Reply<T>
         ensures { Gives (move.Cancel party) self.old result self.new }
     {
-        if party >= self.seats.len() {
+        if party >= self.visitors.len() {
             return Reply::NoSuch;
         }
-        match self.seats[party].take() {
+        match self.visitors[party].take() {
             None => Reply::NoSuch,
-            Some(seat) => {
-                cancel_seat(seat, &mut self.core);
+            Some(visitor) => {
+                cancel_visitor(visitor, &mut self.core);
                 Reply::Cancelled
             }
         }
@@ -317,18 +325,18 @@ fn draw<T: Drop>(next: &mut usize, value: T) -> Result<Item<T>, T>
 }
 
 // Polls a party that was not cancelled.
-fn poll_seat<T: Drop>(
-    seat: &mut Option<Seat<T>>,
+fn poll_visitor<T: Drop>(
+    visitor: &mut Option<Visitor<T>>,
     core: &mut Core<Item<T>>,
     runtime: Option<Runtime>,
     now: Moment,
 ) -> Option<Turn<T>>
-    ensures { PollsSeat runtime now seat.old core.old result seat.new core.new }
+    ensures { PollsVisitor runtime now visitor.old core.old.pool result visitor.new core.new.pool }
 {
-    match seat {
+    match visitor {
         None => None,
-        Some(Seat::Get(state)) => Some(poll_get(state, core, runtime, now)),
-        Some(Seat::Add(state)) => Some(poll_add(state, core)),
+        Some(Visitor::Get(state)) => Some(poll_get(state, core, runtime, now)),
+        Some(Visitor::Add(state)) => Some(poll_add(state, core)),
     }
 }
 
@@ -338,7 +346,7 @@ fn poll_get<T: Drop>(
     runtime: Option<Runtime>,
     now: Moment,
 ) -> Turn<T>
-    ensures { PolledGet runtime now state.old core.old (Option.Some result) (Option.Some (seat.Get state.new)) core.new }
+    ensures { PolledGet runtime now state.old core.old.pool (Option.Some result) (Option.Some (visitor.Get state.new)) core.new.pool }
 {
     match state.poll(core, runtime, now) {
         Poll::Pending => Turn::Pending,
@@ -349,7 +357,7 @@ fn poll_get<T: Drop>(
 
 // An add that has ended has no object and is not polled any more.
 fn poll_add<T: Drop>(state: &mut AddState<Item<T>>, core: &mut Core<Item<T>>) -> Turn<T>
-    ensures { PolledAdd state.old core.old (Option.Some result) (Option.Some (seat.Add state.new)) core.new }
+    ensures { PolledAdd state.old core.old.pool (Option.Some result) (Option.Some (visitor.Add state.new)) core.new.pool }
 {
     let Some(item) = state.value() else {
         return Turn::Pending;
@@ -363,12 +371,14 @@ fn poll_add<T: Drop>(state: &mut AddState<Item<T>>, core: &mut Core<Item<T>>) ->
 }
 
 // Gives a party up.
-fn cancel_seat<T: Drop>(seat: Seat<T>, core: &mut Core<Item<T>>)
-    ensures { CancelsSeat seat core.old core.new }
+fn cancel_visitor<T: Drop>(visitor: Visitor<T>, core: &mut Core<Item<T>>)
+    ensures { CancelsVisitor visitor core.old.pool core.new.pool }
 {
-    match seat {
-        Seat::Get(state) => state.cancel(core),
-        Seat::Add(state) => state.cancel(core),
+    match visitor {
+        Visitor::Get(state) => state.cancel(core),
+        Visitor::Add(state) => {
+            let _object = state.cancel(core);
+        }
     }
 }
 

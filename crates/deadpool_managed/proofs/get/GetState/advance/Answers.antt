@@ -8,7 +8,7 @@ pub returns-in-Queued-clause-advanced : goal.returns-in-Queued-clause-advanced
 returns-in-Queued-clause-advanced g c =
     let stage : c.self.inside.stage ≡ Queued c.in-Queued.ticket c.in-Queued.deadline = cc in
     rw (← c.self.view_is, stage)
-    (asking c.in-Queued.ticket c.is_reached.result c.ask-reply.result, (c.ask-reply.ensures, (refl, c.is_reached.ensures, c.after_asked.ensures.after)))
+    (asking c.in-Queued.ticket c.is_reached.result c.ask-reply.result, (c.ask-reply.ensures.asked, (refl, c.is_reached.ensures, c.after_asked.ensures.after)))
 
 pub returns-in-Going-clause-advanced : goal.returns-in-Going-clause-advanced
 returns-in-Going-clause-advanced g c =

@@ -16,7 +16,7 @@ returns-in-Done-clause-advanced g c =
     let done : c.refused.result ≡ Done = cc in (
       refusing c.refused.result,
       (
-        c.refused.ensures,
+        c.refused.ensures.refused,
         ((c.check.result, c.check.new.slot.value), (c.check.ensures.gives, rw (c.in-Refused.is, done) ((c.detach.new._value, c.detach.ensures), c.requires.finished, refl))),
       ),
     )
@@ -26,7 +26,7 @@ returns-clause-advanced g c =
     let unknown : c.refused.result ≡ Unknown = cc in (
       refusing c.refused.result,
       (
-        c.refused.ensures,
+        c.refused.ensures.refused,
         ((c.check.result, c.check.new.slot.value), (c.check.ensures.gives, rw (c.in-Refused.is, unknown) (tt, c.requires.finished, refl))),
       ),
     )

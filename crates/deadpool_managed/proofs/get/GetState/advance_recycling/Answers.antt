@@ -16,11 +16,11 @@ pub returns-in-Done-clause-advanced : goal.returns-in-Done-clause-advanced
 returns-in-Done-clause-advanced g c =
     let done : c.discard.result ≡ Done = cc in
     rw (← c.self.view_is)
-    (discarding c.discard.result, (c.discard.ensures, (c.prepare.result, (c.prepare.ensures.gives, rw (c.in-GivenUp.is, done) ((c.detach.new._value, c.detach.ensures), refl, refl)))))
+    (discarding c.discard.result, (c.discard.ensures.discarded, (c.prepare.result, (c.prepare.ensures.gives, rw (c.in-GivenUp.is, done) ((c.detach.new._value, c.detach.ensures), refl, refl)))))
 
 pub returns-clause-advanced : goal.returns-clause-advanced
 returns-clause-advanced g c =
     let finished = rw (← c.self.view_is) at c.requires.finished in
     let unknown : c.discard.result ≡ Unknown = cc in
     rw (← c.self.view_is)
-    (discarding c.discard.result, (c.discard.ensures, (c.prepare.result, (c.prepare.ensures.gives, rw (c.in-GivenUp.is, unknown) (finished, refl)))))
+    (discarding c.discard.result, (c.discard.ensures.discarded, (c.prepare.result, (c.prepare.ensures.gives, rw (c.in-GivenUp.is, unknown) (finished, refl)))))

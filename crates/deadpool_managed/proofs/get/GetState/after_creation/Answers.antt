@@ -7,18 +7,18 @@ use Rattle.deadpool_managed.proofs.get.GetState.after_creation.Goals as goal
 pub returns-in-Ok-clause-advanced : goal.returns-in-Ok-clause-advanced
 returns-in-Ok-clause-advanced g c =
     let is : c.args.answer ≡ Ready (Ok c.in-Ok.value) = cc in
-    rw is (creating c.created-reply.result, (c.created-reply.ensures, c.after_created.ensures.after))
+    rw is (creating c.created-reply.result, (c.created-reply.ensures.created, c.after_created.ensures.after))
 
 pub returns-in-Ready-clause-advanced : goal.returns-in-Ready-clause-advanced
 returns-in-Ready-clause-advanced g c =
     let is : c.args.answer ≡ Ready (Err c.in-Err.cause) = cc in
-    rw is (failing c.failed-reply.result, (c.failed-reply.ensures, (c.requires.finished, c.ended.ensures)))
+    rw is (failing c.failed-reply.result, (c.failed-reply.ensures.failed, (c.requires.finished, c.ended.ensures)))
 
 pub returns-then-is_reached-clause-advanced : goal.returns-then-is_reached-clause-advanced
 returns-then-is_reached-clause-advanced g c =
     let is : c.args.answer ≡ Pending = cc in
     let late : is_reached c.args.deadline c.args.now ≡ true = cc in
-    rw is (failing c.failed-reply-then-is_reached.result, (c.failed-reply-then-is_reached.ensures, (late, c.requires.finished, c.ended-then-is_reached.ensures)))
+    rw is (failing c.failed-reply-then-is_reached.result, (c.failed-reply-then-is_reached.ensures.failed, (late, c.requires.finished, c.ended-then-is_reached.ensures)))
 
 pub returns-clause-advanced : goal.returns-clause-advanced
 returns-clause-advanced g c =

@@ -7,9 +7,9 @@ use Rattle.deadpool_managed.proofs.get.GetState.begin_creation.Goals as goal
 
 pub returns-then-lacks_runtime-clause-advanced : goal.returns-then-lacks_runtime-clause-advanced
 returns-then-lacks_runtime-clause-advanced g c =
-    let finished = rw (← c.self.view_is) at c.requires in
+    let finished = rw (← c.self.view_is) at c.requires.finished in
     rw (← c.self.view_is)
-    (failing c.failed-reply.result, (c.failed-reply.ensures, inl (sym c.lacks_runtime.ensures ∙ c.if-lacks_runtime.true, finished, c.ended.ensures)))
+    (failing c.failed-reply.result, (c.failed-reply.ensures.failed, inl (sym c.lacks_runtime.ensures ∙ c.if-lacks_runtime.true, finished, c.ended.ensures)))
 
 pub returns-clause-advanced : goal.returns-clause-advanced
 returns-clause-advanced g c =

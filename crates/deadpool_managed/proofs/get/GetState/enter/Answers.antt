@@ -4,7 +4,7 @@ use Rattle.deadpool_managed.proofs.get.GetState.enter.Goals as goal
 
 pub returns-then-cannot_wait-clause-advanced : goal.returns-then-cannot_wait-clause-advanced
 returns-then-cannot_wait-clause-advanced g c =
-    let finished = rw (← c.self.view_is) at c.requires in
+    let finished = rw (← c.self.view_is) at c.requires.finished in
     rw (← c.self.view_is) (no_step, (refl, (sym c.cannot_wait.ensures ∙ c.if-cannot_wait.true, finished, refl)))
 
 pub returns-clause-advanced : goal.returns-clause-advanced
@@ -13,7 +13,7 @@ returns-clause-advanced g c =
     rw (← c.self.view_is) (
       entering (not c.is_reached.result) c.enter-reply.result,
       (
-        c.enter-reply.ensures,
+        c.enter-reply.ensures.entered,
         (sym c.cannot_wait.ensures ∙ c.if-cannot_wait.false, ap not (rw deadline at c.is_reached.ensures), rw deadline at c.after_entered.ensures.after),
       ),
     )

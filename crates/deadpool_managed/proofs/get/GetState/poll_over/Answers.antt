@@ -11,6 +11,7 @@ until_allowed-preserved g c =
     record {
       timeouts = c.advance.ensures.timeouts ∙ l.invariant.timeouts;
       kept = λ fact h. c.advance.ensures.kept fact (l.invariant.kept fact h);
+      holds = rw c.in-More.is at c.advance.ensures.holds;
       goes = λ desk stage turn rest. l.invariant.goes desk stage turn
           (polls_on g.D.Desk (may g.M.Manager g.F.SyncHook g.A.AsyncHook env.manager) env.runtime env.hooks c.args.now c.args.self.now.timeouts
           l.desk c.advance.new.desk desk l.self.stage c.advance.new.self.stage stage c.advance.result turn a.0 l.self.timeouts l.invariant.timeouts c.in-More.is a.1.0 a.1.1 rest);
@@ -37,6 +38,7 @@ allowed-preserved g c =
     record {
       timeouts = c.advance-in-allowed.ensures.timeouts ∙ l.invariant.timeouts;
       kept = λ fact h. c.advance-in-allowed.ensures.kept fact (l.invariant.kept fact h);
+      holds = rw c.in-More-advance.is at c.advance-in-allowed.ensures.holds;
       allowed = (falls_allowed l.self.stage c.advance-in-allowed.new.self.stage l.invariant.allowed (c.advance-in-allowed.ensures.falls c.in-More-advance.is)).0;
       goes = λ desk stage turn rest. l.invariant.goes desk stage turn
           (polls_on g.D.Desk (may g.M.Manager g.F.SyncHook g.A.AsyncHook env.manager) env.runtime env.hooks c.args.now c.args.self.now.timeouts

@@ -1,6 +1,7 @@
 use Rattle.std.proofs.Common.{◌≡◌, rules}
 use Rattle.deadpool_parts.specs.Gate.{grant}
 use Rattle.deadpool_parts.proofs.GateFields.{Shows-seen}
+use Rattle.deadpool_parts.proofs.GateTickets.{untold_tickets-grant}
 use Rattle.deadpool_parts.proofs.GatePlaces.{granted_tickets-grant, waiting_tickets-grant}
 use Rattle.deadpool_parts.proofs.gate.Gate.settle.Goals as goal
 
@@ -13,3 +14,8 @@ pub returns-clause-left : goal.returns-clause-left
 returns-clause-left c =
     let after : c.loop-given.self.waiters ≡ grant c.if-self.count c.args.self.now.waiters = search rules in
     rw after (waiting_tickets-grant c.if-self.count c.args.self.now.waiters)
+
+pub returns-clause-untold : goal.returns-clause-untold
+returns-clause-untold c =
+    let after : c.loop-given.self.waiters ≡ grant c.if-self.count c.args.self.now.waiters = search rules in
+    rw after (untold_tickets-grant c.if-self.count c.args.self.now.waiters)

@@ -1,24 +1,20 @@
-use Rattle.std.proofs.Common.{◌≡◌, ◌≢◌, ℕ, Option, Some, None, eqb, false, true, refl, ap, sym, ◌∙◌}
+use Rattle.std.proofs.Common.{◌≡◌, ◌≢◌, ℕ, Option, Some, None, not, false, refl, ap, sym, ◌∙◌}
 use Rattle.std.specs.List.{find}
-use Rattle.std.specs.Option.{option_map, option_eq}
-use Rattle.std.proofs.lemmas.Bool.{both_ways, eq-eqb, eqb-true, false≢true}
+use Rattle.std.specs.Option.{option_map}
+use Rattle.std.proofs.lemmas.Bool.{both_ways}
 use Rattle.deadpool_parts.specs.declared.gate.Gate.TheInside.{Inside}
 use Rattle.deadpool_parts.specs.declared.gate.store.Change.TheVariants as change
-use Rattle.deadpool_parts.specs.Gate.{Waiter, Line, tell_next, due_ticket, is_due, with_word}
-use Rattle.deadpool_parts.specs.GateFields.{line_of, waiters_of}
+use Rattle.deadpool_parts.specs.Gate.{Waiter, Line, tell_next, due_ticket, is_due, with_word, granted_tickets, untold_tickets}
+use Rattle.deadpool_parts.specs.Waking.{next_due, still_untold}
+use Rattle.deadpool_parts.specs.GateFields.{line_of, waiters_of, IsHeld}
 use Rattle.deadpool_parts.specs.GateNodes.{changed}
 use Rattle.deadpool_parts.proofs.GateFields.{Changing, Telling, TellsNext, IsHeld-shows, Shows-is, Shows-seen, Shows-told, Shows-all_told, Shows-none_due, Shows-first_untold}
 use Rattle.deadpool_parts.proofs.GateListed.{change_first_none}
+use Rattle.deadpool_parts.proofs.GateTickets.{granted_tickets-told, waiting_tickets-told}
+use Rattle.deadpool_parts.proofs.GateWaking.{due_ticket-next_due, untold_tickets-tell_next}
+use Rattle.deadpool_parts.proofs.Pointers.{points_there, points_elsewhere}
 use Rattle.deadpool_parts.proofs.gate.Gate.take_wake.Goals as goal
 use Rattle.deadpool_parts.proofs.gate.Gate.take_wake.Goals.{else-not-self-via-then-not-self+else-eq, else-not-self-via-else-not-self}
-
-points_there : (pointer : Option ℕ) (key : ℕ) → option_eq eqb pointer (Some key) ≡ true → pointer ≡ Some key
-points_there None key same = absurd (false≢true same)
-points_there (Some at) key same = ap Some (eqb-true at key same)
-
-points_elsewhere : (pointer : Option ℕ) (key : ℕ) → option_eq eqb pointer (Some key) ≡ false → pointer ≢ Some key
-points_elsewhere pointer key differs is =
-    let here : eqb key key ≡ false = rw is at differs in both_ways _ here (eq-eqb key key refl)
 
 -- a call at these fields, seen as this line, where nobody is due
 module _ (g : Inside) (line : Line) (seen : line_of g ≡ line) (none : find (is_due g.is_closed) line.waiters ≡ None) where
@@ -30,6 +26,11 @@ module _ (g : Inside) (line : Line) (seen : line_of g ≡ line) (none : find (is
 
   same_waiters : waiters_of g ≡ tell_next line.is_closed line.waiters
   same_waiters = ap (λ (l : Line). l.waiters) seen ∙ sym (change_first_none (is_due line.is_closed) with_word line.waiters nobody)
+
+-- who is named is so by the tickets alone
+by_tickets : (g : Inside) (line : Line) (named : Option ℕ) → line_of g ≡ line → IsHeld g → named ≡ due_ticket line.is_closed line.waiters
+    → named ≡ next_due (not line.is_closed) (granted_tickets line.waiters) (untold_tickets line.waiters)
+by_tickets g line named seen held is = is ∙ due_ticket-next_due line.is_closed line.waiters (Shows-seen g line seen held).line.apart
 
 pub returns-in_err-key-clause-ticket : goal.returns-in_err-key-clause-ticket
 returns-in_err-key-clause-ticket c =
@@ -99,3 +100,31 @@ pub returns-clause-waiters : goal.returns-clause-waiters
 returns-clause-waiters c =
     let closed : c.self.inside.is_closed ≡ c.args.self.now.is_closed = ap (λ (l : Line). l.is_closed) c.self.view_is in
     rw (← closed) (Shows-is (after c) _ (tells c).shows)
+
+pub returns-clause-granted : goal.returns-clause-granted
+returns-clause-granted c =
+    rw (Shows-is (after c) _ (tells c).shows) (granted_tickets-told (is_due c.self.inside.is_closed) c.args.self.now.waiters)
+
+pub returns-clause-waiting : goal.returns-clause-waiting
+returns-clause-waiting c =
+    rw (Shows-is (after c) _ (tells c).shows) (waiting_tickets-told (is_due c.self.inside.is_closed) c.args.self.now.waiters)
+
+pub returns-in_err-key-clause-next : goal.returns-in_err-key-clause-next
+returns-in_err-key-clause-next c = by_tickets c.self.inside c.args.self.now _ c.self.view_is c.self.invariant (returns-in_err-key-clause-ticket c)
+
+pub returns-then-eq-clause-next : goal.returns-then-eq-clause-next
+returns-then-eq-clause-next c = by_tickets c.self.inside c.args.self.now None c.self.view_is c.self.invariant (returns-then-eq-clause-ticket c)
+
+pub returns-in_err-node-clause-next : goal.returns-in_err-node-clause-next
+returns-in_err-node-clause-next c = absurd (has_node c)
+
+pub returns-clause-next : goal.returns-clause-next
+returns-clause-next c = by_tickets c.self.inside c.args.self.now (Some c.in_ok-key.key) c.self.view_is c.self.invariant (returns-clause-ticket c)
+
+pub returns-clause-untold : goal.returns-clause-untold
+returns-clause-untold c =
+    let shows = Shows-seen _ _ c.self.view_is c.self.invariant in
+    let ws = c.args.self.now.waiters in
+    rw (Shows-is (after c) _ (tells c).shows) (
+    untold_tickets-tell_next c.self.inside.is_closed ws shows.line.apart ∙ ap (λ (named : Option ℕ). still_untold named (untold_tickets ws)) (tells c).ticket
+    )

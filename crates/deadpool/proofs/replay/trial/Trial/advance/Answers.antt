@@ -6,7 +6,7 @@ use Rattle.std.specs.Option.{option_map}
 use Rattle.deadpool.specs.Image.{party_of}
 use Rattle.deadpool_managed.specs.Outside.{may}
 use Rattle.deadpool.proofs.Falls.{advance_falls}
-use Rattle.deadpool.proofs.TrialSteps.{out_fits, turned, not_turned}
+use Rattle.deadpool.proofs.TrialSteps.{out_fits, turned, not_turned, advances_at_desk}
 use Rattle.deadpool.proofs.replay.trial.Trial.advance.Goals as goal
 
 pub returns-then-party-len-clause-made : goal.returns-then-party-len-clause-made
@@ -25,9 +25,9 @@ hand_out-requires g c =
     let len : vec_len f.parties ≡ length f.parties.items = search rules in
     let here : slice_get f.parties.items c.args.party ≡ Some c.index_mut-get.result.now =
     slice_get_read f.parties.items (length f.parties.items) c.args.party c.index_mut-get.result.now refl (omega (arith, len, c.len.ensures, c.if-party-len.false)) c.index_mut-get.ensures.value in
-    let all = turned g.M.Manager g.F.SyncHook g.A.AsyncHook e.manager e.runtime e.hooks f.timeouts f.first f.most_parties f.core c.advance_get.new.desk f.parties.items f.out.items
-    c.self.invariant.counted c.self.invariant.lawful c.args.party c.args.now c.index_mut-get.result.now c.advance_get.new.get c.advance_get.result here c.advance_get.ensures.advanced c.in-Some.turn c.in-Some.is in
-    out_fits c.advance_get.new.desk f.parties.items c.args.party c.advance_get.new.get _ (vec_len f.parties) f.most_parties (vec_capacity f.out) all.1 len c.self.invariant.parties c.self.invariant.hands
+    let all = turned g.M.Manager g.F.SyncHook g.A.AsyncHook e.manager e.runtime e.hooks f.timeouts f.first f.most_parties f.core.desk c.advance_get.new.desk.desk f.parties.items f.out.items
+    c.self.invariant.counted c.self.invariant.well c.args.party c.args.now c.index_mut-get.result.now c.advance_get.new.get c.advance_get.result here (advances_at_desk (may g.M.Manager g.F.SyncHook g.A.AsyncHook e.manager) e.runtime e.hooks c.args.now c.index_mut-get.result.now f.core c.advance_get.new.get c.advance_get.new.desk c.advance_get.result c.advance_get.ensures.advanced) c.in-Some.turn c.in-Some.is in
+    out_fits c.advance_get.new.desk.desk f.parties.items c.args.party c.advance_get.new.get _ (vec_len f.parties) f.most_parties (vec_capacity f.out) all.1 len c.self.invariant.parties c.self.invariant.hands
 
 pub invariant_of-self-in-Some : goal.invariant_of-self-in-Some
 invariant_of-self-in-Some g c =
@@ -36,11 +36,11 @@ invariant_of-self-in-Some g c =
     let len : vec_len f.parties ≡ length f.parties.items = search rules in
     let here : slice_get f.parties.items c.args.party ≡ Some c.index_mut-get.result.now =
     slice_get_read f.parties.items (length f.parties.items) c.args.party c.index_mut-get.result.now refl (omega (arith, len, c.len.ensures, c.if-party-len.false)) c.index_mut-get.ensures.value in
-    let all = turned g.M.Manager g.F.SyncHook g.A.AsyncHook e.manager e.runtime e.hooks f.timeouts f.first f.most_parties f.core c.advance_get.new.desk f.parties.items f.out.items
-    c.self.invariant.counted c.self.invariant.lawful c.args.party c.args.now c.index_mut-get.result.now c.advance_get.new.get c.advance_get.result here c.advance_get.ensures.advanced c.in-Some.turn c.in-Some.is in
+    let all = turned g.M.Manager g.F.SyncHook g.A.AsyncHook e.manager e.runtime e.hooks f.timeouts f.first f.most_parties f.core.desk c.advance_get.new.desk.desk f.parties.items f.out.items
+    c.self.invariant.counted c.self.invariant.well c.args.party c.args.now c.index_mut-get.result.now c.advance_get.new.get c.advance_get.result here (advances_at_desk (may g.M.Manager g.F.SyncHook g.A.AsyncHook e.manager) e.runtime e.hooks c.args.now c.index_mut-get.result.now f.core c.advance_get.new.get c.advance_get.new.desk c.advance_get.result c.advance_get.ensures.advanced) c.in-Some.turn c.in-Some.is in
     record {
       counted = rw c.hand_out.ensures.out all.1;
-      lawful = rw c.hand_out.ensures.out all.2;
+      well = rw c.hand_out.ensures.out all.2;
       parties = c.self.invariant.parties;
       seats = c.self.invariant.seats;
       hands = omega (arith, c.self.invariant.hands, c.hand_out.ensures.capacity);
@@ -53,8 +53,8 @@ returns-in-Some-clause-made g c =
     let len : vec_len f.parties ≡ length f.parties.items = search rules in
     let here : slice_get f.parties.items c.args.party ≡ Some c.index_mut-get.result.now =
     slice_get_read f.parties.items (length f.parties.items) c.args.party c.index_mut-get.result.now refl (omega (arith, len, c.len.ensures, c.if-party-len.false)) c.index_mut-get.ensures.value in
-    let all = turned g.M.Manager g.F.SyncHook g.A.AsyncHook e.manager e.runtime e.hooks f.timeouts f.first f.most_parties f.core c.advance_get.new.desk f.parties.items f.out.items
-    c.self.invariant.counted c.self.invariant.lawful c.args.party c.args.now c.index_mut-get.result.now c.advance_get.new.get c.advance_get.result here c.advance_get.ensures.advanced c.in-Some.turn c.in-Some.is in
+    let all = turned g.M.Manager g.F.SyncHook g.A.AsyncHook e.manager e.runtime e.hooks f.timeouts f.first f.most_parties f.core.desk c.advance_get.new.desk.desk f.parties.items f.out.items
+    c.self.invariant.counted c.self.invariant.well c.args.party c.args.now c.index_mut-get.result.now c.advance_get.new.get c.advance_get.result here (advances_at_desk (may g.M.Manager g.F.SyncHook g.A.AsyncHook e.manager) e.runtime e.hooks c.args.now c.index_mut-get.result.now f.core c.advance_get.new.get c.advance_get.new.desk c.advance_get.result c.advance_get.ensures.advanced) c.in-Some.turn c.in-Some.is in
     rw (← c.self.view_is, c.hand_out.ensures.out, c.hand_out.ensures.reply) all.0
 
 pub returns-in-Some-clause-falls : goal.returns-in-Some-clause-falls
@@ -64,8 +64,8 @@ returns-in-Some-clause-falls g c more =
     let len : vec_len f.parties ≡ length f.parties.items = search rules in
     let here : slice_get f.parties.items c.args.party ≡ Some c.index_mut-get.result.now =
     slice_get_read f.parties.items (length f.parties.items) c.args.party c.index_mut-get.result.now refl (omega (arith, len, c.len.ensures, c.if-party-len.false)) c.index_mut-get.ensures.value in
-    let all = turned g.M.Manager g.F.SyncHook g.A.AsyncHook e.manager e.runtime e.hooks f.timeouts f.first f.most_parties f.core c.advance_get.new.desk f.parties.items f.out.items
-    c.self.invariant.counted c.self.invariant.lawful c.args.party c.args.now c.index_mut-get.result.now c.advance_get.new.get c.advance_get.result here c.advance_get.ensures.advanced c.in-Some.turn c.in-Some.is in
+    let all = turned g.M.Manager g.F.SyncHook g.A.AsyncHook e.manager e.runtime e.hooks f.timeouts f.first f.most_parties f.core.desk c.advance_get.new.desk.desk f.parties.items f.out.items
+    c.self.invariant.counted c.self.invariant.well c.args.party c.args.now c.index_mut-get.result.now c.advance_get.new.get c.advance_get.result here (advances_at_desk (may g.M.Manager g.F.SyncHook g.A.AsyncHook e.manager) e.runtime e.hooks c.args.now c.index_mut-get.result.now f.core c.advance_get.new.get c.advance_get.new.desk c.advance_get.result c.advance_get.ensures.advanced) c.in-Some.turn c.in-Some.is in
     rw (← c.self.view_is) (advance_falls (may g.M.Manager g.F.SyncHook g.A.AsyncHook e.manager) _ _ c.args.party c.args.now _ all.0 (sym c.hand_out.ensures.reply ∙ more))
 
 pub invariant_of-self : goal.invariant_of-self
@@ -75,9 +75,9 @@ invariant_of-self g c =
     let len : vec_len f.parties ≡ length f.parties.items = search rules in
     let here : slice_get f.parties.items c.args.party ≡ Some c.index_mut-get.result.now =
     slice_get_read f.parties.items (length f.parties.items) c.args.party c.index_mut-get.result.now refl (omega (arith, len, c.len.ensures, c.if-party-len.false)) c.index_mut-get.ensures.value in
-    let all = not_turned g.M.Manager g.F.SyncHook g.A.AsyncHook e.manager e.runtime e.hooks f.timeouts f.first f.most_parties f.core c.advance_get.new.desk f.parties.items f.out.items
-    c.self.invariant.counted c.self.invariant.lawful c.args.party c.args.now c.index_mut-get.result.now c.advance_get.new.get c.advance_get.result here c.advance_get.ensures.advanced c.in-None.is in
-    rw (all.1, all.2) record { counted = c.self.invariant.counted; lawful = c.self.invariant.lawful; parties = c.self.invariant.parties; seats = c.self.invariant.seats; hands = c.self.invariant.hands }
+    let all = not_turned g.M.Manager g.F.SyncHook g.A.AsyncHook e.manager e.runtime e.hooks f.timeouts f.first f.most_parties f.core.desk c.advance_get.new.desk.desk f.parties.items f.out.items
+    c.self.invariant.counted c.self.invariant.well c.args.party c.args.now c.index_mut-get.result.now c.advance_get.new.get c.advance_get.result here (advances_at_desk (may g.M.Manager g.F.SyncHook g.A.AsyncHook e.manager) e.runtime e.hooks c.args.now c.index_mut-get.result.now f.core c.advance_get.new.get c.advance_get.new.desk c.advance_get.result c.advance_get.ensures.advanced) c.in-None.is in
+    rw (all.1, all.2) record { counted = c.self.invariant.counted; well = c.self.invariant.well; parties = c.self.invariant.parties; seats = c.self.invariant.seats; hands = c.self.invariant.hands }
 
 pub returns-in-None-clause-made : goal.returns-in-None-clause-made
 returns-in-None-clause-made g c =
@@ -86,7 +86,7 @@ returns-in-None-clause-made g c =
     let len : vec_len f.parties ≡ length f.parties.items = search rules in
     let here : slice_get f.parties.items c.args.party ≡ Some c.index_mut-get.result.now =
     slice_get_read f.parties.items (length f.parties.items) c.args.party c.index_mut-get.result.now refl (omega (arith, len, c.len.ensures, c.if-party-len.false)) c.index_mut-get.ensures.value in
-    let all = not_turned g.M.Manager g.F.SyncHook g.A.AsyncHook e.manager e.runtime e.hooks f.timeouts f.first f.most_parties f.core c.advance_get.new.desk f.parties.items f.out.items
-    c.self.invariant.counted c.self.invariant.lawful c.args.party c.args.now c.index_mut-get.result.now c.advance_get.new.get c.advance_get.result here c.advance_get.ensures.advanced c.in-None.is in
+    let all = not_turned g.M.Manager g.F.SyncHook g.A.AsyncHook e.manager e.runtime e.hooks f.timeouts f.first f.most_parties f.core.desk c.advance_get.new.desk.desk f.parties.items f.out.items
+    c.self.invariant.counted c.self.invariant.well c.args.party c.args.now c.index_mut-get.result.now c.advance_get.new.get c.advance_get.result here (advances_at_desk (may g.M.Manager g.F.SyncHook g.A.AsyncHook e.manager) e.runtime e.hooks c.args.now c.index_mut-get.result.now f.core c.advance_get.new.get c.advance_get.new.desk c.advance_get.result c.advance_get.ensures.advanced) c.in-None.is in
     let none : slice_get (map party_of f.parties.items) c.args.party ≡ Some None = slice_get-map party_of f.parties.items c.args.party ∙ ap (option_map party_of) all.0 in
     rw (← c.self.view_is, all.1, all.2) (rw none refl)

@@ -5,6 +5,7 @@ use Rattle.std.proofs.lemmas.Option.{slice_get_read, slice_get_past, slice_get-m
 use Rattle.std.specs.Option.{option_map}
 use Rattle.deadpool_parts.proofs.Lists.{set-same}
 use Rattle.deadpool.specs.Image.{party_of}
+use Rattle.deadpool_managed.proofs.CoreDesk.{makes_at_desk}
 use Rattle.deadpool.proofs.TrialSteps.{cancelled}
 use Rattle.deadpool.proofs.replay.trial.Trial.cancel.Goals as goal
 
@@ -25,7 +26,7 @@ invariant_of-self g c =
     slice_get_read f.parties.items (length f.parties.items) c.args.party c.index_mut.result.now refl (omega (arith, len, c.len.ensures, c.if-party-len.false)) c.index_mut.ensures.value in
     let none : slice_get f.parties.items c.args.party ≡ Some None = here ∙ ap Some (sym c.take.ensures.value ∙ c.in-None.is) in
     let same = set-same f.parties.items c.args.party None none in
-    rw (c.take.ensures.after, same) record { counted = c.self.invariant.counted; lawful = c.self.invariant.lawful; parties = c.self.invariant.parties; seats = c.self.invariant.seats; hands = c.self.invariant.hands }
+    rw (c.take.ensures.after, same) record { counted = c.self.invariant.counted; well = c.self.invariant.well; parties = c.self.invariant.parties; seats = c.self.invariant.seats; hands = c.self.invariant.hands }
 
 pub returns-in-None-clause-made : goal.returns-in-None-clause-made
 returns-in-None-clause-made g c =
@@ -45,10 +46,10 @@ invariant_of-self-in-Some g c =
     let len : vec_len f.parties ≡ length f.parties.items = search rules in
     let here : slice_get f.parties.items c.args.party ≡ Some c.index_mut.result.now =
     slice_get_read f.parties.items (length f.parties.items) c.args.party c.index_mut.result.now refl (omega (arith, len, c.len.ensures, c.if-party-len.false)) c.index_mut.ensures.value in
-    let made = c.cancel.ensures in
-    let all = cancelled g.M.Manager g.F.SyncHook g.A.AsyncHook e.manager e.runtime e.hooks f.timeouts f.first f.most_parties f.core c.cancel.new.desk f.parties.items f.out.items
-    c.self.invariant.counted c.self.invariant.lawful c.args.party c.in-Some.state made.0 (here ∙ ap Some (sym c.take.ensures.value ∙ c.in-Some.is)) made.1.0 made.1.1 in
-    rw c.take.ensures.after record { counted = all.1; lawful = all.2; parties = c.self.invariant.parties; seats = c.self.invariant.seats; hands = c.self.invariant.hands }
+    let made = c.cancel.ensures.cancelled in
+    let all = cancelled g.M.Manager g.F.SyncHook g.A.AsyncHook e.manager e.runtime e.hooks f.timeouts f.first f.most_parties f.core.desk c.cancel.new.desk.desk f.parties.items f.out.items
+    c.self.invariant.counted c.self.invariant.well c.args.party c.in-Some.state made.0 (here ∙ ap Some (sym c.take.ensures.value ∙ c.in-Some.is)) (makes_at_desk f.core c.cancel.new.desk made.0 made.1.0) made.1.1 in
+    rw c.take.ensures.after record { counted = all.1; well = all.2; parties = c.self.invariant.parties; seats = c.self.invariant.seats; hands = c.self.invariant.hands }
 
 pub returns-in-Some-clause-made : goal.returns-in-Some-clause-made
 returns-in-Some-clause-made g c =
@@ -57,7 +58,7 @@ returns-in-Some-clause-made g c =
     let len : vec_len f.parties ≡ length f.parties.items = search rules in
     let here : slice_get f.parties.items c.args.party ≡ Some c.index_mut.result.now =
     slice_get_read f.parties.items (length f.parties.items) c.args.party c.index_mut.result.now refl (omega (arith, len, c.len.ensures, c.if-party-len.false)) c.index_mut.ensures.value in
-    let made = c.cancel.ensures in
-    let all = cancelled g.M.Manager g.F.SyncHook g.A.AsyncHook e.manager e.runtime e.hooks f.timeouts f.first f.most_parties f.core c.cancel.new.desk f.parties.items f.out.items
-    c.self.invariant.counted c.self.invariant.lawful c.args.party c.in-Some.state made.0 (here ∙ ap Some (sym c.take.ensures.value ∙ c.in-Some.is)) made.1.0 made.1.1 in
+    let made = c.cancel.ensures.cancelled in
+    let all = cancelled g.M.Manager g.F.SyncHook g.A.AsyncHook e.manager e.runtime e.hooks f.timeouts f.first f.most_parties f.core.desk c.cancel.new.desk.desk f.parties.items f.out.items
+    c.self.invariant.counted c.self.invariant.well c.args.party c.in-Some.state made.0 (here ∙ ap Some (sym c.take.ensures.value ∙ c.in-Some.is)) (makes_at_desk f.core c.cancel.new.desk made.0 made.1.0) made.1.1 in
     rw (← c.self.view_is, c.take.ensures.after) all.0

@@ -20,7 +20,7 @@ pub returns-in-Back-clause-made : goal.returns-in-Back-clause-made
 returns-in-Back-clause-made g c = rw c.in-Back.is (c.back.new.self.pool ∷ [], (c.back.new.self.pool, refl, c.back.ensures.made), refl)
 
 pub returns-in-Status-clause-made : goal.returns-in-Status-clause-made
-returns-in-Status-clause-made g c = let pool = c.args.self.now.pool in rw c.in-Status.is (pool ∷ [], (pool, refl, c.status.ensures), refl)
+returns-in-Status-clause-made g c = rw c.in-Status.is (c.status.new.self.pool ∷ [], (c.status.new.self.pool, refl, c.status.ensures.made), refl)
 
 pub returns-in-Take-clause-made : goal.returns-in-Take-clause-made
 returns-in-Take-clause-made g c = rw c.in-Take.is (c.take.new.self.pool ∷ [], (c.take.new.self.pool, refl, c.take.ensures.made), refl)

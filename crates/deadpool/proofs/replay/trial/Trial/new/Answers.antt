@@ -1,5 +1,5 @@
 use Rattle.std.proofs.Common.{refl, arith}
-use Rattle.deadpool.proofs.Lawful.{opened_lawful}
+use Rattle.deadpool.proofs.Well.{opened_well}
 use Rattle.deadpool.proofs.replay.trial.Trial.new.Goals as goal
 
 pub invariant_of-result : goal.invariant_of-result
@@ -15,8 +15,8 @@ invariant_of-result g c =
             outside = refl;
             room = omega arith;
           };
-      lawful = rw (pool.core, pool.environment, pool.timeouts, c.in_ok-with_capacity.ensures.items, c.in_ok-with_capacity-2.ensures.items)
-          (opened_lawful b.max_size b.queue_mode b.runtime b.hooks b.timeouts c.args.first_number c.args.parties);
+      well = rw (pool.core, pool.environment, pool.timeouts, c.in_ok-with_capacity.ensures.items, c.in_ok-with_capacity-2.ensures.items)
+          (opened_well b.max_size b.queue_mode b.runtime b.hooks b.timeouts c.args.first_number c.args.parties b.min_idle);
       parties = omega (arith, c.in_ok-with_capacity.ensures.len);
       seats = omega (arith, c.in_ok-with_capacity.ensures.capacity);
       hands = omega (arith, c.in_ok-with_capacity-2.ensures.capacity);

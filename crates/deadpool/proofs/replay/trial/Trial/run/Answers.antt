@@ -47,7 +47,7 @@ returns-clause-run g c =
     let steps = c.in-None.ensures.steps in
     let ended : into_iter_items l.first-iterator ≡ [] = none_left (into_iter_items l.first-iterator) (into_iter_len l.first-iterator) l.invariant.left steps.0 in
     let ran = rw append-nil at (l.invariant.goes [] [] l.self.pool (runs_end (may g.M.Manager g.F.SyncHook g.A.AsyncHook c.args.self.now.manager) l.self.pool (into_iter_items l.first-iterator) ended)) in
-    let lawful : IsLawful c.args.self.now.pool = rw (← c.self.view_is) c.self.invariant.lawful in
+    let lawful : IsLawful c.args.self.now.pool = rw (← c.self.view_is) c.self.invariant.well.lawful in
     let laws = runs_lawful (may g.M.Manager g.F.SyncHook g.A.AsyncHook c.args.self.now.manager) c.args.moves.items c.args.self.now.pool l.self.pool ran.0 l.replies.items lawful ran.1 in
     (ran.0, ran.1, laws.0, laws.1)
 

@@ -1,5 +1,5 @@
 use Rattle.std.proofs.Common.{refl, arith}
-use Rattle.deadpool_unmanaged.proofs.Lawful.{opened_lawful}
+use Rattle.deadpool_unmanaged.proofs.Well.{opened_well}
 use Rattle.deadpool_unmanaged.proofs.replay.trial.Trial.new.Goals as goal
 
 pub invariant_of-result : goal.invariant_of-result
@@ -11,7 +11,7 @@ invariant_of-result g c =
         adds = record { owned = λ t h. cc; listed = λ n t x h. cc };
         outside = refl;
       };
-      lawful = opened_lawful c.args.max_size c.args.runtime c.args.parties;
+      well = opened_well c.args.max_size c.args.runtime c.args.parties;
       parties = omega (arith, c.in_ok-with_capacity.ensures.len);
       places = omega (arith, c.in_ok-with_capacity.ensures.capacity);
       hands = omega (arith, c.in_ok-with_capacity-2.ensures.capacity);

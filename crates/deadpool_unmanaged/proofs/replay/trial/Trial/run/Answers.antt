@@ -38,6 +38,6 @@ returns g c =
     let steps = c.in-None.ensures.steps in
     let ended : into_iter_items l.first-iterator ≡ [] = none_left (into_iter_items l.first-iterator) (into_iter_len l.first-iterator) l.invariant.left steps.0 in
     let ran = rw append-nil at (l.invariant.goes [] [] l.self (runs_end l.self (into_iter_items l.first-iterator) ended)) in
-    let lawful : IsLawful c.args.self.now = rw (← c.self.view_is) c.self.invariant.lawful in
+    let lawful : IsLawful c.args.self.now = rw (← c.self.view_is) c.self.invariant.well.lawful in
     let laws = runs_lawful c.args.moves.items c.args.self.now l.self ran.0 l.replies.items lawful ran.1 in
     record { run = (ran.0, ran.1, laws.0, laws.1) }

@@ -5,11 +5,11 @@ use Rattle.deadpool_unmanaged.proofs.replay.trial.Trial.upgrade.Goals as goal
 pub invariant_of-self : goal.invariant_of-self
 invariant_of-self g c =
     let f = c.self.inside in
-    let all = upgrades f.runtime f.most_parties f.next f.core f.seats.items f.out.items c.self.invariant.counted c.self.invariant.lawful c.upgrade.result c.upgrade.new.self c.upgrade.ensures in
-    record { counted = all.counted; lawful = all.lawful; parties = c.self.invariant.parties; places = c.self.invariant.places; hands = omega (arith, all.limit, c.self.invariant.hands) }
+    let all = upgrades f.runtime f.most_parties f.next f.core.pool f.visitors.items f.out.items c.self.invariant.counted c.self.invariant.well c.upgrade.result c.upgrade.new.self.pool c.upgrade.ensures in
+    record { counted = all.counted; well = all.well; parties = c.self.invariant.parties; places = c.self.invariant.places; hands = omega (arith, all.limit, c.self.invariant.hands) }
 
 pub returns : goal.returns
 returns g c =
     let f = c.self.inside in
-    let all = upgrades f.runtime f.most_parties f.next f.core f.seats.items f.out.items c.self.invariant.counted c.self.invariant.lawful c.upgrade.result c.upgrade.new.self c.upgrade.ensures in
+    let all = upgrades f.runtime f.most_parties f.next f.core.pool f.visitors.items f.out.items c.self.invariant.counted c.self.invariant.well c.upgrade.result c.upgrade.new.self.pool c.upgrade.ensures in
     rw (← c.self.view_is) all.gives

@@ -1,0 +1,66 @@
+-- The idle objects that stay in a retain.
+use Rattle.std.proofs.Common.{◌≡◌, ℕ, ◌+◌, ◌-◌, ◌<◌, ◌≤◌, min, List, [], ◌∷◌, Bool, true, false, not, length, refl, arith, inl, inr}
+use Rattle.std.specs.Prelude.{filter, nat_le, ◌||◌}
+use Rattle.std.proofs.lemmas.Bool.{cases_Bool, cond_both}
+use Rattle.std.proofs.lemmas.Bool.Decides.{nat_tests}
+use Rattle.deadpool_parts.specs.Numbers.{has_number}
+use Rattle.deadpool.specs.Moves.{stays, staying}
+use Rattle.deadpool.specs.Steps.{slot_number}
+use Rattle.deadpool_managed.specs.declared.slot.Slot.{Slot}
+use Rattle.deadpool_parts.proofs.NumberedCounts.{count-cons}
+use Rattle.deadpool.proofs.NumberCounts.{held}
+
+-- an object goes only where more are idle than have to be
+more_than_least : (b : Bool) (least idle : ℕ) → (b || nat_le idle least) ≡ false → least < idle
+more_than_least true least idle h = cc
+more_than_least false least idle h = grind (arith, nat_tests, h)
+
+-- and only where it has none of the numbers
+not_kept : (b c : Bool) → (b || c) ≡ false → b ≡ false
+not_kept true c h = cc
+not_kept false c h = refl
+
+module _ {V : Type 0} (kept : List ℕ) (least : ℕ) where
+  -- no more stay than were asked about
+  pub staying-shorter : (idle : ℕ) (xs : List (Slot V)) → length (staying kept least idle xs) ≤ length xs
+  staying-shorter idle [] = omega arith
+  staying-shorter idle (x ∷ xs) =
+      let stay = staying-shorter idle xs in
+      let go = staying-shorter (idle - 1) xs in
+      cond_both (stays kept least idle x) _ _ (λ ys. length ys ≤ length (x ∷ xs)) (λ here. omega (arith, stay)) (λ gone. omega (arith, go))
+
+  -- as many stay idle as have to, if as many were
+  pub staying-least : (idle : ℕ) (xs : List (Slot V)) → min idle least + length xs ≤ idle + length (staying kept least idle xs)
+  staying-least idle [] = omega arith
+  staying-least idle (x ∷ xs) =
+      let stay = staying-least idle xs in
+      let go = staying-least (idle - 1) xs in
+      elim (cases_Bool (stays kept least idle x)) [
+        | inl stay_on ↦ rw stay_on (omega (arith, stay))
+        | inr leave ↦ let more = more_than_least (has_number x.number kept) least idle leave in rw leave (omega (arith, go, more))
+      ]
+
+  -- none of them is new
+  pub held-staying : (n idle : ℕ) (xs : List (Slot V)) → held n (staying kept least idle xs) ≤ held n xs
+  held-staying n idle [] = omega arith
+  held-staying n idle (x ∷ xs) =
+      let old = count-cons slot_number n x xs in
+      let now = count-cons slot_number n x (staying kept least idle xs) in
+      let stay = held-staying n idle xs in
+      let go = held-staying n (idle - 1) xs in
+      cond_both (stays kept least idle x) _ _ (λ ys. held n ys ≤ held n (x ∷ xs)) (λ here. omega (arith, old, now, stay)) (λ gone. omega (arith, old, go))
+
+  -- those that go have none of the numbers
+  pub held-going : (n idle : ℕ) (xs : List (Slot V)) → held n xs ≤ held n (staying kept least idle xs) + held n (filter (λ s. not (has_number s.number kept)) xs)
+  held-going n idle [] = omega arith
+  held-going n idle (x ∷ xs) =
+      let old = count-cons slot_number n x xs in
+      let now = count-cons slot_number n x (staying kept least idle xs) in
+      let others = count-cons slot_number n x (filter (λ s. not (has_number s.number kept)) xs) in
+      let stay = held-going n idle xs in
+      let go = held-going n (idle - 1) xs in
+      elim (cases_Bool (stays kept least idle x)) [
+        | inl stay_on ↦ rw stay_on
+            (cond_both (not (has_number x.number kept)) _ _ (λ ys. held n (x ∷ xs) ≤ held n (x ∷ staying kept least idle xs) + held n ys) (λ other. omega (arith, old, now, others, stay)) (λ has. omega (arith, old, now, stay)))
+        | inr leave ↦ let none = not_kept (has_number x.number kept) (nat_le idle least) leave in rw (leave, none) (omega (arith, old, others, go))
+      ]

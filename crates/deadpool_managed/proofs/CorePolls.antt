@@ -1,0 +1,284 @@
+-- A poll over a core is one over the desk machine. Where its get does not come to wait, nobody comes to or leaves the queue.
+use Rattle.std.proofs.Common.{◌≡◌, ◌≢◌, ◌<◌, ℕ, Bool, List, [], ◌∷◌, map, true, false, Option, Some, None, Result, Ok, Err, refl, sym, ap, ◌∙◌, subst, inl, inr, arith}
+use Rattle.std.specs.Prelude.{⊤}
+use Rattle.std.specs.declared.time.Duration.{Duration}
+use Rattle.futures.specs.declared.task.Poll.{Poll}
+use Rattle.futures.specs.declared.task.Poll.TheVariants as poll
+use Rattle.deadpool_parts.specs.Moments.{cannot_wait}
+use Rattle.deadpool_parts.specs.declared.moment.Moment.{Moment}
+use Rattle.deadpool_parts.specs.declared.moment.Runtime.{Runtime}
+use Rattle.deadpool_parts.specs.declared.config.Timeouts.{Timeouts}
+use Rattle.deadpool_parts.specs.declared.replies.StepReply.{StepReply}
+use Rattle.deadpool_parts.specs.declared.replies.StepReply.TheVariants as step
+use Rattle.deadpool_managed.specs.CoreState.{CoreState}
+use Rattle.deadpool_managed.specs.DeskState.{DeskState, places}
+use Rattle.deadpool_managed.specs.HookLists.{HookLists}
+use Rattle.deadpool_managed.specs.Outside.{May}
+use Rattle.deadpool_managed.specs.Get.{Made, no_step, entering, asking, going_on, discarding, creating, failing, refusing, cancelling, Makes, AfterServing, AfterCreation, AfterDiscard, AfterPrepared, AfterChecked, AdvancesCreation, AdvancesFrom, Advanced, Advances, PollsOver}
+use Rattle.deadpool_managed.specs.declared.slot.Slot.{Slot}
+use Rattle.deadpool_managed.specs.declared.prepare.Prepared.{Prepared}
+use Rattle.deadpool_managed.specs.declared.prepare.Prepared.TheVariants as prepared
+use Rattle.deadpool_managed.specs.declared.prepare.Verdict.{Verdict}
+use Rattle.deadpool_managed.specs.declared.prepare.Verdict.TheVariants as verdict
+use Rattle.deadpool_managed.specs.declared.get.Stage.{Stage}
+use Rattle.deadpool_managed.specs.declared.get.Stage.TheVariants.{Unpolled, Queued, Going, Creating, Recycling, Checking, Finished}
+use Rattle.deadpool_managed.specs.declared.get.Turn.{Turn}
+use Rattle.deadpool_managed.specs.declared.get.Turn.TheVariants.{More}
+use Rattle.deadpool_managed.specs.declared.desk.Serving.{Serving}
+use Rattle.deadpool_managed.specs.declared.desk.Serving.TheVariants as serving
+use Rattle.deadpool_managed.specs.declared.desk.EnterReply.{EnterReply}
+use Rattle.deadpool_managed.specs.declared.desk.EnterReply.TheVariants as enter
+use Rattle.deadpool_managed.specs.declared.desk.AgainReply.TheVariants as again
+use Rattle.deadpool_managed.specs.declared.desk.CreatedReply.TheVariants as numbered
+use Rattle.deadpool_managed.specs.FirstPoll.{AtOnce}
+use Rattle.deadpool_managed.proofs.FirstPollAtOnce.{HasAnswer, creation_answered}
+use Rattle.deadpool_managed.proofs.CoreDesk.{core_desk, own_desk, makes_at_desk}
+
+-- the step is one of a get that is past the queue
+abbrev pub IsPast : {V : Type 0} → Made V → Type 0
+IsPast (entering wait reply) = ⊥
+IsPast (asking ticket expired reply) = ⊥
+IsPast (cancelling what reply) = ⊥
+IsPast _ = ⊤
+
+-- the get stands past the queue, or has ended
+abbrev pub StandsPast : {V C R S : Type 0} → Stage V C R S → Type 0
+StandsPast Unpolled = ⊥
+StandsPast (Queued ticket deadline) = ⊥
+StandsPast _ = ⊤
+
+module _ {V C R S : Type 0} where
+  stands_past : (stage next : Stage V C R S) → stage ≡ next → StandsPast next → StandsPast stage
+  stands_past stage next is past = subst (λ (s : Stage V C R S). StandsPast s) (sym is) past
+
+module _ {V E C R S : Type 0} where
+  -- where a get is served it does not come to wait
+  served_past : (by : Serving (Slot V)) (after : Stage V C R S) (turn : Turn V E) → AfterServing by after turn → StandsPast after
+  served_past (serving.Object slot left) after turn h = stands_past after _ h.0 tt
+  served_past serving.Create after turn h = stands_past after _ h.0 tt
+  served_past serving.Going after turn h = stands_past after _ h.0 tt
+  served_past serving.Exhausted after turn h = stands_past after _ h.0 tt
+
+  -- nor does it by what comes of a creation
+  created_past : (now : Moment) (deadline : Option Moment) (x : Poll (Result V E) × C) (made : Made V) (after : Stage V C R S) (turn : Turn V E)
+      → AfterCreation now deadline x made after turn → IsPast made × StandsPast after
+  created_past now deadline (poll.Ready (Ok value), c) (creating (numbered.Created number)) after turn h = (tt, stands_past after _ h.0 tt)
+  created_past now deadline (poll.Ready (Ok value), c) (creating numbered.Unknown) after turn h = (tt, stands_past after _ h.0 tt)
+  created_past now deadline (poll.Ready (Err e), c) (failing reply) after turn h = (tt, stands_past after _ h.0 tt)
+  created_past now deadline (poll.Pending, c) no_step after turn h = (tt, stands_past after _ h.1 tt)
+  created_past now deadline (poll.Pending, c) (failing reply) after turn h = (tt, stands_past after _ h.1 tt)
+  created_past now deadline _ _ after turn h = absurd h
+
+module _ {V E C R S F A : Type 0} (may : May V E C R S F A) (runtime : Option Runtime) (hooks : HookLists F A) (now : Moment) (timeouts : Timeouts) where
+  creation_past : (timeout : Option Duration) (begun : Option C) (deadline : Option Moment) (made : Made V) (after : Stage V C R S) (turn : Turn V E)
+      → AdvancesCreation may runtime now timeout begun deadline made after turn → IsPast made × StandsPast after
+  creation_past timeout (Some c) deadline made after turn h = created_past now _ h.0 made after turn h.1.1
+  creation_past timeout None deadline (failing reply) after turn (inl h) = (tt, stands_past after _ h.1 tt)
+  creation_past timeout None deadline (failing reply) after turn (inr h) = created_past now _ h.1.0 (failing reply) after turn h.1.1.1
+  creation_past timeout None deadline made after turn h = created_past now _ h.1.0 made after turn h.1.1.1
+
+  discarded_past : (value : V) (allowance : Option ℕ) (reply : StepReply) (after : Stage V C R S) (turn : Turn V E) → AfterDiscard may value allowance reply after turn → StandsPast after
+  discarded_past value allowance step.Done after turn h = stands_past after _ h.1 tt
+  discarded_past value allowance step.Unknown after turn h = stands_past after _ h.0 tt
+
+  prepared_past : (allowance : Option ℕ) (x : Prepared V R S) (made : Made V) (after : Stage V C R S) (turn : Turn V E) → AfterPrepared may allowance x made after turn → IsPast made × StandsPast after
+  prepared_past allowance (prepared.Accepted slot) no_step after turn h = (tt, stands_past after _ h.0 tt)
+  prepared_past allowance (prepared.Pending preparation) no_step after turn h = (tt, stands_past after _ h.0 tt)
+  prepared_past allowance (prepared.GivenUp slot) (discarding reply) after turn h = (tt, discarded_past slot.value allowance reply after turn h)
+  prepared_past allowance _ _ after turn h = absurd h
+
+  checked_past : (slot : Slot V) (x : Verdict S E × V) (made : Made V) (after : Stage V C R S) (turn : Turn V E) → AfterChecked may slot x made after turn → IsPast made × StandsPast after
+  checked_past slot (verdict.Accepted, v) no_step after turn h = (tt, stands_past after _ h.0 tt)
+  checked_past slot (verdict.Pending at, v) no_step after turn h = (tt, stands_past after _ h.0 tt)
+  checked_past slot (verdict.Refused e, v) (refusing reply) after turn h = (tt, stands_past after _ h.1 tt)
+  checked_past slot _ _ after turn h = absurd h
+
+  -- so a get that is past the queue stays past it
+  stays_past : (stage : Stage V C R S) (made : Made V) (after : Stage V C R S) (turn : Turn V E) → StandsPast stage → AdvancesFrom may runtime hooks now timeouts stage made after turn → IsPast made × StandsPast after
+  stays_past Unpolled made after turn past h = absurd past
+  stays_past (Queued ticket deadline) made after turn past h = absurd past
+  stays_past (Going allowance) (going_on given (again.Served by)) after turn past h = (tt, served_past by after turn h.1)
+  stays_past (Going allowance) (going_on given again.Unknown) after turn past h = (tt, stands_past after _ h.1.0 tt)
+  stays_past (Creating begun deadline) made after turn past h = creation_past timeouts.create begun deadline made after turn h
+  stays_past (Recycling preparation allowance) made after turn past h = prepared_past allowance h.0 made after turn h.1.1
+  stays_past (Checking slot at) made after turn past h = checked_past slot h.0 made after turn h.1.1
+  stays_past Finished no_step after turn past h = (tt, stands_past after _ h.0 tt)
+  stays_past _ _ after turn past h = absurd h
+
+module _ {V : Type 0} where
+  -- a step past the queue leaves those that were not told
+  untold_past : (c c' : CoreState V) (made : Made V) → IsPast made → Makes own_desk c made c' → c'.untold ≡ c.untold
+  untold_past c c' no_step past h = ap (λ b. b.untold) h
+  untold_past c c' (entering wait reply) past h = absurd past
+  untold_past c c' (asking ticket expired reply) past h = absurd past
+  untold_past c c' (going_on allowance reply) past h = h.1
+  untold_past c c' (discarding reply) past h = h.1
+  untold_past c c' (creating reply) past h = h.1
+  untold_past c c' (failing reply) past h = h.1
+  untold_past c c' (refusing reply) past h = h.1
+  untold_past c c' (cancelling what reply) past h = absurd past
+
+  -- such a step of the desk machine is one of a core that stands elsewhere as it will
+  makes_past : (c : CoreState V) (d d' : DeskState (Slot V)) (made : Made V) → IsPast made → Makes core_desk d made d' → Makes own_desk (record c { desk = d }) made (record c { desk = d' })
+  makes_past c d d' no_step past h = ap (λ (b : DeskState (Slot V)). record c { desk = b }) h
+  makes_past c d d' (entering wait reply) past h = absurd past
+  makes_past c d d' (asking ticket expired reply) past h = absurd past
+  makes_past c d d' (going_on allowance reply) past h = (h, refl)
+  makes_past c d d' (discarding reply) past h = (h, refl)
+  makes_past c d d' (creating reply) past h = (h, refl)
+  makes_past c d d' (failing reply) past h = (h, refl)
+  makes_past c d d' (refusing reply) past h = (h, refl)
+  makes_past c d d' (cancelling what reply) past h = absurd past
+
+  -- the step of a get that enters where a place is free
+  entered_free : (c c' : CoreState V) (wait : Bool) (reply : EnterReply (Slot V)) → c.desk.is_open ≡ true → places c.desk < c.desk.limit → Makes own_desk c (entering wait reply) c'
+      → (c'.untold ≡ c.untold) × ((by : Serving (Slot V)) × (reply ≡ enter.Served by))
+  entered_free c c' wait enter.Closed opens free h = absurd (let shut = h.0.0 in cc)
+  entered_free c c' wait (enter.Served by) opens free h = (h.1, (by, refl))
+  entered_free c c' wait enter.Full opens free h = absurd (let full = h.0.1 in omega (arith, full, free))
+  entered_free c c' wait (enter.Waiting ticket) opens free h = absurd (let full = h.0.1 in omega (arith, full, free))
+  entered_free c c' wait enter.OutOfMemory opens free h = absurd (let full = h.0.1 in omega (arith, full, free))
+
+  makes_entered : (c c' : CoreState V) (d' : DeskState (Slot V)) (wait : Bool) (reply : EnterReply (Slot V)) → c.desk.is_open ≡ true → places c.desk < c.desk.limit → c'.untold ≡ c.untold
+      → Makes core_desk c.desk (entering wait reply) d' → Makes own_desk c (entering wait reply) (record c' { desk = d' }) × ((by : Serving (Slot V)) × (reply ≡ enter.Served by))
+  makes_entered c c' d' wait enter.Closed opens free same h = absurd (let shut = h.0 in cc)
+  makes_entered c c' d' wait (enter.Served by) opens free same h = ((h, same), (by, refl))
+  makes_entered c c' d' wait enter.Full opens free same h = absurd (let full = h.1 in omega (arith, full, free))
+  makes_entered c c' d' wait (enter.Waiting ticket) opens free same h = absurd (let full = h.1 in omega (arith, full, free))
+  makes_entered c c' d' wait enter.OutOfMemory opens free same h = absurd (let full = h.1 in omega (arith, full, free))
+
+module _ {V E C R S F A : Type 0} (may : May V E C R S F A) (runtime : Option Runtime) (hooks : HookLists F A) (now : Moment) (timeouts : Timeouts) (stage' : Stage V C R S) (turn : Turn V E) where
+  abbrev Steps : Type 0
+  Steps = List (Advanced (CoreState V) V C R S)
+
+  abbrev DeskSteps : Type 0
+  DeskSteps = List (Advanced (DeskState (Slot V)) V C R S)
+
+  abbrev at_desk : Advanced (CoreState V) V C R S → Advanced (DeskState (Slot V)) V C R S
+  at_desk x = record { made = x.made; desk = x.desk.desk; stage = x.stage }
+
+  advances_at_desk : (c c' : CoreState V) (stage : Stage V C R S) (steps : Steps) → Advances own_desk may runtime hooks now timeouts c stage steps c' stage' turn
+      → Advances core_desk may runtime hooks now timeouts c.desk stage (map at_desk steps) c'.desk stage' turn
+  advances_at_desk c c' stage [] h = absurd h
+  advances_at_desk c c' stage (x ∷ []) h = (makes_at_desk c x.desk x.made h.0, h.1, h.2, ap (λ (b : CoreState V). b.desk) h.3, h.4)
+  advances_at_desk c c' stage (x ∷ y ∷ zs) h = (makes_at_desk c x.desk x.made h.0, h.1, advances_at_desk x.desk c' x.stage (y ∷ zs) h.2)
+
+  -- so a poll over a core is one over the desk machine
+  pub polls_at_desk : (c c' : CoreState V) (stage : Stage V C R S) → PollsOver own_desk may runtime hooks now timeouts c stage c' stage' turn
+      → PollsOver core_desk may runtime hooks now timeouts c.desk stage c'.desk stage' turn
+  polls_at_desk c c' stage (steps, ran) = (map at_desk steps, advances_at_desk c c' stage steps ran)
+
+  -- past the queue it leaves those that were not told
+
+  advances_untold : (c c' : CoreState V) (stage : Stage V C R S) (steps : Steps) → StandsPast stage → Advances own_desk may runtime hooks now timeouts c stage steps c' stage' turn → c'.untold ≡ c.untold
+  advances_untold c c' stage [] past h = absurd h
+  advances_untold c c' stage (x ∷ []) past h =
+      let step = stays_past may runtime hooks now timeouts stage x.made x.stage turn past h.1 in
+      ap (λ (b : CoreState V). b.untold) h.3 ∙ untold_past c x.desk x.made step.0 h.0
+  advances_untold c c' stage (x ∷ y ∷ zs) past h =
+      let step = stays_past may runtime hooks now timeouts stage x.made x.stage More past h.1 in
+      advances_untold x.desk c' x.stage (y ∷ zs) step.1 h.2 ∙ untold_past c x.desk x.made step.0 h.0
+
+  pub polls_untold : (c c' : CoreState V) (stage : Stage V C R S) → StandsPast stage → PollsOver own_desk may runtime hooks now timeouts c stage c' stage' turn → c'.untold ≡ c.untold
+  polls_untold c c' stage past (steps, ran) = advances_untold c c' stage steps past ran
+
+  -- the first advance of a new get, where a place is free
+  first_untold : (c d : CoreState V) (made : Made V) (next : Stage V C R S) (came : Turn V E) → c.desk.is_open ≡ true → places c.desk < c.desk.limit
+      → Makes own_desk c made d → AdvancesFrom may runtime hooks now timeouts Unpolled made next came → (d.untold ≡ c.untold) × StandsPast next
+  first_untold c d no_step next came opens free makes h = (ap (λ (b : CoreState V). b.untold) makes, stands_past next _ h.1 tt)
+  first_untold c d (entering wait reply) next came opens free makes h =
+      let served = entered_free c d wait reply opens free makes in
+      let by = served.1.0 in
+      let after : AfterServing by next came = rw served.1.1 at h.2 in
+      (served.0, served_past by next came after)
+  first_untold c d _ next came opens free makes h = absurd h
+
+  pub first_poll_untold : (c c' : CoreState V) → c.desk.is_open ≡ true → places c.desk < c.desk.limit → PollsOver own_desk may runtime hooks now timeouts c Unpolled c' stage' turn → c'.untold ≡ c.untold
+  first_poll_untold c c' opens free (steps, ran) = by_steps steps ran
+    where
+      by_steps : (steps : Steps) → Advances own_desk may runtime hooks now timeouts c Unpolled steps c' stage' turn → c'.untold ≡ c.untold
+      by_steps [] h = absurd h
+      by_steps (x ∷ []) h = ap (λ (b : CoreState V). b.untold) h.3 ∙ (first_untold c x.desk x.made x.stage turn opens free h.0 h.1).0
+      by_steps (x ∷ y ∷ zs) h =
+          let first = first_untold c x.desk x.made x.stage More opens free h.0 h.1 in
+          advances_untold x.desk c' x.stage (y ∷ zs) first.1 h.2 ∙ first.0
+
+  -- and a poll over the desk machine is one over a core, where that leaves those that were not told
+
+  module _ (c' : CoreState V) where
+    abbrev over : Advanced (DeskState (Slot V)) V C R S → Advanced (CoreState V) V C R S
+    over x = record { made = x.made; desk = record c' { desk = x.desk }; stage = x.stage }
+
+    advances_over : (d : DeskState (Slot V)) (stage : Stage V C R S) (steps : DeskSteps) → StandsPast stage → Advances core_desk may runtime hooks now timeouts d stage steps c'.desk stage' turn
+        → Advances own_desk may runtime hooks now timeouts (record c' { desk = d }) stage (map over steps) c' stage' turn
+    advances_over d stage [] past h = absurd h
+    advances_over d stage (x ∷ []) past h =
+        let step = stays_past may runtime hooks now timeouts stage x.made x.stage turn past h.1 in
+        (makes_past c' d x.desk x.made step.0 h.0, h.1, h.2, ap (λ (b : DeskState (Slot V)). record c' { desk = b }) h.3, h.4)
+    advances_over d stage (x ∷ y ∷ zs) past h =
+        let step = stays_past may runtime hooks now timeouts stage x.made x.stage More past h.1 in
+        (makes_past c' d x.desk x.made step.0 h.0, h.1, advances_over x.desk x.stage (y ∷ zs) step.1 h.2)
+
+    -- what the first advance has to be for that
+    abbrev Begins : CoreState V → Stage V C R S → Type 0
+    Begins c stage =
+        (d : DeskState (Slot V)) (made : Made V) (next : Stage V C R S) (came : Turn V E) → Makes core_desk c.desk made d → AdvancesFrom may runtime hooks now timeouts stage made next came
+        → Makes own_desk c made (record c' { desk = d }) × StandsPast next
+
+    polls_over : (c : CoreState V) (stage : Stage V C R S) → Begins c stage → PollsOver core_desk may runtime hooks now timeouts c.desk stage c'.desk stage' turn
+        → PollsOver own_desk may runtime hooks now timeouts c stage c' stage' turn
+    polls_over c stage begins (steps, ran) = by_steps steps ran
+      where
+        by_steps : (steps : DeskSteps) → Advances core_desk may runtime hooks now timeouts c.desk stage steps c'.desk stage' turn → PollsOver own_desk may runtime hooks now timeouts c stage c' stage' turn
+        by_steps [] h = absurd h
+        by_steps (x ∷ []) h =
+            let first = begins x.desk x.made x.stage turn h.0 h.1 in
+            (over x ∷ [], (first.0, h.1, h.2, ap (λ (b : DeskState (Slot V)). record c' { desk = b }) h.3, h.4))
+        by_steps (x ∷ y ∷ zs) h =
+            let first = begins x.desk x.made x.stage More h.0 h.1 in
+            (over x ∷ map over (y ∷ zs), (first.0, h.1, advances_over x.desk x.stage (y ∷ zs) first.1 h.2))
+
+    -- a new get, where a place is free and its wait lacks no runtime
+    pub first_poll_over : (c : CoreState V) → c.desk.is_open ≡ true → places c.desk < c.desk.limit → cannot_wait runtime timeouts.wait ≡ false → c'.untold ≡ c.untold
+        → PollsOver core_desk may runtime hooks now timeouts c.desk Unpolled c'.desk stage' turn → PollsOver own_desk may runtime hooks now timeouts c Unpolled c' stage' turn
+    first_poll_over c opens free waits same = polls_over c Unpolled begins
+      where
+        begins : Begins c Unpolled
+        begins d no_step next came makes h = absurd (let lacks = h.0 in cc)
+        begins d (entering wait reply) next came makes h =
+            let served = makes_entered c c' d wait reply opens free same makes in
+            let by = served.1.0 in
+            let after : AfterServing by next came = rw served.1.1 at h.2 in
+            (served.0, served_past by next came after)
+        begins d _ next came makes h = absurd h
+
+    -- a creation that begins, where it is not pending
+    pub creation_poll_over : (c : CoreState V) → AtOnce may → c'.untold ≡ c.untold
+        → PollsOver core_desk may runtime hooks now timeouts c.desk (Creating None None) c'.desk stage' turn → PollsOver own_desk may runtime hooks now timeouts c (Creating None None) c' stage' turn
+    creation_poll_over c once same = polls_over c (Creating None None) begins
+      where
+        moves : (d : DeskState (Slot V)) (made : Made V) → IsPast made → made ≢ no_step → Makes core_desk c.desk made d → Makes own_desk c made (record c' { desk = d })
+        moves d no_step past moved h = absurd (moved refl)
+        moves d (entering wait reply) past moved h = absurd past
+        moves d (asking ticket expired reply) past moved h = absurd past
+        moves d (going_on allowance reply) past moved h = (h, same)
+        moves d (discarding reply) past moved h = (h, same)
+        moves d (creating reply) past moved h = (h, same)
+        moves d (failing reply) past moved h = (h, same)
+        moves d (refusing reply) past moved h = (h, same)
+        moves d (cancelling what reply) past moved h = absurd past
+
+        answered : (deadline : Option Moment) (x : Poll (Result V E) × C) (made : Made V) (next : Stage V C R S) (came : Turn V E) → HasAnswer x → AfterCreation now deadline x made next came → made ≢ no_step
+        answered deadline (poll.Ready (Ok value), s) (creating reply) next came answer h none = cc
+        answered deadline (poll.Ready (Err e), s) (failing reply) next came answer h none = cc
+        answered deadline (poll.Pending, s) made next came answer h none = absurd answer
+        answered deadline _ _ next came answer h none = absurd h
+
+        begun : (made : Made V) (next : Stage V C R S) (came : Turn V E) → AdvancesCreation may runtime now timeouts.create None None made next came → made ≢ no_step
+        begun no_step next came h none = answered _ h.1.0 no_step next came (creation_answered may once h.1.0 h.1.1.0) h.1.1.1 none
+        begun made next came h none = cc
+
+        begins : Begins c (Creating None None)
+        begins d made next came makes h =
+            let past = creation_past may runtime hooks now timeouts timeouts.create None None made next came h in
+            (moves d made past.0 (begun made next came h) makes, past.1)

@@ -1,0 +1,115 @@
+//! Whole lists of moves over an unmanaged pool, many parties, and a large limit.
+use super::stands;
+use deadpool::replay::unmanaged::{Move, Reply, Trial};
+use deadpool::unmanaged::{AddEnterReply, BackReply, Core, GetEnterReply};
+use deadpool::{Moment, Status};
+use std::alloc::Global;
+use std::test::Fail;
+
+const CROWD: usize = 1_024;
+
+const LARGE: usize = 100_000;
+
+// The replies to a list of moves.
+fn run(trial: &mut Trial<u64>, moves: Vec<Move<u64>>) -> Result<Vec<Reply<u64>>, Fail> {
+    trial
+        .run(moves)
+        .map_err(|_| Fail::new("no memory for the replies"))
+}
+
+fn status(trial: &mut Trial<u64>, alloc: Global) -> Result<Status, Fail> {
+    let mut replies = run(trial, vec![in alloc; Move::Status]?)?;
+    match replies.pop() {
+        Some(Reply::Stands(status)) => Ok(status),
+        _ => Err(Fail::new("no status")),
+    }
+}
+
+#[test]
+fn a_list_that_adds_and_one_that_goes_on(rt: HostRuntime) -> Result<(), Fail> {
+    let mut trial = Trial::new(rt.alloc(), 2, None, 4)?;
+    let moves = vec![in rt.alloc();
+        Move::TryAdd(1),
+        Move::TryAdd(2),
+        Move::TryAdd(3),
+        Move::Add(3),
+        Move::Poll(0, Moment(0)),
+        Move::TryGet,
+    ]?;
+    let replies = run(&mut trial, moves)?;
+    assert!(rt;
+        matches!(
+            replies.as_slice(),
+            [
+                Reply::Added(0),
+                Reply::Added(1),
+                Reply::Refused(_, 3),
+                Reply::Started(0),
+                Reply::Pending,
+                Reply::Object(1)
+            ]
+        )
+    );
+
+    let moves = vec![in rt.alloc(); Move::Take(1), Move::Poll(0, Moment(0)), Move::TryGet]?;
+    let replies = run(&mut trial, moves)?;
+    assert!(rt;
+        matches!(
+            replies.as_slice(),
+            [Reply::Taken(2), Reply::Added(3), Reply::Object(3)]
+        )
+    );
+    assert_eq!(rt; status(&mut trial, rt.alloc())?, stands(2, 2, 1, 0));
+    Ok(())
+}
+
+// A crowd of gets and then one of adds start, and each is polled.
+fn crowd(alloc: Global) -> Result<Vec<Move<u64>>, Fail> {
+    let mut moves = Vec::new(alloc);
+    for _get in 0..CROWD {
+        moves.push(Move::Get(None))?;
+    }
+    for _add in 0..CROWD {
+        moves.push(Move::Add(0))?;
+    }
+    for party in 0..2 * CROWD {
+        moves.push(Move::Poll(party, Moment(0)))?;
+    }
+    Ok(moves)
+}
+
+#[test]
+fn crowds_of_gets_and_adds_wait(rt: HostRuntime) -> Result<(), Fail> {
+    let mut trial = Trial::new(rt.alloc(), 0, None, 2 * CROWD)?;
+    let replies = run(&mut trial, crowd(rt.alloc())?)?;
+    assert_eq!(rt; replies.len(), 4 * CROWD);
+    for (at, reply) in replies.iter().enumerate() {
+        let is_as_expected = match reply {
+            Reply::Started(party) => *party == at,
+            Reply::Pending => 2 * CROWD <= at,
+            _ => false,
+        };
+        assert!(rt; is_as_expected, "at {at}");
+    }
+    assert_eq!(rt; status(&mut trial, rt.alloc())?, stands(0, 0, 0, CROWD));
+    Ok(())
+}
+
+#[test]
+fn a_large_unmanaged_pool(rt: HostRuntime) -> Result<(), Fail> {
+    let mut core = Core::new(rt.alloc(), LARGE)?;
+    for value in 0..LARGE {
+        assert!(rt; matches!(core.add_enter(value, false), AddEnterReply::Stored));
+    }
+    assert!(rt; matches!(core.add_enter(LARGE, false), AddEnterReply::Full(LARGE)));
+    assert_eq!(rt; core.status(), stands(LARGE, LARGE, LARGE, 0));
+    for left in (0..LARGE).rev() {
+        assert!(rt; matches!(core.get_enter(false), GetEnterReply::Object(value) if value == left));
+    }
+    assert!(rt; matches!(core.get_enter(false), GetEnterReply::Full));
+    for value in 0..LARGE {
+        assert!(rt; matches!(core.back(value), BackReply::Kept));
+    }
+    assert_eq!(rt; core.status(), stands(LARGE, LARGE, LARGE, 0));
+    Ok(())
+}

@@ -1,0 +1,137 @@
+//! Drops of an unmanaged pool's objects: each is dropped once, by whoever has it last.
+use super::drops::Tracked;
+use deadpool::Moment;
+use deadpool::replay::unmanaged::{Move, Trial};
+use deadpool::unmanaged::{AddEnterReply, AddState, BackReply, Core, GetEnterReply};
+use futures::task::Poll;
+use std::alloc::Global;
+use std::cell::Cell;
+use std::test::Fail;
+
+// A pool for one object, with that one idle.
+fn with_idle<'a>(alloc: Global, drops: &'a Cell<usize>) -> Result<Core<Tracked<'a>>, Fail> {
+    let mut core = Core::new(alloc, 1)?;
+    match core.add_enter(Tracked { drops }, false) {
+        AddEnterReply::Stored => Ok(core),
+        _ => Err(Fail::new("not stored")),
+    }
+}
+
+#[test]
+fn the_last_handle_of_an_unmanaged_pool(rt: HostRuntime) -> Result<(), Fail> {
+    let drops = Cell::new(0);
+    let mut core = with_idle(rt.alloc(), &drops)?;
+    core.clone_handle();
+    core.drop_handle();
+    assert_eq!(rt; drops.get(), 0);
+    core.drop_handle();
+    assert_eq!(rt; drops.get(), 1);
+    drop(core);
+    assert_eq!(rt; drops.get(), 1);
+    Ok(())
+}
+
+#[test]
+fn an_object_that_is_out_at_the_last_handle(rt: HostRuntime) -> Result<(), Fail> {
+    let drops = Cell::new(0);
+    let mut core = with_idle(rt.alloc(), &drops)?;
+    let GetEnterReply::Object(value) = core.get_enter(false) else {
+        return Err(Fail::new("no object"));
+    };
+    core.drop_handle();
+    let reply = core.back(value);
+    assert!(rt; matches!(reply, BackReply::Dropped(_)));
+    assert_eq!(rt; drops.get(), 0);
+    drop(reply);
+    assert_eq!(rt; drops.get(), 1);
+    // One that was not out comes back too.
+    drop(core.back(Tracked { drops: &drops }));
+    assert_eq!(rt; drops.get(), 2);
+    drop(core);
+    assert_eq!(rt; drops.get(), 2);
+    Ok(())
+}
+
+#[test]
+fn a_cancelled_add_hands_its_object_back(rt: HostRuntime) -> Result<(), Fail> {
+    // Before its first poll, and in the queue.
+    for polls in [0, 1] {
+        let drops = Cell::new(0);
+        let mut core = with_idle(rt.alloc(), &drops)?;
+        let mut add = AddState::new(Tracked { drops: &drops });
+        for _poll in 0..polls {
+            assert!(rt; matches!(add.poll(&mut core), Poll::Pending));
+        }
+        let value = add.cancel(&mut core);
+        assert_eq!(rt; (value.is_some(), drops.get()), (true, 0));
+        drop(value);
+        assert_eq!(rt; drops.get(), 1);
+        drop(core);
+        assert_eq!(rt; drops.get(), 2);
+    }
+    Ok(())
+}
+
+#[test]
+fn a_refused_add_hands_its_object_back(rt: HostRuntime) -> Result<(), Fail> {
+    let drops = Cell::new(0);
+    let mut core = with_idle(rt.alloc(), &drops)?;
+    let mut add = AddState::new(Tracked { drops: &drops });
+    assert!(rt; matches!(add.poll(&mut core), Poll::Pending));
+    core.close();
+    assert_eq!(rt; drops.get(), 1);
+    let refused = add.poll(&mut core);
+    assert!(rt; matches!(refused, Poll::Ready(Err(_))));
+    assert_eq!(rt; drops.get(), 1);
+    drop(refused);
+    drop(add);
+    assert_eq!(rt; drops.get(), 2);
+    Ok(())
+}
+
+#[test]
+fn an_add_that_the_queue_does_not_know(rt: HostRuntime) -> Result<(), Fail> {
+    let drops = Cell::new(0);
+    let mut core = with_idle(rt.alloc(), &drops)?;
+    let mut add = AddState::new(Tracked { drops: &drops });
+    assert!(rt; matches!(add.poll(&mut core), Poll::Pending));
+    let Some(ticket) = add.ticket() else {
+        return Err(Fail::new("not in the queue"));
+    };
+    core.add_cancel(ticket);
+    let refused = add.poll(&mut core);
+    assert!(rt; matches!(refused, Poll::Ready(Err(_))));
+    assert_eq!(rt; drops.get(), 0);
+    drop(refused);
+    drop(add);
+    assert_eq!(rt; drops.get(), 1);
+    Ok(())
+}
+
+// A trial for one object, in which these moves were made.
+fn played<'a>(alloc: Global, moves: Vec<Move<Tracked<'a>>>) -> Result<Trial<Tracked<'a>>, Fail> {
+    let mut trial = Trial::new(alloc, 1, None, 4)?;
+    match trial.run(moves) {
+        Ok(_) => Ok(trial),
+        Err(_) => Err(Fail::new("no memory for the replies")),
+    }
+}
+
+#[test]
+fn adds_of_a_trial_drop_their_objects(rt: HostRuntime) -> Result<(), Fail> {
+    let drops = Cell::new(0);
+    let moves = vec![in rt.alloc();
+        Move::TryAdd(Tracked { drops: &drops }),
+        Move::Add(Tracked { drops: &drops }),
+        Move::Add(Tracked { drops: &drops }),
+        Move::Poll(0, Moment(0)),
+        Move::Cancel(0),
+        Move::Cancel(1),
+    ]?;
+    // Both adds are cancelled, the second before its first poll.
+    let trial = played(rt.alloc(), moves)?;
+    assert_eq!(rt; drops.get(), 2);
+    drop(trial);
+    assert_eq!(rt; drops.get(), 3);
+    Ok(())
+}

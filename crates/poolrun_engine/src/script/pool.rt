@@ -1,0 +1,104 @@
+//! The lines that make a pool.
+use super::LineError;
+use super::words::{
+    Words, end, next_number, next_word, parse_number, parse_runtime, text_of, words_of,
+};
+use deadpool::Runtime;
+use deadpool::managed::{PoolConfig, QueueMode};
+use std::alloc::Global;
+
+/// What a pool is to be.
+#[derive(Drop)]
+pub enum PoolLine {
+    Managed(ManagedPool),
+    Unmanaged(UnmanagedPool),
+}
+
+/// What a managed pool is to be.
+#[derive(Drop)]
+pub struct ManagedPool {
+    pub settings: Settings,
+    pub runtime: Option<Runtime>,
+    pub first_number: usize,
+}
+
+/// A managed pool's configuration.
+#[derive(Drop)]
+pub enum Settings {
+    /// It is known.
+    Known(PoolConfig),
+    /// It is still to be read from this text, which may be none.
+    Written(Vec<u8>),
+}
+
+/// What an unmanaged pool is to be. It has no timeout of its own.
+#[derive(Drop)]
+pub struct UnmanagedPool {
+    pub max_size: usize,
+    pub runtime: Option<Runtime>,
+}
+
+const CONFIG: &[u8] = b"config ";
+
+/// The pool that a line asks for.
+pub fn parse_pool(alloc: Global, line: &[u8]) -> Result<PoolLine, LineError> {
+    if line.starts_with(CONFIG) {
+        return Ok(PoolLine::Managed(parse_config(alloc, &line[CONFIG.len()..])?));
+    }
+    let mut words = words_of(line)?;
+    let pool = match next_word(&mut words)? {
+        "pool" => PoolLine::Managed(parse_managed_pool(&mut words)?),
+        "unmanaged" => PoolLine::Unmanaged(parse_unmanaged_pool(&mut words)?),
+        _ => return Err(LineError::NotAMove),
+    };
+    end(&mut words)?;
+    Ok(pool)
+}
+
+// Two words, and the rest of the line as it is: it may be no text.
+fn parse_config(alloc: Global, rest: &[u8]) -> Result<ManagedPool, LineError> {
+    let (runtime, rest) = first_word(rest)?;
+    let (first_number, json) = first_word(rest)?;
+    if json.is_empty() {
+        return Err(LineError::NotAMove);
+    }
+    Ok(ManagedPool {
+        settings: Settings::Written(json.to_vec(alloc)?),
+        runtime: parse_runtime(runtime)?,
+        first_number: parse_number(first_number)?,
+    })
+}
+
+// What stands before the first space, and what stands after it.
+fn first_word(bytes: &[u8]) -> Result<(&str, &[u8]), LineError> {
+    match bytes.iter().position(|byte| *byte == b' ') {
+        None => Err(LineError::NotAMove),
+        Some(end) => Ok((text_of(&bytes[..end])?, &bytes[end + 1..])),
+    }
+}
+
+fn parse_managed_pool(words: &mut Words<'_>) -> Result<ManagedPool, LineError> {
+    let mut config = PoolConfig::new(next_number(words)?);
+    config.queue_mode = match next_word(words)? {
+        "fifo" => QueueMode::Fifo,
+        "lifo" => QueueMode::Lifo,
+        _ => return Err(LineError::NotAMove),
+    };
+    let runtime = parse_runtime(next_word(words)?)?;
+    let first_number = next_number(words)?;
+    if let Some(min_idle) = words.next() {
+        config.min_idle = parse_number(min_idle)?;
+    }
+    Ok(ManagedPool {
+        settings: Settings::Known(config),
+        runtime,
+        first_number,
+    })
+}
+
+fn parse_unmanaged_pool(words: &mut Words<'_>) -> Result<UnmanagedPool, LineError> {
+    Ok(UnmanagedPool {
+        max_size: next_number(words)?,
+        runtime: parse_runtime(next_word(words)?)?,
+    })
+}

@@ -1,0 +1,276 @@
+//! Readers and writers of which one call fails, and a pair that sees in which order it is read and written.
+use super::{Lines, replies_of, script_of};
+use crate::engine;
+use crate::fault::Fault;
+use std::cell::Cell;
+use std::io;
+use std::io::{BufRead, ErrorKind, Read, Write};
+use std::test::Fail;
+
+const SCRIPT: Lines = &[
+    ("pool 1 fifo none 0", "ok"),
+    ("start", "party 0"),
+    ("poll 0 0", "object 0 value 0"),
+    ("answer recycle add pending", "ok"),
+    ("status", "max 1 size 1 available 0 waiting 0"),
+    ("back 0", "kept"),
+];
+
+// Counts down to the call that fails, which 0 is. Those after it do not fail.
+fn call(calls_left: &mut Option<usize>, kind: ErrorKind) -> io::Result<()> {
+    match *calls_left {
+        None => Ok(()),
+        Some(0) => {
+            *calls_left = None;
+            Err(io::Error::from(kind))
+        }
+        Some(left) => {
+            *calls_left = Some(left - 1);
+            Ok(())
+        }
+    }
+}
+
+/// Gives its text by single bytes. One read fails, so many reads on from here.
+#[derive(Drop)]
+pub struct FailingReader<'a> {
+    pub text: &'a [u8],
+    pub reads_left: Option<usize>,
+    pub kind: ErrorKind,
+}
+
+impl<'a> Read for FailingReader<'a> {
+    fn read(&mut self, buf: &mut [u8]) -> io::Result<usize> {
+        let mut ahead = self.fill_buf()?;
+        let count = ahead.read(buf)?;
+        self.consume(count);
+        Ok(count)
+    }
+}
+
+impl<'a> BufRead for FailingReader<'a> {
+    fn fill_buf(&mut self) -> io::Result<&[u8]> {
+        call(&mut self.reads_left, self.kind)?;
+        Ok(&self.text[..self.text.len().min(1)])
+    }
+
+    fn consume(&mut self, amount: usize) {
+        let amount = amount.min(self.text.len());
+        self.text = &self.text[amount..];
+    }
+}
+
+fn lines_in(bytes: &[u8]) -> usize {
+    bytes.iter().filter(|byte| **byte == b'\n').count()
+}
+
+// So many bytes of a text, or all of it.
+fn first_bytes(text: &[u8], count: usize) -> &[u8] {
+    &text[..count.min(text.len())]
+}
+
+// So many lines of a text, or all of it.
+fn first_lines(text: &[u8], count: usize) -> &[u8] {
+    for end in 0..text.len() {
+        if lines_in(&text[..end]) == count {
+            return &text[..end];
+        }
+    }
+    text
+}
+
+// One read gives each byte, and one more finds the end.
+#[test]
+fn a_failed_read_ends_the_run(rt: HostRuntime) -> Result<(), Fail> {
+    let script = script_of(rt.alloc(), SCRIPT)?;
+    let replies = replies_of(rt.alloc(), SCRIPT)?;
+    for reads in 0..=script.len().saturating_add(1) {
+        let mut reader = FailingReader {
+            text: script.as_bytes(),
+            reads_left: Some(reads),
+            kind: ErrorKind::BrokenPipe,
+        };
+        let mut written = Vec::new(rt.alloc());
+        let ending = engine::play(&rt, &mut reader, &mut written);
+        let lines = lines_in(first_bytes(script.as_bytes(), reads));
+        let whole = first_lines(replies.as_bytes(), lines);
+        let want = if reads <= script.len() {
+            Err(Fault::InputFailed)
+        } else {
+            Ok(())
+        };
+        assert_eq!(rt; ending, want, "at read {reads}");
+        assert_eq!(rt; written.as_slice(), whole, "at read {reads}");
+    }
+    Ok(())
+}
+
+#[test]
+fn a_read_that_was_interrupted_is_tried_again(rt: HostRuntime) -> Result<(), Fail> {
+    let script = script_of(rt.alloc(), SCRIPT)?;
+    let replies = replies_of(rt.alloc(), SCRIPT)?;
+    for reads in 0..=script.len() {
+        let mut reader = FailingReader {
+            text: script.as_bytes(),
+            reads_left: Some(reads),
+            kind: ErrorKind::Interrupted,
+        };
+        let mut written = Vec::new(rt.alloc());
+        let ending = engine::play(&rt, &mut reader, &mut written);
+        assert_eq!(rt; ending, Ok(()), "at read {reads}");
+        assert_eq!(rt; written.as_slice(), replies.as_bytes(), "at read {reads}");
+    }
+    Ok(())
+}
+
+/// Takes single bytes. One write fails, or one flush, so many writes or flushes on from here.
+#[derive(Drop)]
+pub struct FailingWriter {
+    pub written: Vec<u8>,
+    pub writes_left: Option<usize>,
+    pub flushes_left: Option<usize>,
+}
+
+impl Write for FailingWriter {
+    fn write(&mut self, buf: &[u8]) -> io::Result<usize> {
+        call(&mut self.writes_left, ErrorKind::BrokenPipe)?;
+        let count = buf.len().min(1);
+        self.written.extend_from_slice(&buf[..count])?;
+        Ok(count)
+    }
+
+    fn flush(&mut self) -> io::Result<()> {
+        call(&mut self.flushes_left, ErrorKind::BrokenPipe)
+    }
+}
+
+// One write takes each byte of the replies. No line is read after the one whose reply was not written.
+#[test]
+fn a_failed_write_ends_the_run(rt: HostRuntime) -> Result<(), Fail> {
+    let script = script_of(rt.alloc(), SCRIPT)?;
+    let replies = replies_of(rt.alloc(), SCRIPT)?;
+    for writes in 0..=replies.len() {
+        let mut reader = script.as_bytes();
+        let mut writer = FailingWriter {
+            written: Vec::new(rt.alloc()),
+            writes_left: Some(writes),
+            flushes_left: None,
+        };
+        let ending = engine::play(&rt, &mut reader, &mut writer);
+        let whole = first_bytes(replies.as_bytes(), writes);
+        let want = if writes < replies.len() {
+            Err(Fault::OutputFailed)
+        } else {
+            Ok(())
+        };
+        assert_eq!(rt; ending, want, "at write {writes}");
+        assert_eq!(rt; writer.written.as_slice(), whole, "at write {writes}");
+        let lines_left = SCRIPT
+            .len()
+            .saturating_sub(lines_in(whole).saturating_add(1));
+        assert_eq!(rt; lines_in(reader), lines_left, "at write {writes}");
+    }
+    Ok(())
+}
+
+// One flush ends each reply.
+#[test]
+fn a_failed_flush_ends_the_run(rt: HostRuntime) -> Result<(), Fail> {
+    let script = script_of(rt.alloc(), SCRIPT)?;
+    let replies = replies_of(rt.alloc(), SCRIPT)?;
+    for flushes in 0..=SCRIPT.len() {
+        let mut reader = script.as_bytes();
+        let mut writer = FailingWriter {
+            written: Vec::new(rt.alloc()),
+            writes_left: None,
+            flushes_left: Some(flushes),
+        };
+        let ending = engine::play(&rt, &mut reader, &mut writer);
+        let lines = flushes.saturating_add(1);
+        let whole = first_lines(replies.as_bytes(), lines);
+        let want = if flushes < SCRIPT.len() {
+            Err(Fault::OutputFailed)
+        } else {
+            Ok(())
+        };
+        assert_eq!(rt; ending, want, "at flush {flushes}");
+        assert_eq!(rt; writer.written.as_slice(), whole, "at flush {flushes}");
+        assert_eq!(rt;
+            lines_in(reader),
+            SCRIPT.len().saturating_sub(lines),
+            "at flush {flushes}"
+        );
+    }
+    Ok(())
+}
+
+// Two ends of one conversation: how many replies were flushed.
+#[derive(Drop)]
+struct Listener<'a> {
+    written: Vec<u8>,
+    flushed: &'a Cell<usize>,
+}
+
+impl<'a> Write for Listener<'a> {
+    fn write(&mut self, buf: &[u8]) -> io::Result<usize> {
+        self.written.extend_from_slice(buf)?;
+        Ok(buf.len())
+    }
+
+    fn flush(&mut self) -> io::Result<()> {
+        self.flushed.set(lines_in(&self.written));
+        Ok(())
+    }
+}
+
+// Gives one line at each read. A read that comes before the reply to each line before it has been flushed fails.
+#[derive(Drop)]
+struct Speaker<'a> {
+    flushed: &'a Cell<usize>,
+    text: &'a [u8],
+    lines: usize,
+}
+
+impl<'a> Read for Speaker<'a> {
+    fn read(&mut self, buf: &mut [u8]) -> io::Result<usize> {
+        let mut ahead = self.fill_buf()?;
+        let count = ahead.read(buf)?;
+        self.consume(count);
+        Ok(count)
+    }
+}
+
+impl<'a> BufRead for Speaker<'a> {
+    fn fill_buf(&mut self) -> io::Result<&[u8]> {
+        if self.flushed.get() != self.lines {
+            return Err(io::Error::from(ErrorKind::Other));
+        }
+        Ok(first_lines(self.text, 1))
+    }
+
+    fn consume(&mut self, amount: usize) {
+        let amount = amount.min(self.text.len());
+        self.lines = self.lines.saturating_add(lines_in(&self.text[..amount]));
+        self.text = &self.text[amount..];
+    }
+}
+
+#[test]
+fn each_reply_is_out_before_the_next_line_is_read(rt: HostRuntime) -> Result<(), Fail> {
+    let script = script_of(rt.alloc(), SCRIPT)?;
+    let replies = replies_of(rt.alloc(), SCRIPT)?;
+    let flushed = Cell::new(0);
+    let mut speaker = Speaker {
+        flushed: &flushed,
+        text: script.as_bytes(),
+        lines: 0,
+    };
+    let mut listener = Listener {
+        written: Vec::new(rt.alloc()),
+        flushed: &flushed,
+    };
+    assert_eq!(rt; engine::play(&rt, &mut speaker, &mut listener), Ok(()));
+    assert_eq!(rt; listener.written.as_slice(), replies.as_bytes());
+    assert_eq!(rt; flushed.get(), SCRIPT.len());
+    Ok(())
+}
