@@ -1,0 +1,3 @@
+pub mod ByNumber
+pub mod Kept
+pub mod Retains

@@ -1,0 +1,45 @@
+use Rattle.std.proofs.Common.{refl, sym, ◌∙◌}
+use Rattle.std.specs.Prelude.{Ok, Err}
+use Rattle.deadpool_managed.proofs.Reviewing.{retains_forget}
+use Rattle.deadpool_journal.specs.JournaledFields.{journaling_of}
+use Rattle.deadpool_journal.specs.declared.entry.Entry.TheVariants as entry
+use Rattle.deadpool_journal.proofs.Kept.{step_kept}
+use Rattle.deadpool_journal.proofs.Retains.{retain_numbered, refused_retain_numbered, unnoted_retain, unnoted_kept}
+use Rattle.deadpool_journal.proofs.journaled.JournaledDesk.retain.Goals as goal
+
+pub invariant_of-self-in-Ok : goal.invariant_of-self-in-Ok
+invariant_of-self-in-Ok g c =
+    let core = c.self.inside.core in
+    let left = c.retain_noting.new.self in
+    let made = retain_numbered g.R.Retainer core.desk left.desk c.args.retainer.now c.retain_noting.new.retainer (c.in-Ok.result, c.in-Ok.noted) c.in-Ok.ensures.retained.0 in
+    rw c.add.ensures (step_kept (journaling_of c.self.inside) left (entry.Retain (Ok c.in-Ok.noted)) c.self.invariant made)
+
+pub invariant_of-self-in-Err : goal.invariant_of-self-in-Err
+invariant_of-self-in-Err g c =
+    let core = c.self.inside.core in
+    let left = c.retain_noting.new.self in
+    let made = refused_retain_numbered g.R.Retainer core.desk left.desk c.args.retainer.now c.retain_noting.new.retainer c.in-Err.e c.in-Err.ensures.retained.0 in
+    rw c.add-in-Err.ensures (step_kept (journaling_of c.self.inside) left (entry.Retain (Err c.in-Err.e)) c.self.invariant made)
+
+pub returns-in-Ok-clause-retained : goal.returns-in-Ok-clause-retained
+returns-in-Ok-clause-retained g c =
+    let core = c.self.inside.core in
+    let left = c.retain_noting.new.self in
+    let did = c.in-Ok.ensures.retained in
+    rw (← c.self.view_is) (
+      (retains_forget g.R.Retainer core.desk left.desk c.args.retainer.now c.retain_noting.new.retainer (c.in-Ok.result, c.in-Ok.noted) did.0, did.1),
+      (c.in-Ok.noted, did, rw c.add.ensures refl),
+    )
+
+pub invariant_of-self : goal.invariant_of-self
+invariant_of-self g c =
+    let none = sym c.has_room.ensures ∙ c.if-not-has_room.true in
+    rw c.mark_full.ensures
+    (unnoted_kept g.R.Retainer (journaling_of c.self.inside) c.retain.new.self c.args.retainer.now c.retain.new.retainer c.retain.result c.self.invariant c.retain.ensures.retained none)
+
+pub returns-then-not-has_room-clause-retained : goal.returns-then-not-has_room-clause-retained
+returns-then-not-has_room-clause-retained g c =
+    let none = sym c.has_room.ensures ∙ c.if-not-has_room.true in
+    let did = c.retain.ensures.retained in
+    rw (← c.self.view_is, c.mark_full.ensures)
+    (did, unnoted_retain g.R.Retainer (journaling_of c.self.inside) c.retain.new.self c.args.retainer.now c.retain.new.retainer c.retain.result did none)

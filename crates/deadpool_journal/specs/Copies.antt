@@ -1,0 +1,13 @@
+-- A journal as it is handed out.
+use Rattle.std.specs.Prelude.{ℕ}
+use Rattle.deadpool_managed.specs.DeskState.{DeskState, new_core}
+use Rattle.deadpool_journal.specs.Replay.{AreSteps}
+use Rattle.deadpool_journal.specs.declared.journal.Journal.{Journal}
+
+-- the desk that its pool opened as
+abbrev pub opened_as : Journal → DeskState ℕ
+opened_as journal = new_core journal.limit journal.mode 0 journal.min_idle
+
+-- its entries are steps from there on
+abbrev pub HasSteps : Journal → Type 0
+HasSteps journal = AreSteps (opened_as journal) journal.entries.items

@@ -1,0 +1,24 @@
+-- A pool's state with its journal.
+use Rattle.std.specs.Prelude.{◌≡◌, ℕ}
+use Rattle.deadpool_parts.specs.declared.config.QueueMode.{QueueMode}
+use Rattle.deadpool_managed.specs.CoreState.{CoreState}
+use Rattle.deadpool_managed.specs.DeskState.{DeskState, new_core}
+use Rattle.deadpool_journal.specs.LogState.{LogState, noted}
+use Rattle.deadpool_journal.specs.declared.entry.Entry.{Entry}
+
+pub record Journaling (T : Type 0) : Type 0 where
+  pub core : CoreState T
+  -- those that it opened with
+  pub limit : ℕ
+  pub mode : QueueMode
+  pub min_idle : ℕ
+  pub log : LogState
+
+module _ {T : Type 0} where
+  -- the pool that it opened as
+  abbrev pub opening : Journaling T → DeskState ℕ
+  opening j = new_core j.limit j.mode 0 j.min_idle
+
+  -- One entry is noted, and all but the pool's state is as it was.
+  abbrev pub Notes : Entry → Journaling T → Journaling T → Type 0
+  Notes e j j' = j' ≡ record j { core = j'.core; log = noted e j.log }

@@ -1,0 +1,10 @@
+pub mod ByNumber
+pub mod Copies
+pub mod JournaledFields
+pub mod Journaling
+pub mod Kept
+pub mod LogFields
+pub mod LogState
+pub mod Removals
+pub mod Replay
+pub mod Steps

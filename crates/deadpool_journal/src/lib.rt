@@ -1,0 +1,15 @@
+//! A managed pool's state with a journal of its steps, for whoever keeps both under a lock. Nothing here takes one.
+#![tactic(auto)]
+
+pub mod by_number;
+mod entry;
+mod journal;
+mod journaled;
+mod log;
+#[cfg(test)]
+mod tests;
+mod texts;
+
+pub use entry::Entry;
+pub use journal::Journal;
+pub use journaled::Journaled;

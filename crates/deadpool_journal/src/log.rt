@@ -1,0 +1,133 @@
+//! A list of entries with room for so many.
+ghost use Rattle.std.specs.Prelude.{◌≡◌, ◌≤◌, IfOk, length, nat_lt, true};
+ghost use Rattle.deadpool_journal.specs.ByNumber.{numbered_enter, numbered_ask, numbered_again, numbered_back};
+ghost use Rattle.deadpool_journal.specs.LogState.{no_entries, noted};
+ghost use Rattle.deadpool_journal.specs.declared.entry.Entry.TheVariants as entry;
+
+use crate::{Entry, by_number};
+use deadpool_managed::gate::Ticket;
+use deadpool_managed::{AgainReply, AskReply, BackReply, EnterReply, Slot};
+use deadpool_parts::tables::append;
+use std::alloc::{AllocError, Global};
+use std::marker::Model;
+
+/// At most so many entries, and a mark that a further one found no room. The room for all of them is there from the start.
+#[derive(Drop)]
+pub(crate) struct Log {
+    entries: Vec<Entry>,
+    most: usize,
+    is_full: bool,
+}
+
+impl Model for Log {
+    ghost use Rattle.deadpool_journal.specs.LogState.{LogState};
+
+    ghost Value = { LogState };
+
+    ghost use Rattle.deadpool_journal.specs.LogFields.{log_of, IsLog};
+
+    ghost view = { log_of };
+
+    ghost invariant = { IsLog };
+}
+
+impl Log {
+    /// No entry, and room for so many.
+    pub fn new(alloc: Global, most: usize) -> Result<Log, AllocError>
+        ensures { IfOk result (λ log. log ≡ no_entries most) }
+    {
+        let entries = Vec::with_capacity(alloc, most)?;
+        Ok(Log {
+            entries,
+            most,
+            is_full: false,
+        })
+    }
+
+    /// One entry more, or the mark if there is no room.
+    pub fn add(&mut self, entry: Entry)
+        ensures { self.new ≡ noted entry self.old }
+    {
+        if self.is_full {
+            return;
+        }
+        if self.entries.len() == self.most {
+            self.is_full = true;
+            return;
+        }
+        append(&mut self.entries, entry);
+    }
+
+    /// One entry more, of a new get. Nothing is made of the reply if the mark is set.
+    pub fn add_enter<T>(&mut self, wait: bool, reply: &EnterReply<Slot<T>>)
+        ensures { self.new ≡ noted (entry.Enter wait (numbered_enter reply.now)) self.old }
+    {
+        if self.is_full {
+            return;
+        }
+        self.add(Entry::Enter(wait, by_number::entering(reply)));
+    }
+
+    /// One entry more, of a get in the queue.
+    pub fn add_ask<T>(&mut self, ticket: Ticket, expired: bool, reply: &AskReply<Slot<T>>)
+        ensures { self.new ≡ noted (entry.Ask ticket expired (numbered_ask reply.now)) self.old }
+    {
+        if self.is_full {
+            return;
+        }
+        self.add(Entry::Ask(ticket, expired, by_number::asking(reply)));
+    }
+
+    /// One entry more, of a get that goes on.
+    pub fn add_again<T>(&mut self, allowance: Option<usize>, reply: &AgainReply<Slot<T>>)
+        ensures { self.new ≡ noted (entry.Again allowance (numbered_again reply.now)) self.old }
+    {
+        if self.is_full {
+            return;
+        }
+        self.add(Entry::Again(allowance, by_number::going_on(reply)));
+    }
+
+    /// One entry more, of an object that comes back.
+    pub fn add_back<T>(&mut self, number: usize, reply: &BackReply<Slot<T>>)
+        ensures { self.new ≡ noted (entry.Back number (numbered_back reply.now)) self.old }
+    {
+        if self.is_full {
+            return;
+        }
+        self.add(Entry::Back(number, by_number::coming_back(reply)));
+    }
+
+    /// Whether there is room for one entry more.
+    pub fn has_room(&self) -> bool
+        ensures { result ≡ nat_lt (length self.now.entries) self.now.most }
+    {
+        self.entries.len() < self.most
+    }
+
+    /// Sets the mark. There has to be no room.
+    pub fn mark_full(&mut self)
+        requires { self.old.most ≤ length self.old.entries }
+        ensures { self.new ≡ record self.old { is_full = true } }
+    {
+        self.is_full = true;
+    }
+
+    /// A copy of the entries.
+    pub fn entries(&self) -> Result<Vec<Entry>, AllocError>
+        ensures { IfOk result (λ entries. entries.items ≡ self.now.entries) }
+    {
+        let mut copies = Vec::with_capacity(*self.entries.allocator(), self.entries.len())?;
+        for entry in &self.entries {
+            append(&mut copies, entry.copied()?);
+        }
+        Ok(copies)
+    }
+
+    /// Whether an entry has found no room.
+    pub fn is_full(&self) -> bool
+        ensures { result ≡ self.now.is_full }
+    {
+        self.is_full
+    }
+}
