@@ -1,0 +1,14 @@
+use Rattle.std.proofs.Common.{◌≡◌, ◌++◌, ◌-◌, ◌≤◌, max, None, replicate, vec_len, vec_capacity}
+use Rattle.deadpool_lock.proofs.wakers.Wakers.make_room.Given as goal
+
+abbrev pub invariant-loop-self : goal.invariant-loop-self
+invariant-loop-self l =
+    let first = l.initial.self-inside.places in
+    let now = l.self-inside.places in
+    (now.items ≡ first.items ++ replicate (vec_len now - vec_len first) None)
+    × (vec_len first ≤ vec_len now)
+    × (vec_len now ≤ max l.wanted (vec_len first))
+    × (l.wanted ≤ vec_capacity now)
+
+abbrev pub decreases-loop-self : goal.decreases-loop-self
+decreases-loop-self l = l.wanted - vec_len l.self-inside.places

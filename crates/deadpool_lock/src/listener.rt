@@ -1,0 +1,47 @@
+//! What a future hears by, and when it is to be polled again.
+ghost use Rattle.std.specs.Prelude.{◌≡◌, IfSome};
+ghost use Rattle.futures.specs.Task.{Hears, IsArmed, Keeps};
+
+use deadpool_parts::{Clock, Moment};
+use futures::task::{Context, Poll, Source, Waker};
+
+/// A future's own waker, and a source for a future that has nothing else to wait for.
+#[derive(Drop)]
+pub struct Listener {
+    waker: Option<Waker>,
+    nowhere: Source,
+}
+
+impl Listener {
+    /// Without a waker, which the first poll makes.
+    pub fn new() -> Self {
+        Listener {
+            waker: None,
+            nowhere: Source::new(),
+        }
+    }
+
+    /// Registers the task that polls, before a step that may leave it waiting: with a source, or nowhere.
+    pub fn listen(&mut self, source: Option<&Source>, cx: &mut Context<'_>)
+        ensures armed { IsArmed cx.new }
+        ensures heard { IfSome source.entry (λ s. Hears cx.new s.now.id) }
+        ensures kept { Keeps cx.old cx.new }
+    {
+        let source = source.unwrap_or(&self.nowhere);
+        let _pending: Poll<()> = cx.register(source, &mut self.waker);
+    }
+
+    /// The waker that was left at the last registration, to be kept under the lock.
+    pub fn waker(&mut self) -> &mut Option<Waker> {
+        &mut self.waker
+    }
+}
+
+/// Has the clock wake the task at a deadline, if there is one.
+pub fn wake_at<C: Clock>(clock: &C, deadline: Option<Moment>, cx: &mut Context<'_>)
+    ensures { Keeps cx.old cx.new }
+{
+    if let Some(at) = deadline {
+        clock.wake_at(at, cx);
+    }
+}

@@ -1,0 +1,92 @@
+//! The steps that change a pool's three counts, with what they do to them.
+ghost use Rattle.std.specs.Prelude.{◌≡◌, ◌≢◌, ◌<◌};
+ghost use Rattle.deadpool_managed.specs.Allowance.{IsWithinAllowance};
+ghost use Rattle.deadpool_managed.specs.Held.{held_if_entered, held_if_asked, held_if_gone_on, held_as};
+ghost use Rattle.deadpool_managed.specs.declared.desk.Holding.{Holding};
+ghost use Rattle.deadpool_shared.specs.Counts.{counted, shifted, IsServed, IsTaken, IsCounted};
+
+use deadpool_journal::Journaled;
+use deadpool_managed::gate::Ticket;
+use deadpool_managed::{
+    AgainReply, AskReply, BackReply, CreatedReply, Desk, EnterReply, Held, Slot, StepReply,
+    TakeReply,
+};
+
+pub fn enter<T: Drop>(pool: &mut Journaled<T>, wait: bool) -> EnterReply<Slot<T>>
+    ensures { counted pool.new ≡ shifted Holding.Nothing (held_if_entered result) (counted pool.old) }
+{
+    pool.enter(wait)
+}
+
+pub fn ask<T: Drop>(pool: &mut Journaled<T>, ticket: Ticket, expired: bool) -> AskReply<Slot<T>>
+    ensures { counted pool.new ≡ shifted Holding.Nothing (held_if_asked result) (counted pool.old) }
+{
+    pool.ask(ticket, expired)
+}
+
+pub fn again<T: Drop>(pool: &mut Journaled<T>, allowance: Option<usize>) -> AgainReply<Slot<T>>
+    requires { 0 < pool.old.core.desk.going }
+    ensures known { IsServed result }
+    ensures counts { counted pool.new ≡ shifted Holding.Place (held_if_gone_on result) (counted pool.old) }
+    ensures allowed { IsWithinAllowance allowance result }
+{
+    pool.again(allowance)
+}
+
+pub fn discard<T: Drop>(pool: &mut Journaled<T>) -> StepReply
+    requires { 0 < pool.old.core.desk.outside }
+    ensures known { result ≡ StepReply.Done }
+    ensures counts { counted pool.new ≡ shifted Holding.Object Holding.Place (counted pool.old) }
+{
+    pool.discard()
+}
+
+pub fn created<T: Drop>(pool: &mut Journaled<T>) -> CreatedReply
+    requires { 0 < pool.old.core.desk.creations }
+    ensures known { result ≢ CreatedReply.Unknown }
+    ensures counts { counted pool.new ≡ shifted Holding.Creation Holding.Object (counted pool.old) }
+{
+    pool.created()
+}
+
+pub fn failed<T: Drop>(pool: &mut Journaled<T>) -> StepReply
+    requires { 0 < pool.old.core.desk.creations }
+    ensures known { result ≡ StepReply.Done }
+    ensures counts { counted pool.new ≡ shifted Holding.Creation Holding.Nothing (counted pool.old) }
+{
+    pool.failed()
+}
+
+pub fn refused<T: Drop>(pool: &mut Journaled<T>) -> StepReply
+    requires { 0 < pool.old.core.desk.outside }
+    ensures known { result ≡ StepReply.Done }
+    ensures counts { counted pool.new ≡ shifted Holding.Object Holding.Nothing (counted pool.old) }
+{
+    pool.refused()
+}
+
+pub fn back<T: Drop>(pool: &mut Journaled<T>, slot: Slot<T>) -> BackReply<Slot<T>>
+    requires { 0 < pool.old.core.desk.outside }
+    ensures known { IsTaken result }
+    ensures counts { counted pool.new ≡ shifted Holding.Object Holding.Nothing (counted pool.old) }
+{
+    pool.back(slot)
+}
+
+pub fn take<T: Drop>(pool: &mut Journaled<T>) -> TakeReply
+    requires { 0 < pool.old.core.desk.outside }
+    ensures known { result ≢ TakeReply.Unknown }
+    ensures counts { counted pool.new ≡ shifted Holding.Object Holding.Nothing (counted pool.old) }
+{
+    pool.take()
+}
+
+pub fn cancel<T: Drop>(pool: &mut Journaled<T>, held: Held) -> StepReply
+    requires places { held ≡ Held.Place → 0 < pool.old.core.desk.going }
+    requires creations { held ≡ Held.Creation → 0 < pool.old.core.desk.creations }
+    requires objects { held ≡ Held.Object → 0 < pool.old.core.desk.outside }
+    ensures known { IsCounted held → result ≡ StepReply.Done }
+    ensures counts { counted pool.new ≡ shifted (held_as held) Holding.Nothing (counted pool.old) }
+{
+    pool.cancel(held)
+}

@@ -1,0 +1,310 @@
+//! What the lock of a pool keeps.
+ghost use Rattle.std.specs.Prelude.{◌≡◌, ◌≢◌, ◌<◌, ◌≤◌, true, IfOk, IfSome};
+ghost use Rattle.deadpool_managed.specs.Held.{held_if_entered, held_if_asked, held_if_gone_on, held_as};
+ghost use Rattle.deadpool_managed.specs.Allowance.{IsWithinAllowance};
+ghost use Rattle.deadpool_managed.specs.declared.desk.Holding.{Holding};
+ghost use Rattle.deadpool_journal.specs.Copies.{HasSteps};
+ghost use Rattle.deadpool_shared.specs.Opens.{Opens};
+ghost use Rattle.deadpool_shared.specs.Counts.{counts, counts_of, counted, IsServed, IsTaken, IsCounted};
+
+use crate::counted;
+use crate::shares::{Books, Shares};
+use deadpool_journal::{Journal, Journaled};
+use deadpool_lock::{Wakers, Wakes};
+use deadpool_managed::gate::Ticket;
+use deadpool_managed::{
+    AgainReply, AskReply, BackReply, CreatedReply, Desk, EnterReply, HandleReply, Held, Holding,
+    RetainResult, Retainer, Slot, Status, StepReply, TakeReply,
+};
+use futures::task::Waker;
+use std::alloc::{AllocError, Global};
+use std::sync::ledger::{Blank, Ledger};
+
+/// A pool's state with its journal, the books whose totals are its three counts, and the wakers of those in its queue.
+#[derive(Drop)]
+pub struct Locked<T, G: Ledger, N: Ledger, O: Ledger> {
+    pool: Journaled<T>,
+    books: Books<G, N, O>,
+    wakers: Wakers,
+    ghost counted: { counted pool ≡ books },
+}
+
+impl<T: Drop, G: Ledger, N: Ledger, O: Ledger> Locked<T, G, N, O> {
+    /// A state that nobody holds anything of, with all parts of three new ledgers.
+    pub fn new(
+        alloc: Global,
+        pool: Journaled<T>,
+        going: Blank,
+        creations: Blank,
+        outside: Blank,
+    ) -> Locked<T, G, N, O>
+        requires empty { counted pool ≡ counts 0 0 0 }
+        requires going { Opens G.Ledger going }
+        requires creations { Opens N.Ledger creations }
+        requires outside { Opens O.Ledger outside }
+    {
+        Locked {
+            pool,
+            books: Books::new(going, creations, outside),
+            wakers: Wakers::new(alloc),
+        }
+    }
+
+    /// One handle more, for a new get, with its shares. If no part of the ledgers is left, nothing changes.
+    pub fn begin(&mut self) -> Option<Shares<G, N, O>>
+        ensures { IfSome result (λ shares. shares ≡ counts_of Holding.Nothing) }
+    {
+        let Locked { pool, books, .. } = self;
+        let shares = books.hand_out()?;
+        pool.clone_handle();
+        Some(shares)
+    }
+
+    /// A new get. If it is queued its waker is kept. A get that would be queued, whose waker finds no memory, makes no
+    /// step.
+    pub fn enter(
+        &mut self,
+        shares: &mut Shares<G, N, O>,
+        waker: &mut Option<Waker>,
+        wait: bool,
+    ) -> EnterReply<Slot<T>>
+        requires { shares.old ≡ counts_of Holding.Nothing }
+        ensures { shares.new ≡ counts_of (held_if_entered result) }
+    {
+        let Locked {
+            pool,
+            books,
+            wakers,
+            ..
+        } = self;
+        let lacks_room = wait
+            && pool.would_queue()
+            && wakers.make_room(pool.next_ticket()).is_err();
+        if lacks_room {
+            return EnterReply::OutOfMemory;
+        }
+        let reply = counted::enter(pool, wait);
+        books.shift(shares, Holding::Nothing, reply.holding());
+        if let EnterReply::Waiting(ticket) = &reply {
+            wakers.exchange(*ticket, waker);
+        }
+        reply
+    }
+
+    /// A queued get. If it stays queued its waker is exchanged, otherwise the kept one is in `spare`.
+    pub fn ask(
+        &mut self,
+        shares: &mut Shares<G, N, O>,
+        waker: &mut Option<Waker>,
+        spare: &mut Option<Waker>,
+        ticket: Ticket,
+        expired: bool,
+    ) -> AskReply<Slot<T>>
+        requires { shares.old ≡ counts_of Holding.Nothing }
+        ensures { shares.new ≡ counts_of (held_if_asked result) }
+    {
+        let Locked {
+            pool,
+            books,
+            wakers,
+            ..
+        } = self;
+        let reply = counted::ask(pool, ticket, expired);
+        books.shift(shares, Holding::Nothing, reply.holding());
+        let is_queued = matches!(&reply, AskReply::Waiting);
+        if is_queued {
+            wakers.exchange(ticket, waker);
+        } else {
+            *spare = wakers.take(ticket);
+        }
+        reply
+    }
+
+    /// A get that holds a place goes on.
+    pub fn again(
+        &mut self,
+        shares: &mut Shares<G, N, O>,
+        allowance: Option<usize>,
+    ) -> AgainReply<Slot<T>>
+        requires { shares.old ≡ counts_of Holding.Place }
+        ensures holds { shares.new ≡ counts_of (held_if_gone_on result) }
+        ensures known { IsServed result }
+        ensures allowed { IsWithinAllowance allowance result }
+    {
+        let Locked { pool, books, .. } = self;
+        books.audit(shares);
+        let reply = counted::again(pool, allowance);
+        books.shift(shares, Holding::Place, reply.holding());
+        reply
+    }
+
+    /// An idle object under preparation is given up.
+    pub fn discard(&mut self, shares: &mut Shares<G, N, O>) -> StepReply
+        requires { shares.old ≡ counts_of Holding.Object }
+        ensures holds { shares.new ≡ counts_of Holding.Place }
+        ensures known { result ≡ StepReply.Done }
+    {
+        let Locked { pool, books, .. } = self;
+        books.audit(shares);
+        let reply = counted::discard(pool);
+        books.shift(shares, Holding::Object, Holding::Place);
+        reply
+    }
+
+    /// A creation has ended well.
+    pub fn created(&mut self, shares: &mut Shares<G, N, O>) -> CreatedReply
+        requires { shares.old ≡ counts_of Holding.Creation }
+        ensures holds { shares.new ≡ counts_of Holding.Object }
+        ensures known { result ≢ CreatedReply.Unknown }
+    {
+        let Locked { pool, books, .. } = self;
+        books.audit(shares);
+        let reply = counted::created(pool);
+        books.shift(shares, Holding::Creation, Holding::Object);
+        reply
+    }
+
+    /// A creation has ended without an object.
+    pub fn failed(&mut self, shares: &mut Shares<G, N, O>) -> StepReply
+        requires { shares.old ≡ counts_of Holding.Creation }
+        ensures holds { shares.new ≡ counts_of Holding.Nothing }
+        ensures known { result ≡ StepReply.Done }
+    {
+        let Locked { pool, books, .. } = self;
+        books.audit(shares);
+        let reply = counted::failed(pool);
+        books.shift(shares, Holding::Creation, Holding::Nothing);
+        reply
+    }
+
+    /// A new object is given up.
+    pub fn refused(&mut self, shares: &mut Shares<G, N, O>) -> StepReply
+        requires { shares.old ≡ counts_of Holding.Object }
+        ensures holds { shares.new ≡ counts_of Holding.Nothing }
+        ensures known { result ≡ StepReply.Done }
+    {
+        let Locked { pool, books, .. } = self;
+        books.audit(shares);
+        let reply = counted::refused(pool);
+        books.shift(shares, Holding::Object, Holding::Nothing);
+        reply
+    }
+
+    /// An object comes back.
+    pub fn back(&mut self, shares: &mut Shares<G, N, O>, slot: Slot<T>) -> BackReply<Slot<T>>
+        requires { shares.old ≡ counts_of Holding.Object }
+        ensures holds { shares.new ≡ counts_of Holding.Nothing }
+        ensures known { IsTaken result }
+    {
+        let Locked { pool, books, .. } = self;
+        books.audit(shares);
+        let reply = counted::back(pool, slot);
+        books.shift(shares, Holding::Object, Holding::Nothing);
+        reply
+    }
+
+    /// An object leaves for good.
+    pub fn take(&mut self, shares: &mut Shares<G, N, O>) -> TakeReply
+        requires { shares.old ≡ counts_of Holding.Object }
+        ensures holds { shares.new ≡ counts_of Holding.Nothing }
+        ensures known { result ≢ TakeReply.Unknown }
+    {
+        let Locked { pool, books, .. } = self;
+        books.audit(shares);
+        let reply = counted::take(pool);
+        books.shift(shares, Holding::Object, Holding::Nothing);
+        reply
+    }
+
+    /// A get gives back what it holds. The waker that was kept for it is in `spare`.
+    pub fn cancel(
+        &mut self,
+        shares: &mut Shares<G, N, O>,
+        spare: &mut Option<Waker>,
+        held: Held,
+    ) -> StepReply
+        requires { shares.old ≡ counts_of (held_as held) }
+        ensures holds { shares.new ≡ counts_of Holding.Nothing }
+        ensures known { IsCounted held → result ≡ StepReply.Done }
+    {
+        let Locked {
+            pool,
+            books,
+            wakers,
+            ..
+        } = self;
+        if let Held::Ticket(ticket) = held {
+            *spare = wakers.take(ticket);
+        }
+        books.audit(shares);
+        let reply = counted::cancel(pool, held);
+        books.shift(shares, held.holding(), Holding::Nothing);
+        reply
+    }
+
+    pub fn status(&mut self) -> Status {
+        let Locked { pool, .. } = self;
+        pool.status()
+    }
+
+    pub fn resize(&mut self, limit: usize) -> Result<(), AllocError> {
+        let Locked { pool, .. } = self;
+        pool.resize(limit)
+    }
+
+    pub fn retain<R: Retainer<T>>(
+        &mut self,
+        retainer: &mut R,
+    ) -> Result<RetainResult<T>, AllocError>
+        requires { R.can_call retainer.old }
+        ensures { R.can_call retainer.new }
+    {
+        let Locked { pool, .. } = self;
+        pool.retain(retainer)
+    }
+
+    pub fn close(&mut self) {
+        let Locked { pool, .. } = self;
+        pool.close();
+    }
+
+    pub fn clone_handle(&mut self) -> HandleReply {
+        let Locked { pool, .. } = self;
+        pool.clone_handle()
+    }
+
+    pub fn drop_handle(&mut self) -> HandleReply {
+        let Locked { pool, .. } = self;
+        pool.drop_handle()
+    }
+
+    pub fn upgrade(&mut self) -> bool {
+        let Locked { pool, .. } = self;
+        pool.upgrade()
+    }
+
+    /// It is no step.
+    pub fn is_closed(&self) -> bool {
+        self.pool.is_closed()
+    }
+
+    /// A copy of the journal. It is no step.
+    pub fn journal(&self) -> Result<Journal, AllocError>
+        ensures { IfOk result HasSteps }
+    {
+        self.pool.journal()
+    }
+}
+
+// Neither is a step.
+impl<T: Drop, G: Ledger, N: Ledger, O: Ledger> Wakes for Locked<T, G, N, O> {
+    fn is_wake_due(&self) -> bool {
+        self.pool.is_wake_due()
+    }
+
+    fn take_wake(&mut self) -> Option<Waker> {
+        let Locked { pool, wakers, .. } = self;
+        let ticket = pool.take_wake()?;
+        wakers.take(ticket)
+    }
+}

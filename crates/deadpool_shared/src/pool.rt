@@ -1,0 +1,224 @@
+//! The handles of a pool.
+ghost use Rattle.std.specs.Prelude.{◌≡◌, IfOk};
+ghost use Rattle.deadpool_journal.specs.Copies.{HasSteps};
+
+use crate::builder::PoolBuilder;
+use crate::get::Get;
+use crate::object::Object;
+use crate::shared::Shared;
+use deadpool_journal::Journal;
+use deadpool_lock::Handle;
+use deadpool_managed::{
+    AsyncHook, Clock, Manager, Metrics, RetainResult, Retainer, Status, SyncHook, Timeouts,
+};
+use std::alloc::{AllocError, Global};
+use std::marker::PhantomData;
+use std::sync::ledger::Ledger;
+use std::sync::{Arc, Wait};
+
+/// A handle of a pool, which the pool counts: the last one, gets included, takes the idle objects with it. They are dropped
+/// with the lock taken, so such a drop must not use the pool. Objects that are out stay.
+///
+/// What a get gives is a `W`, which is made from the object.
+#[derive(Drop)]
+pub struct Pool<
+    M: Manager + Drop,
+    F: SyncHook<M> + Drop,
+    A: AsyncHook<M> + Drop,
+    C: Clock + Drop,
+    R: Wait + Drop,
+    G: Ledger,
+    N: Ledger,
+    O: Ledger,
+    W = Object<M, F, A, C, R, G, N, O>,
+> {
+    handle: Handle<Shared<M, F, A, C, R, G, N, O>>,
+    of: PhantomData<W>,
+}
+
+/// A handle of a pool that is not counted.
+#[derive(Drop)]
+pub struct WeakPool<
+    M: Manager + Drop,
+    F: SyncHook<M> + Drop,
+    A: AsyncHook<M> + Drop,
+    C: Clock + Drop,
+    R: Wait + Drop,
+    G: Ledger,
+    N: Ledger,
+    O: Ledger,
+    W = Object<M, F, A, C, R, G, N, O>,
+> {
+    shared: Arc<Shared<M, F, A, C, R, G, N, O>, Global>,
+    of: PhantomData<W>,
+}
+
+// Asks a predicate about the idle objects, and has the manager told of those that it rejects.
+#[derive(Drop)]
+struct Asking<'a, P, M> {
+    predicate: P,
+    manager: &'a M,
+}
+
+impl<M: Manager, P: FnMut(&M::Type, Metrics) -> bool + Drop> Retainer<M::Type>
+    for Asking<'_, P, M> {
+    ghost can_call = { λ r. P.IsAlwaysCallable r.predicate };
+
+    fn keeps(&mut self, _number: usize, value: &M::Type, metrics: &Metrics) -> bool {
+        (self.predicate)(value, *metrics)
+    }
+
+    fn detach(&mut self, value: &mut M::Type) {
+        self.manager.detach(value);
+    }
+}
+
+impl<
+    M: Manager + Drop,
+    F: SyncHook<M> + Drop,
+    A: AsyncHook<M> + Drop,
+    C: Clock + Drop,
+    R: Wait + Drop,
+    G: Ledger,
+    N: Ledger,
+    O: Ledger,
+    W,
+> Pool<M, F, A, C, R, G, N, O, W> {
+    /// What a pool is made of, with this manager and clock. The rest is as `PoolBuilder::new` says.
+    pub fn builder(alloc: Global, manager: M, clock: C) -> PoolBuilder<M, F, A, C> {
+        PoolBuilder::new(alloc, manager, clock)
+    }
+
+    // The first handle of what is shared.
+    pub(crate) fn open(
+        alloc: Global,
+        shared: Shared<M, F, A, C, R, G, N, O>,
+    ) -> Result<Self, AllocError>
+        ensures { IfOk result (λ pool. pool.handle ≡ shared) }
+    {
+        Ok(Pool {
+            handle: Handle::new(alloc, shared)?,
+            of: PhantomData,
+        })
+    }
+
+    // One handle more, if one is left.
+    pub(crate) fn upgrade(
+        shared: &Arc<Shared<M, F, A, C, R, G, N, O>, Global>,
+    ) -> Result<Option<Self>, AllocError> {
+        let shared = Arc::try_clone(shared)?;
+        if shared.upgrade() {
+            return Ok(Some(Pool {
+                handle: Handle::counted(shared),
+                of: PhantomData,
+            }));
+        }
+        Ok(None)
+    }
+
+    /// A get with the timeouts of the pool. It is a handle of the pool from now on.
+    pub fn get(&self) -> Get<M, F, A, C, R, G, N, O, W> {
+        Get::new(&self.handle, self.timeouts())
+    }
+
+    /// A get with timeouts of its own. It is a handle of the pool from now on.
+    pub fn timeout_get(&self, timeouts: &Timeouts) -> Get<M, F, A, C, R, G, N, O, W> {
+        Get::new(&self.handle, *timeouts)
+    }
+
+    /// Sets the greatest number of objects. While there are more, idle ones are dropped, the front one first, without a
+    /// detach and with the lock taken: such a drop must not use the pool. A closed pool stays as it is. `AllocError` says
+    /// that there was no memory for so many, and nothing has changed.
+    pub fn resize(&self, limit: usize) -> Result<(), AllocError> {
+        self.handle.shared().resize(limit)
+    }
+
+    /// Asks about each idle object once, front to back, and gives up those that are not kept. Each is detached before the
+    /// next is asked about. The lock is taken all the while: neither the predicate nor the manager's `detach` may use the
+    /// pool. `AllocError` says that there was no memory for the list of their values, and nothing was asked.
+    pub fn retain<P: FnMut(&M::Type, Metrics) -> bool + Drop>(
+        &self,
+        predicate: P,
+    ) -> Result<RetainResult<M::Type>, AllocError>
+        requires { P.IsAlwaysCallable predicate }
+    {
+        let mut asking = Asking {
+            predicate,
+            manager: self.manager(),
+        };
+        self.handle.shared().retain(&mut asking)
+    }
+
+    /// The timeouts that the pool was built with.
+    pub fn timeouts(&self) -> Timeouts
+        ensures { result ≡ self.now.handle.timeouts }
+    {
+        self.handle.shared().timeouts
+    }
+
+    /// The manager that the pool was built with.
+    pub fn manager(&self) -> &M
+        ensures { result.now ≡ self.now.handle.environment.manager }
+    {
+        &self.handle.shared().environment.manager
+    }
+
+    /// Closes the pool for good: its limit is 0, those that wait are refused, and the idle objects are dropped without a
+    /// detach and with the lock taken: such a drop must not use the pool. Objects that are out stay, and are given up when
+    /// they come back.
+    pub fn close(&self) {
+        self.handle.shared().close();
+    }
+
+    /// Whether the pool was closed.
+    pub fn is_closed(&self) -> bool {
+        self.handle.shared().is_closed()
+    }
+
+    /// How the pool stands, all at one moment.
+    pub fn status(&self) -> Status {
+        self.handle.shared().status()
+    }
+
+    /// A copy of the pool's journal: the state that the pool opened with, and its first steps since, each with the reply
+    /// that it got. `AllocError` says that there was no memory for the copy.
+    pub fn journal(&self) -> Result<Journal, AllocError>
+        ensures { IfOk result HasSteps }
+    {
+        self.handle.shared().journal()
+    }
+
+    /// A handle that is not counted. `AllocError` says that there was no memory for it.
+    pub fn weak(&self) -> Result<WeakPool<M, F, A, C, R, G, N, O, W>, AllocError> {
+        Ok(WeakPool {
+            shared: self.handle.uncounted()?,
+            of: PhantomData,
+        })
+    }
+
+    /// One handle more. `AllocError` says that there was no memory for it, and none is counted then.
+    pub fn clone(&self) -> Result<Self, AllocError> {
+        Ok(Pool {
+            handle: self.handle.clone()?,
+            of: PhantomData,
+        })
+    }
+}
+
+impl<
+    M: Manager + Drop,
+    F: SyncHook<M> + Drop,
+    A: AsyncHook<M> + Drop,
+    C: Clock + Drop,
+    R: Wait + Drop,
+    G: Ledger,
+    N: Ledger,
+    O: Ledger,
+    W,
+> WeakPool<M, F, A, C, R, G, N, O, W> {
+    /// One handle more, if the pool has one left. `AllocError` says that there was no memory for it, and none is counted
+    /// then.
+    pub fn upgrade(&self) -> Result<Option<Pool<M, F, A, C, R, G, N, O, W>>, AllocError> {
+        Pool::upgrade(&self.shared)
+    }
+}

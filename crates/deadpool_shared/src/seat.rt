@@ -1,0 +1,290 @@
+//! The lock of a pool, with what one holder has.
+ghost use Rattle.std.specs.Prelude.{◌≡◌, ◌≢◌, ⊤};
+ghost use Rattle.futures.specs.Task.{Hears, IsArmed, Keeps};
+ghost use Rattle.deadpool_managed.specs.Allowance.{IsWithinAllowance};
+ghost use Rattle.deadpool_managed.specs.Held.{held_if_entered, held_if_asked, held_if_gone_on, held_if_created, held_if_discarded, held_as};
+ghost use Rattle.deadpool_managed.specs.declared.desk.Holding.{Holding};
+ghost use Rattle.deadpool_managed.specs.declared.desk.CreatedReply.{CreatedReply};
+ghost use Rattle.deadpool_managed.specs.declared.desk.TakeReply.{TakeReply};
+ghost use Rattle.deadpool_parts.specs.declared.replies.StepReply.{StepReply};
+ghost use Rattle.deadpool_shared.specs.Counts.{counts, counts_of, IsServed, IsTaken, IsCounted};
+
+use crate::shared::Shared;
+use crate::shares::Shares;
+use deadpool_lock::Listener;
+use deadpool_managed::gate::Ticket;
+use deadpool_managed::{
+    AgainReply, AskReply, AsyncHook, BackReply, Clock, CreatedReply, Desk, EnterReply, HandleReply,
+    Held, Manager, RetainResult, Retainer, Slot, Status, StepReply, SyncHook, TakeReply,
+};
+use futures::task::{Context, Source};
+use std::alloc::{AllocError, Global};
+use std::marker::Model;
+use std::mem;
+use std::sync::ledger::Ledger;
+use std::sync::{Arc, Wait};
+
+/// The lock of a pool, with the shares of one get or object, and what the get hears by. Each step is one section of the lock. After it,
+/// with the lock given back, the wakers are called of the gets that it made due.
+///
+/// Contracts see it as its shares. A step that lowers a count asks that the shares have what it lowers, and is then never
+/// answered `Unknown`.
+#[derive(Drop)]
+pub struct Seat<
+    M: Manager + Drop,
+    F: SyncHook<M> + Drop,
+    A: AsyncHook<M> + Drop,
+    C: Clock + Drop,
+    R: Wait + Drop,
+    G: Ledger,
+    N: Ledger,
+    O: Ledger,
+> {
+    shared: Arc<Shared<M, F, A, C, R, G, N, O>, Global>,
+    shares: Shares<G, N, O>,
+    listener: Listener,
+}
+
+impl<
+    M: Manager + Drop,
+    F: SyncHook<M> + Drop,
+    A: AsyncHook<M> + Drop,
+    C: Clock + Drop,
+    R: Wait + Drop,
+    G: Ledger,
+    N: Ledger,
+    O: Ledger,
+> Model for Seat<M, F, A, C, R, G, N, O> {
+    ghost use Rattle.deadpool_shared.specs.Counts.{Counts};
+
+    ghost Value = { Counts };
+
+    ghost view = { λ s. s.shares };
+}
+
+impl<
+    M: Manager + Drop,
+    F: SyncHook<M> + Drop,
+    A: AsyncHook<M> + Drop,
+    C: Clock + Drop,
+    R: Wait + Drop,
+    G: Ledger,
+    N: Ledger,
+    O: Ledger,
+> Desk<M::Type> for Seat<M, F, A, C, R, G, N, O> {
+    ghost holds = { λ seat holding. seat ≡ counts_of holding };
+
+    ghost enters = { λ _ _ _ _. ⊤ };
+
+    ghost asks = { λ _ _ _ _ _. ⊤ };
+
+    ghost goes_on = { λ _ _ reply _. IsServed reply };
+
+    ghost discards = { λ _ reply _. reply ≡ StepReply.Done };
+
+    ghost creates = { λ _ reply _. reply ≢ CreatedReply.Unknown };
+
+    ghost fails = { λ _ reply _. reply ≡ StepReply.Done };
+
+    ghost refuses = { λ _ reply _. reply ≡ StepReply.Done };
+
+    ghost takes_back = { λ _ _ reply _. IsTaken reply };
+
+    ghost cancels = { λ _ held reply _. IsCounted held → reply ≡ StepReply.Done };
+
+    ghost stands = { λ _ _ _. ⊤ };
+
+    ghost takes = { λ _ reply _. reply ≢ TakeReply.Unknown };
+
+    ghost resizes = { λ _ _ _ _. ⊤ };
+
+    ghost retains = { λ _ _ _ _ _ _ _. ⊤ };
+
+    ghost closes = { λ _ _. ⊤ };
+
+    ghost clones = { λ _ _ _. ⊤ };
+
+    ghost drops_handle = { λ _ _ _. ⊤ };
+
+    ghost upgrades = { λ _ _ _. ⊤ };
+
+    fn enter(&mut self, wait: bool) -> EnterReply<Slot<M::Type>> {
+        let mut locked = self.shared.lock.begin();
+        let reply = locked.enter(&mut self.shares, self.listener.waker(), wait);
+        self.shared.lock.end(locked);
+        reply
+    }
+
+    fn ask(&mut self, ticket: Ticket, expired: bool) -> AskReply<Slot<M::Type>> {
+        let mut spare = None;
+        let mut locked = self.shared.lock.begin();
+        let reply = locked.ask(
+            &mut self.shares,
+            self.listener.waker(),
+            &mut spare,
+            ticket,
+            expired,
+        );
+        self.shared.lock.end(locked);
+        drop(spare);
+        reply
+    }
+
+    fn again(&mut self, allowance: Option<usize>) -> AgainReply<Slot<M::Type>> {
+        let mut locked = self.shared.lock.begin();
+        let reply = locked.again(&mut self.shares, allowance);
+        self.shared.lock.end(locked);
+        reply
+    }
+
+    fn discard(&mut self) -> StepReply {
+        let mut locked = self.shared.lock.begin();
+        let reply = locked.discard(&mut self.shares);
+        self.shared.lock.end(locked);
+        reply
+    }
+
+    fn created(&mut self) -> CreatedReply {
+        let mut locked = self.shared.lock.begin();
+        let reply = locked.created(&mut self.shares);
+        self.shared.lock.end(locked);
+        reply
+    }
+
+    fn failed(&mut self) -> StepReply {
+        let mut locked = self.shared.lock.begin();
+        let reply = locked.failed(&mut self.shares);
+        self.shared.lock.end(locked);
+        reply
+    }
+
+    fn refused(&mut self) -> StepReply {
+        let mut locked = self.shared.lock.begin();
+        let reply = locked.refused(&mut self.shares);
+        self.shared.lock.end(locked);
+        reply
+    }
+
+    fn back(&mut self, slot: Slot<M::Type>) -> BackReply<Slot<M::Type>>
+        requires { self.old ≡ counts_of Holding.Object }
+        ensures taken_back { IsTaken result }
+        ensures holds { self.new ≡ counts_of Holding.Nothing }
+    {
+        let mut locked = self.shared.lock.begin();
+        let reply = locked.back(&mut self.shares, slot);
+        self.shared.lock.end(locked);
+        reply
+    }
+
+    fn cancel(&mut self, held: Held) -> StepReply {
+        let mut spare = None;
+        let mut locked = self.shared.lock.begin();
+        let reply = locked.cancel(&mut self.shares, &mut spare, held);
+        self.shared.lock.end(locked);
+        drop(spare);
+        reply
+    }
+
+    fn status(&mut self) -> Status {
+        self.shared.status()
+    }
+
+    fn take(&mut self) -> TakeReply {
+        let mut locked = self.shared.lock.begin();
+        let reply = locked.take(&mut self.shares);
+        self.shared.lock.end(locked);
+        reply
+    }
+
+    fn resize(&mut self, limit: usize) -> Result<(), AllocError> {
+        self.shared.resize(limit)
+    }
+
+    fn retain<K: Retainer<M::Type>>(
+        &mut self,
+        retainer: &mut K,
+    ) -> Result<RetainResult<M::Type>, AllocError> {
+        self.shared.retain(retainer)
+    }
+
+    fn close(&mut self) {
+        self.shared.close();
+    }
+
+    fn clone_handle(&mut self) -> HandleReply {
+        self.shared.lock.begin().clone_handle()
+    }
+
+    fn drop_handle(&mut self) -> HandleReply {
+        self.shared.lock.begin().drop_handle()
+    }
+
+    fn upgrade(&mut self) -> bool {
+        self.shared.upgrade()
+    }
+}
+
+impl<
+    M: Manager + Drop,
+    F: SyncHook<M> + Drop,
+    A: AsyncHook<M> + Drop,
+    C: Clock + Drop,
+    R: Wait + Drop,
+    G: Ledger,
+    N: Ledger,
+    O: Ledger,
+> Seat<M, F, A, C, R, G, N, O> {
+    // A seat for a new get.
+    pub(crate) fn new(
+        shared: Arc<Shared<M, F, A, C, R, G, N, O>, Global>,
+        shares: Shares<G, N, O>,
+    ) -> Self
+        ensures { result ≡ shares }
+    {
+        Seat {
+            shared,
+            shares,
+            listener: Listener::new(),
+        }
+    }
+
+    // Has the task of this poll woken by the source, or by the steps of others once the get is queued.
+    pub(crate) fn listen(&mut self, source: &Source, cx: &mut Context<'_>)
+        ensures same { self.new ≡ self.old }
+        ensures armed { IsArmed cx.new }
+        ensures heard { Hears cx.new source.now.id }
+        ensures kept { Keeps cx.old cx.new }
+    {
+        self.listener.listen(Some(source), cx);
+    }
+
+    // What is left for the get when it has ended.
+    pub(crate) fn take_listener(&mut self) -> Listener
+        ensures { self.new ≡ self.old }
+    {
+        mem::replace(&mut self.listener, Listener::new())
+    }
+
+    pub(crate) fn shared(&self) -> &Arc<Shared<M, F, A, C, R, G, N, O>, Global> {
+        &self.shared
+    }
+
+    /// Gives an object back. The pool knows it, and the seat has nothing afterwards.
+    pub fn return_slot(&mut self, slot: Slot<M::Type>) -> BackReply<Slot<M::Type>>
+        requires { self.old ≡ counts_of Holding.Object }
+        ensures holds { self.new ≡ counts_of Holding.Nothing }
+        ensures known { IsTaken result }
+    {
+        self.back(slot)
+    }
+
+    /// Gives up the place of an object that leaves the pool for good. The pool knows it, and the seat has nothing
+    /// afterwards.
+    pub fn leave(&mut self) -> TakeReply
+        requires { self.old ≡ counts_of Holding.Object }
+        ensures holds { self.new ≡ counts_of Holding.Nothing }
+        ensures known { result ≢ TakeReply.Unknown }
+    {
+        self.take()
+    }
+}

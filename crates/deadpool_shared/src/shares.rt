@@ -1,0 +1,134 @@
+//! What is known of the three counts of a pool: three ledgers.
+ghost use Rattle.std.specs.Prelude.{◌≡◌, ◌≤◌, ◌<◌, IfSome};
+ghost use Rattle.deadpool_shared.specs.Opens.{Opens};
+ghost use Rattle.deadpool_shared.specs.Counts.{counts, counts_of, shifted};
+ghost use Rattle.deadpool_managed.specs.declared.desk.Holding.{Holding};
+
+use deadpool_managed::Holding;
+use std::marker::Model;
+use std::sync::ledger::{Blank, Book, Ledger, Share};
+
+/// What one holder has of the three counts. It takes no bytes.
+#[derive(Drop)]
+pub struct Shares<G: Ledger, N: Ledger, O: Ledger> {
+    going: Share<G>,
+    creations: Share<N>,
+    outside: Share<O>,
+}
+
+impl<G: Ledger, N: Ledger, O: Ledger> Model for Shares<G, N, O> {
+    ghost use Rattle.std.specs.Prelude.{◌≡◌};
+    ghost use Rattle.deadpool_shared.specs.Counts.{Counts, counts};
+
+    ghost Value = { Counts };
+
+    ghost view = { λ s. counts s.going.amount s.creations.amount s.outside.amount };
+
+    ghost invariant = { λ s. (s.going.parts ≡ 1) × (s.creations.parts ≡ 1) × (s.outside.parts ≡ 1) };
+}
+
+/// The totals of all shares, and the parts that nobody has. Each ledger has `u64::MAX` parts.
+#[derive(Drop)]
+pub struct Books<G: Ledger, N: Ledger, O: Ledger> {
+    going: Book<G>,
+    creations: Book<N>,
+    outside: Book<O>,
+    left: u64,
+    going_left: Share<G>,
+    creations_left: Share<N>,
+    outside_left: Share<O>,
+}
+
+impl<G: Ledger, N: Ledger, O: Ledger> Model for Books<G, N, O> {
+    ghost use Rattle.std.specs.Prelude.{◌≡◌};
+    ghost use Rattle.deadpool_shared.specs.Counts.{Counts, counts};
+
+    ghost Value = { Counts };
+
+    ghost view = { λ b. counts b.going.total b.creations.total b.outside.total };
+
+    ghost invariant = { λ b. (b.going_left.parts ≡ b.left) × (b.creations_left.parts ≡ b.left) × (b.outside_left.parts ≡ b.left) × (b.going_left.amount ≡ 0) × (b.creations_left.amount ≡ 0) × (b.outside_left.amount ≡ 0) };
+}
+
+// How many places, creations and objects a holder has.
+fn amounts(holding: Holding) -> (u64, u64, u64)
+    ensures { counts result.0 result.1 result.2 ≡ counts_of holding }
+{
+    match holding {
+        Holding::Nothing => (0, 0, 0),
+        Holding::Place => (1, 0, 0),
+        Holding::Creation => (0, 1, 0),
+        Holding::Object => (0, 0, 1),
+    }
+}
+
+impl<G: Ledger, N: Ledger, O: Ledger> Books<G, N, O> {
+    /// Three new ledgers, of which nobody has a share.
+    pub fn new(going: Blank, creations: Blank, outside: Blank) -> Self
+        requires going { Opens G.Ledger going }
+        requires creations { Opens N.Ledger creations }
+        requires outside { Opens O.Ledger outside }
+        ensures { result ≡ counts 0 0 0 }
+    {
+        let (going, going_left) = going.open::<G>();
+        let (creations, creations_left) = creations.open::<N>();
+        let (outside, outside_left) = outside.open::<O>();
+        Books {
+            going,
+            creations,
+            outside,
+            left: u64::MAX,
+            going_left,
+            creations_left,
+            outside_left,
+        }
+    }
+
+    /// Shares for one holder that has nothing yet, if a part of each ledger is left.
+    pub fn hand_out(&mut self) -> Option<Shares<G, N, O>>
+        ensures shares { IfSome result (λ shares. shares ≡ counts_of Holding.Nothing) }
+        ensures same { self.new ≡ self.old }
+    {
+        if self.left == 0 {
+            return None;
+        }
+        self.left -= 1;
+        let going = self.going_left.split_off(1, 0);
+        let creations = self.creations_left.split_off(1, 0);
+        let outside = self.outside_left.split_off(1, 0);
+        Some(Shares {
+            going,
+            creations,
+            outside,
+        })
+    }
+
+    /// No holder has more than the totals.
+    pub fn audit(&mut self, shares: &mut Shares<G, N, O>)
+        ensures totals { self.new ≡ self.old }
+        ensures shares { shares.new ≡ shares.old }
+        ensures going { shares.old.going ≤ self.old.going }
+        ensures creations { shares.old.creations ≤ self.old.creations }
+        ensures outside { shares.old.outside ≤ self.old.outside }
+    {
+        self.going.audit(&mut shares.going);
+        self.creations.audit(&mut shares.creations);
+        self.outside.audit(&mut shares.outside);
+    }
+
+    /// A holder has something else from now on.
+    pub fn shift(&mut self, shares: &mut Shares<G, N, O>, old: Holding, new: Holding)
+        requires { shares.old ≡ counts_of old }
+        ensures totals { self.new ≡ shifted old new self.old }
+        ensures shares { shares.new ≡ counts_of new }
+    {
+        let (going, creations, outside) = amounts(old);
+        self.going.sub(&mut shares.going, going);
+        self.creations.sub(&mut shares.creations, creations);
+        self.outside.sub(&mut shares.outside, outside);
+        let (going, creations, outside) = amounts(new);
+        self.going.add(&mut shares.going, going);
+        self.creations.add(&mut shares.creations, creations);
+        self.outside.add(&mut shares.outside, outside);
+    }
+}

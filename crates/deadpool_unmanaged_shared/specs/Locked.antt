@@ -1,0 +1,60 @@
+-- What is done under the lock of a pool.
+use Rattle.std.specs.Prelude.{◌≡◌, true, false, ◌⊎◌, is_some, if◌then◌else◌, List, Option, Some, None, Result, Err}
+use Rattle.std.specs.Option.{option_map_or}
+use Rattle.futures.specs.declared.task.Poll.{Poll}
+use Rattle.futures.specs.declared.task.Poll.TheVariants.{Ready}
+use Rattle.deadpool_lock.specs.Places.{waker_at}
+use Rattle.deadpool_parts.specs.Waking.{still_untold}
+use Rattle.deadpool_parts.specs.declared.moment.Moment.{Moment}
+use Rattle.deadpool_parts.specs.declared.moment.Runtime.{Runtime}
+use Rattle.deadpool_unmanaged.specs.State.{State, due_get, due_add}
+use Rattle.deadpool_unmanaged.specs.StateSteps.{GetEnters, AddEnters}
+use Rattle.deadpool_unmanaged.specs.Queueing.{get_joins, add_joins}
+use Rattle.deadpool_unmanaged.specs.Gets as gets
+use Rattle.deadpool_unmanaged.specs.Adds as adds
+use Rattle.deadpool_unmanaged.specs.declared.add.AddStage.{AddStage}
+use Rattle.deadpool_unmanaged.specs.declared.add.AddStage.TheVariants as adding
+use Rattle.deadpool_unmanaged.specs.declared.error.PoolError.{PoolError}
+use Rattle.deadpool_unmanaged.specs.declared.error.PoolError.TheVariants.{OutOfMemory}
+use Rattle.deadpool_unmanaged.specs.declared.get.GetStage.{GetStage}
+use Rattle.deadpool_unmanaged.specs.declared.get.GetStage.TheVariants as getting
+use Rattle.deadpool_unmanaged.specs.declared.steps.AddEnterReply.{AddEnterReply}
+use Rattle.deadpool_unmanaged.specs.declared.steps.GetEnterReply.{GetEnterReply}
+
+module _ {T : Type 0} where
+  -- One poll of a get, as its state is polled. Or it would join the queue, there is no memory for its waker, and it ends without a
+  -- step.
+  abbrev pub PollsGet : Option Runtime → Moment → GetStage → State T → Poll (Result T PoolError) → GetStage → State T → Type 0
+  PollsGet runtime now before d turn after d' =
+      gets.PollsGet runtime now before d turn after d'
+      ⊎ ((get_joins runtime now before d ≡ true) × (turn ≡ Ready (Err OutOfMemory)) × (after ≡ getting.Finished) × (d' ≡ d))
+
+  -- the same of an add, which then hands its object back
+  abbrev pub PollsAdd : AddStage T → State T → Poll (Result (Unit {0}) (T × PoolError)) → AddStage T → State T → Type 0
+  PollsAdd before d turn after d' =
+      adds.PollsAdd before d turn after d'
+      ⊎ ((value : T)
+      × ((adds.held_by before ≡ Some value)
+      × (add_joins before d ≡ true)
+      × (turn ≡ Ready (Err (value, OutOfMemory)))
+      × (after ≡ adding.Finished)
+      × (d' ≡ d)))
+
+  -- an entry that does not wait, by its reply
+  abbrev pub TriesGet : State T → Result T PoolError → State T → Type 0
+  TriesGet d got d' = (answer : GetEnterReply T) × (GetEnters d false answer d' × (Ready got ≡ gets.turn_entered answer))
+
+  abbrev pub TriesAdd : State T → T → Result (Unit {0}) (T × PoolError) → State T → Type 0
+  TriesAdd d value added d' = (answer : AddEnterReply T) × (AddEnters d value false answer d' × (Ready added ≡ adds.turn_entered answer))
+
+  -- the waker of the get that is to be told next, or of the add
+  abbrev pub next_waker : {W : Type 0} → State T → List (Option W) → List (Option W) → Option W
+  next_waker d of_gets of_adds =
+      option_map_or (λ t. waker_at t of_gets) (due_get d) (option_map_or (λ t. waker_at t of_adds) (due_add d) None)
+
+  -- and it has been told
+  abbrev pub told : State T → State T
+  told d =
+      if is_some (due_get d)
+      then record d { untold_gets = still_untold (due_get d) d.untold_gets }
+      else record d { untold_adds = still_untold (due_add d) d.untold_adds }

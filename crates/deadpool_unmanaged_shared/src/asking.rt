@@ -1,0 +1,169 @@
+//! What the futures of a pool ask: an object, one that leaves for good, or room.
+ghost use Rattle.std.specs.Prelude.{◌≡◌, Some, IfOk, IfErr};
+ghost use Rattle.deadpool_unmanaged.specs.Adds.{held_by};
+ghost use Rattle.futures.specs.Task.{Keeps};
+
+use crate::object::Object;
+use crate::shared::Shared;
+use deadpool_lock::{Listener, Request, wake_at};
+use deadpool_unmanaged::{AddState, Clock, GetState, PoolError};
+use futures::task::{Context, Poll};
+use std::alloc::Global;
+use std::sync::{Arc, Wait};
+
+/// A get that has not ended, with the pool's state for its object.
+#[derive(Drop)]
+pub struct Getting<T: Drop, C: Clock + Drop, R: Wait + Drop> {
+    pub(crate) state: GetState,
+    pub(crate) home: Arc<Shared<T, C, R>, Global>,
+}
+
+impl<T: Drop, C: Clock + Drop, R: Wait + Drop> Getting<T, C, R> {
+    // One poll, which comes back where it is pending.
+    fn ask(
+        self,
+        shared: &Shared<T, C, R>,
+        listener: &mut Listener,
+        cx: &mut Context<'_>,
+    ) -> Result<Self, Result<Object<T, C, R>, PoolError>>
+        ensures kept { Keeps cx.old cx.new }
+        ensures home { IfErr result (λ got. IfOk got (λ object. object.home ≡ self.home)) }
+        ensures waits { IfOk result (λ get. get.home ≡ self.home) }
+    {
+        let Getting { mut state, home } = self;
+        let now = shared.clock.now();
+        let mut locked = shared.lock.begin();
+        let (polled, spare) = locked.poll_get(&mut state, shared.runtime, now, listener.waker());
+        shared.lock.end(locked);
+        drop(spare);
+        match polled {
+            Poll::Ready(Ok(value)) => Err(Ok(Object { home, value })),
+            Poll::Ready(Err(cause)) => Err(Err(cause)),
+            Poll::Pending => {
+                wake_at(&shared.clock, state.deadline(), cx);
+                Ok(Getting { state, home })
+            }
+        }
+    }
+
+    fn give_up(self, shared: &Shared<T, C, R>) {
+        let Getting { state, home: _ } = self;
+        let mut locked = shared.lock.begin();
+        let spare = locked.cancel_get(state);
+        shared.lock.end(locked);
+        drop(spare);
+    }
+}
+
+impl<T: Drop, C: Clock + Drop, R: Wait + Drop> Request<Shared<T, C, R>> for Getting<T, C, R> {
+    type Output = Result<Object<T, C, R>, PoolError>;
+
+    type Refusal = ();
+
+    fn poll(
+        self,
+        shared: &Shared<T, C, R>,
+        listener: &mut Listener,
+        cx: &mut Context<'_>,
+    ) -> Result<Self, Result<Object<T, C, R>, PoolError>> {
+        self.ask(shared, listener, cx)
+    }
+
+    fn cancel(self, shared: &Shared<T, C, R>) {
+        self.give_up(shared);
+    }
+
+    fn refuse(_refusal: ()) -> Result<Object<T, C, R>, PoolError> {
+        Err(PoolError::OutOfMemory)
+    }
+}
+
+/// A removal that has not ended: a get whose object leaves for good.
+#[derive(Drop)]
+pub struct Removing<T: Drop, C: Clock + Drop, R: Wait + Drop> {
+    pub(crate) get: Getting<T, C, R>,
+}
+
+impl<T: Drop, C: Clock + Drop, R: Wait + Drop> Request<Shared<T, C, R>> for Removing<T, C, R> {
+    type Output = Result<T, PoolError>;
+
+    type Refusal = ();
+
+    fn poll(
+        self,
+        shared: &Shared<T, C, R>,
+        listener: &mut Listener,
+        cx: &mut Context<'_>,
+    ) -> Result<Self, Result<T, PoolError>> {
+        let Removing { get } = self;
+        match get.ask(shared, listener, cx) {
+            Ok(get) => Ok(Removing { get }),
+            Err(Ok(object)) => Err(Ok(Object::take(object))),
+            Err(Err(cause)) => Err(Err(cause)),
+        }
+    }
+
+    fn cancel(self, shared: &Shared<T, C, R>) {
+        let Removing { get } = self;
+        get.give_up(shared);
+    }
+
+    fn refuse(_refusal: ()) -> Result<T, PoolError> {
+        Err(PoolError::OutOfMemory)
+    }
+}
+
+/// An add that has not ended, with its object.
+#[derive(Drop)]
+pub struct Adding<T: Drop> {
+    pub(crate) state: AddState<T>,
+}
+
+impl<T: Drop> Adding<T> {
+    // One poll, which comes back where it is pending. What is refused is the add's own object.
+    fn ask<C: Clock + Drop, R: Wait + Drop>(
+        self,
+        shared: &Shared<T, C, R>,
+        listener: &mut Listener,
+    ) -> Result<Self, Result<(), (T, PoolError)>>
+        ensures { IfErr result (λ added. IfErr added (λ refused. held_by self.state ≡ Some refused.0)) }
+    {
+        let Adding { mut state } = self;
+        let mut locked = shared.lock.begin();
+        let (polled, spare) = locked.poll_add(&mut state, listener.waker());
+        shared.lock.end(locked);
+        drop(spare);
+        match polled {
+            Poll::Ready(added) => Err(added),
+            Poll::Pending => Ok(Adding { state }),
+        }
+    }
+}
+
+impl<T: Drop, C: Clock + Drop, R: Wait + Drop> Request<Shared<T, C, R>> for Adding<T> {
+    type Output = Result<(), (T, PoolError)>;
+
+    type Refusal = T;
+
+    fn poll(
+        self,
+        shared: &Shared<T, C, R>,
+        listener: &mut Listener,
+        _cx: &mut Context<'_>,
+    ) -> Result<Self, Result<(), (T, PoolError)>> {
+        self.ask(shared, listener)
+    }
+
+    fn cancel(self, shared: &Shared<T, C, R>) {
+        let Adding { state } = self;
+        let mut locked = shared.lock.begin();
+        let (value, spare) = locked.cancel_add(state);
+        shared.lock.end(locked);
+        drop(spare);
+        drop(value);
+    }
+
+    fn refuse(refusal: T) -> Result<(), (T, PoolError)> {
+        Err((refusal, PoolError::OutOfMemory))
+    }
+}
