@@ -1,12 +1,23 @@
 //! The managed pool: a manager creates its objects and recycles those that came back.
 //!
-//! It stands in a crate of its own, which knows no trial.
+//! A `PoolBuilder` builds it for threads and tasks, or opens it on one thread. It stands in crates of its own, which know
+//! no trial.
 
 pub use deadpool_managed::{
     AgainReply, AskReply, AsyncHook, BackReply, BuildError, ConfigError, Core, CreatePoolError,
     CreatedReply, Desk, EnterReply, Environment, FnHook, GetState, HandleReply, Held, Hook,
-    HookAnswer, HookError, HookResult, Hooks, Manager, Metrics, NoHook, ObjectId, OpenPool,
-    PoolBuilder, PoolConfig, PoolError, Position, Preparation, QueueMode, RecycleError,
-    RecycleResult, RetainResult, Retainer, Serving, Slot, Stage, Status, StepReply, SyncHook,
-    TakeReply, TimeoutType, Timeouts, Turn, laws,
+    HookAnswer, HookError, HookResult, Hooks, Manager, Metrics, NoHook, ObjectId, PoolConfig,
+    PoolError, Position, Preparation, QueueMode, RecycleError, RecycleResult, RetainResult,
+    Retainer, Serving, Slot, Stage, Status, StepReply, SyncHook, TakeReply, TimeoutType, Timeouts,
+    Turn, laws,
 };
+pub use deadpool_shared::{
+    Entry, Get, Journal, Object, OpenPool, Pool, PoolBuilder, PoolUser, Seat, WeakPool,
+};
+
+/// What a user of a pool names beside it, for a crate that gives a pool of its own out.
+pub mod reexports {
+    pub use deadpool_managed::{
+        Metrics, ObjectId, PoolConfig, Runtime, Status, TimeoutType, Timeouts,
+    };
+}

@@ -1,7 +1,6 @@
 pub mod Allowance
 pub mod Answers
 pub mod Bounds
-pub mod Building
 pub mod Calls
 pub mod CoreDesk
 pub mod CoreFields

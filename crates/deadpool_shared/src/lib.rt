@@ -15,7 +15,7 @@ mod shared;
 mod shares;
 mod user;
 
-pub use builder::PoolBuilder;
+pub use builder::{OpenPool, PoolBuilder};
 pub use deadpool_journal::{Entry, Journal};
 pub use get::Get;
 pub use object::Object;
