@@ -31,7 +31,6 @@ use std::test::Fail;
 /// A trial, and the task that its moves are made in.
 #[derive(Drop)]
 pub struct Bench<M: Manager + Drop, F: SyncHook<M> + Drop, A: AsyncHook<M> + Drop> {
-    alloc: Global,
     task: MockTask,
     trial: Trial<M, F, A, ()>,
 }
@@ -52,7 +51,6 @@ impl<M: Manager + Drop, F: SyncHook<M> + Drop, A: AsyncHook<M> + Drop> Bench<M, 
         gets: usize,
     ) -> Result<Self, Fail> {
         Ok(Bench {
-            alloc: rt.alloc(),
             task: MockTask::new(rt)?,
             trial: Trial::new(builder, gets, 0)?,
         })
@@ -63,31 +61,20 @@ impl<M: Manager + Drop, F: SyncHook<M> + Drop, A: AsyncHook<M> + Drop> Bench<M, 
         &mut self,
         moves: Vec<Move<M::Type>>,
     ) -> Result<Vec<Reply<M::Type, M::Error>>, Fail> {
-        let Bench {
-            alloc: _,
-            task,
-            trial,
-        } = self;
+        let Bench { task, trial } = self;
         task.enter(|cx| trial.run(moves, cx))
             .map_err(|_| Fail::new("no memory for the replies"))
     }
 
     /// Makes one move.
-    pub fn make(&mut self, next: Move<M::Type>) -> Result<Reply<M::Type, M::Error>, Fail> {
-        let Bench { alloc, task, trial } = self;
-        let mut moves = Vec::new(*alloc);
-        if moves.push(next).is_err() {
-            return Err(Fail::new("no memory for a move"));
-        }
-        let Ok(mut replies) = task.enter(|cx| trial.run(moves, cx)) else {
-            return Err(Fail::new("no memory for the replies"));
-        };
-        replies.pop().ok_or_else(|| Fail::new("no reply"))
+    pub fn make(&mut self, next: Move<M::Type>) -> Reply<M::Type, M::Error> {
+        let Bench { task, trial } = self;
+        task.enter(|cx| trial.make(next, cx))
     }
 
     /// Starts a get with the configured timeouts, and gives its number.
     pub fn start(&mut self) -> Result<usize, Fail> {
-        match self.make(Move::Start(None))? {
+        match self.make(Move::Start(None)) {
             Reply::Started(party) => Ok(party),
             _ => Err(Fail::new("no get was started")),
         }
@@ -99,7 +86,7 @@ impl<M: Manager + Drop, F: SyncHook<M> + Drop, A: AsyncHook<M> + Drop> Bench<M, 
         party: usize,
         now: u128,
     ) -> Result<Option<Result<usize, PoolError<M::Error>>>, Fail> {
-        match self.make(Move::Poll(party, Moment(now)))? {
+        match self.make(Move::Poll(party, Moment(now))) {
             Reply::Pending => Ok(None),
             Reply::Object(number) => Ok(Some(Ok(number))),
             Reply::Failed(cause) => Ok(Some(Err(cause))),
@@ -145,14 +132,14 @@ impl<M: Manager + Drop, F: SyncHook<M> + Drop, A: AsyncHook<M> + Drop> Bench<M, 
 
     /// An object comes back, and is kept.
     pub fn keep(&mut self, number: usize) -> Result<(), Fail> {
-        match self.make(Move::Back(number))? {
+        match self.make(Move::Back(number)) {
             Reply::Kept => Ok(()),
             _ => Err(Fail::new("not kept")),
         }
     }
 
     pub fn status(&mut self) -> Result<Status, Fail> {
-        match self.make(Move::Status)? {
+        match self.make(Move::Status) {
             Reply::Stands(status) => Ok(status),
             _ => Err(Fail::new("no status")),
         }

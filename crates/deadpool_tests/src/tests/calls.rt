@@ -39,7 +39,7 @@ fn bench_with_hook<'a, R: RandomSource + AllocGlobal>(
 
 // Starts a get with timeouts of its own.
 fn start_with(bench: &mut Counting<'_>, timeouts: Timeouts) -> Result<usize, Fail> {
-    match bench.make(Move::Start(Some(timeouts)))? {
+    match bench.make(Move::Start(Some(timeouts))) {
         Reply::Started(party) => Ok(party),
         _ => Err(Fail::new("no get was started")),
     }
@@ -113,16 +113,16 @@ fn what_is_given_up_is_detached_once(rt: HostRuntime) -> Result<(), Fail> {
     calls.answers.set(false);
     let party = bench.start()?;
     assert!(rt; bench.poll(party, 0)?.is_none());
-    assert!(rt; matches!(bench.make(Move::Cancel(party))?, Reply::Cancelled));
+    assert!(rt; matches!(bench.make(Move::Cancel(party)), Reply::Cancelled));
     assert_eq!(rt; calls.detached.get(), 2);
     calls.answers.set(true);
 
     // One that is taken, and one that comes back above the limit.
     assert_eq!(rt; (bench.object()?, bench.object()?), (2, 3));
-    assert!(rt; matches!(bench.make(Move::Take(2))?, Reply::Taken(0)));
+    assert!(rt; matches!(bench.make(Move::Take(2)), Reply::Taken(0)));
     assert_eq!(rt; calls.detached.get(), 3);
-    assert!(rt; matches!(bench.make(Move::Resize(0))?, Reply::Done));
-    assert!(rt; matches!(bench.make(Move::Back(3))?, Reply::Detached));
+    assert!(rt; matches!(bench.make(Move::Resize(0)), Reply::Done));
+    assert!(rt; matches!(bench.make(Move::Back(3)), Reply::Detached));
     assert_eq!(rt; calls.detached.get(), 4);
     assert_eq!(rt; bench.status()?, stands(0, 0, 0, 0));
     Ok(())
@@ -140,7 +140,7 @@ fn a_new_object_that_is_given_up_is_detached_once(rt: HostRuntime) -> Result<(),
     let party = stalling.start()?;
     assert!(rt; stalling.poll(party, 0)?.is_none());
     assert_eq!(rt; (calls.created.get(), calls.detached.get()), (2, 1));
-    assert!(rt; matches!(stalling.make(Move::Cancel(party))?, Reply::Cancelled));
+    assert!(rt; matches!(stalling.make(Move::Cancel(party)), Reply::Cancelled));
     assert_eq!(rt; (calls.created.get(), calls.detached.get()), (2, 2));
     Ok(())
 }
@@ -155,7 +155,7 @@ fn what_the_owner_gives_up(rt: HostRuntime) -> Result<(), Fail> {
 
     // Who is not retained is detached. A retain with nothing idle detaches nothing.
     for detached in [2, 2] {
-        let Reply::Retained(result) = bench.make(Move::Retain(Vec::new(rt.alloc())))? else {
+        let Reply::Retained(result) = bench.make(Move::Retain(Vec::new(rt.alloc()))) else {
             return Err(Fail::new("not retained"));
         };
         assert_eq!(rt; (result.retained, calls.detached.get()), (0, detached));
@@ -164,15 +164,15 @@ fn what_the_owner_gives_up(rt: HostRuntime) -> Result<(), Fail> {
     // Who falls to a smaller limit is not.
     let (third, fourth) = (bench.object()?, bench.object()?);
     bench.keep(third)?;
-    assert!(rt; matches!(bench.make(Move::Resize(1))?, Reply::Done));
+    assert!(rt; matches!(bench.make(Move::Resize(1)), Reply::Done));
     assert_eq!(rt; bench.status()?, stands(1, 1, 0, 0));
 
     // Nor is one that comes back, or is taken, where no handle is left.
-    assert!(rt; matches!(bench.make(Move::Resize(2))?, Reply::Done));
+    assert!(rt; matches!(bench.make(Move::Resize(2)), Reply::Done));
     let fifth = bench.object()?;
-    assert!(rt; matches!(bench.make(Move::DropHandle)?, Reply::Done));
-    assert!(rt; matches!(bench.make(Move::Back(fourth))?, Reply::Dropped));
-    assert!(rt; matches!(bench.make(Move::Take(fifth))?, Reply::Taken(0)));
+    assert!(rt; matches!(bench.make(Move::DropHandle), Reply::Done));
+    assert!(rt; matches!(bench.make(Move::Back(fourth)), Reply::Dropped));
+    assert!(rt; matches!(bench.make(Move::Take(fifth)), Reply::Taken(0)));
     assert_eq!(rt; (calls.created.get(), calls.detached.get()), (5, 2));
     Ok(())
 }

@@ -119,7 +119,7 @@ fn a_trial_has_a_large_limit(rt: HostRuntime) -> Result<(), Fail> {
     assert_eq!(rt; bench.status()?, stands(LARGE, 0, 0, 0));
     for limit in [1, LARGE, 2 * LARGE] {
         assert!(rt;
-            matches!(bench.make(Move::Resize(limit))?, Reply::Done),
+            matches!(bench.make(Move::Resize(limit)), Reply::Done),
             "{limit}"
         );
         assert_eq!(rt; bench.status()?, stands(limit, 0, 0, 0));

@@ -40,7 +40,7 @@ fn a_new_pool_and_its_owner_ask_nothing(rt: HostRuntime) -> Result<(), Fail> {
         Move::Resize(2),
         Move::Back(0),
     ] {
-        let reply = bench.make(next)?;
+        let reply = bench.make(next);
         assert!(rt; !matches!(reply, Reply::NoSuch | Reply::NoHandle | Reply::OutOfMemory));
         assert_eq!(rt; calls.counts(), ONE_CREATION);
     }
@@ -55,9 +55,9 @@ fn idle_objects_go_unasked(rt: HostRuntime) -> Result<(), Fail> {
         let mut bench = bench(&rt, &calls)?;
         bench.idle(1)?;
         let kept = vec![in rt.alloc(); 0]?;
-        assert!(rt; matches!(bench.make(Move::Retain(kept))?, Reply::Retained(_)));
+        assert!(rt; matches!(bench.make(Move::Retain(kept)), Reply::Retained(_)));
         assert_eq!(rt; calls.counts(), ONE_CREATION);
-        assert!(rt; matches!(bench.make(last)?, Reply::Done));
+        assert!(rt; matches!(bench.make(last), Reply::Done));
         assert_eq!(rt; calls.counts(), ONE_CREATION);
     }
     Ok(())

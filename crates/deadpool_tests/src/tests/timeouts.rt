@@ -90,7 +90,7 @@ fn a_get_has_the_configured_timeouts_or_its_own(rt: HostRuntime) -> Result<(), F
         .runtime(Runtime::Clock);
     let mut bench = Bench::new(&rt, builder)?;
     assert_eq!(rt; bench.object()?, 0);
-    let patient = match bench.make(Move::Start(Some(NO_TIMEOUTS)))? {
+    let patient = match bench.make(Move::Start(Some(NO_TIMEOUTS))) {
         Reply::Started(party) => party,
         _ => return Err(Fail::new("no get was started")),
     };

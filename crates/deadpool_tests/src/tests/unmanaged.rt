@@ -14,14 +14,12 @@ use std::time::Duration;
 /// A trial of numbers, by one move at a time.
 #[derive(Drop)]
 struct Bench {
-    alloc: Global,
     trial: Trial<u64>,
 }
 
 impl Bench {
     fn new(alloc: Global, max_size: usize) -> Result<Self, Fail> {
         Ok(Bench {
-            alloc,
             trial: Trial::new(alloc, max_size, None, 8)?,
         })
     }
@@ -35,30 +33,26 @@ impl Bench {
         Ok(bench)
     }
 
-    fn make(&mut self, next: Move<u64>) -> Result<Reply<u64>, Fail> {
-        let moves = vec![in self.alloc; next]?;
-        let Ok(mut replies) = self.trial.run(moves) else {
-            return Err(Fail::new("no memory for the replies"));
-        };
-        replies.pop().ok_or_else(|| Fail::new("no reply"))
+    fn make(&mut self, next: Move<u64>) -> Reply<u64> {
+        self.trial.make(next)
     }
 
     /// Starts a get or an add, and gives its number.
     fn start(&mut self, next: Move<u64>) -> Result<usize, Fail> {
-        match self.make(next)? {
+        match self.make(next) {
             Reply::Started(party) => Ok(party),
             _ => Err(Fail::new("nobody was started")),
         }
     }
 
-    fn poll(&mut self, party: usize) -> Result<Reply<u64>, Fail> {
+    fn poll(&mut self, party: usize) -> Reply<u64> {
         self.make(Move::Poll(party, Moment(0)))
     }
 
     /// An add that ends in its first poll.
     fn add_at_once(&mut self, value: u64) -> Result<usize, Fail> {
         let party = self.start(Move::Add(value))?;
-        match self.poll(party)? {
+        match self.poll(party) {
             Reply::Added(number) => Ok(number),
             _ => Err(Fail::new("not added")),
         }
@@ -66,7 +60,7 @@ impl Bench {
 
     /// An add that does not wait, and finds room.
     fn try_add(&mut self, value: u64) -> Result<usize, Fail> {
-        match self.make(Move::TryAdd(value))? {
+        match self.make(Move::TryAdd(value)) {
             Reply::Added(number) => Ok(number),
             _ => Err(Fail::new("not added")),
         }
@@ -75,7 +69,7 @@ impl Bench {
     /// A get that ends in its first poll.
     fn get_at_once(&mut self) -> Result<usize, Fail> {
         let party = self.start(Move::Get(None))?;
-        match self.poll(party)? {
+        match self.poll(party) {
             Reply::Object(number) => Ok(number),
             _ => Err(Fail::new("no object")),
         }
@@ -83,21 +77,21 @@ impl Bench {
 
     /// An object that is free is taken out, and leaves the pool.
     fn try_remove(&mut self) -> Result<u64, Fail> {
-        match self.make(Move::TryGet)? {
+        match self.make(Move::TryGet) {
             Reply::Object(number) => self.take(number),
             _ => Err(Fail::new("no object")),
         }
     }
 
     fn take(&mut self, number: usize) -> Result<u64, Fail> {
-        match self.make(Move::Take(number))? {
+        match self.make(Move::Take(number)) {
             Reply::Taken(value) => Ok(value),
             _ => Err(Fail::new("not taken")),
         }
     }
 
     fn status(&mut self) -> Result<Status, Fail> {
-        match self.make(Move::Status)? {
+        match self.make(Move::Status) {
             Reply::Stands(status) => Ok(status),
             _ => Err(Fail::new("no status")),
         }
@@ -109,13 +103,13 @@ impl Bench {
 
     /// Whether a move is refused since the pool is closed.
     fn is_refused(&mut self, next: Move<u64>) -> Result<bool, Fail> {
-        Ok(matches!(self.make(next)?, Reply::Failed(PoolError::Closed)))
+        Ok(matches!(self.make(next), Reply::Failed(PoolError::Closed)))
     }
 
     /// Starts a get or an add that has to wait, and gives its number.
     fn waits(&mut self, next: Move<u64>) -> Result<usize, Fail> {
         let party = self.start(next)?;
-        match self.poll(party)? {
+        match self.poll(party) {
             Reply::Pending => Ok(party),
             _ => Err(Fail::new("not pending")),
         }
@@ -152,7 +146,7 @@ fn a_closed_pool_refuses_all(rt: HostRuntime) -> Result<(), Fail> {
     let number = bench.get_at_once()?;
     let waiting = bench.waits(Move::Get(None))?;
     assert_eq!(rt; bench.status()?, stands(1, 1, 0, 1));
-    assert!(rt; matches!(bench.make(Move::Close)?, Reply::Done));
+    assert!(rt; matches!(bench.make(Move::Close), Reply::Done));
 
     let late = bench.start(Move::Get(None))?;
     for party in [waiting, late] {
@@ -161,7 +155,7 @@ fn a_closed_pool_refuses_all(rt: HostRuntime) -> Result<(), Fail> {
     assert!(rt; bench.is_refused(Move::TryGet)?);
     assert_eq!(rt; bench.status()?, stands(1, 1, 0, 0));
 
-    assert!(rt; matches!(bench.make(Move::Back(number))?, Reply::Dropped));
+    assert!(rt; matches!(bench.make(Move::Back(number)), Reply::Dropped));
     assert!(rt; bench.is_refused(Move::TryGet)?);
     assert_eq!(rt; bench.status()?, stands(1, 0, 0, 0));
     Ok(())
@@ -177,7 +171,7 @@ fn adds_and_removals(rt: HostRuntime) -> Result<(), Fail> {
 
     // The third waits, and is given up.
     let third = bench.waits(Move::Add(3))?;
-    assert!(rt; matches!(bench.make(Move::Cancel(third))?, Reply::Cancelled));
+    assert!(rt; matches!(bench.make(Move::Cancel(third)), Reply::Cancelled));
     assert_eq!(rt; bench.size()?, 2);
 
     bench.removes(&[(2, 1)])?;
@@ -194,7 +188,7 @@ fn adds_and_removals_that_do_not_wait(rt: HostRuntime) -> Result<(), Fail> {
         assert_eq!(rt; bench.size()?, size);
     }
 
-    let refused = bench.make(Move::TryAdd(3))?;
+    let refused = bench.make(Move::TryAdd(3));
     assert!(rt; matches!(refused, Reply::Refused(PoolError::Timeout, 3)));
     assert_eq!(rt; bench.size()?, 2);
 
@@ -209,10 +203,10 @@ fn adds_and_removals_that_do_not_wait(rt: HostRuntime) -> Result<(), Fail> {
 fn an_add_waits_for_room(rt: HostRuntime) -> Result<(), Fail> {
     let mut bench = Bench::with_items(rt.alloc(), &[1])?;
     let add = bench.start(Move::Add(2))?;
-    assert!(rt; matches!(bench.poll(add)?, Reply::Pending));
+    assert!(rt; matches!(bench.poll(add), Reply::Pending));
     assert_eq!(rt; bench.size()?, 1);
     assert_eq!(rt; bench.try_remove()?, 1);
-    assert!(rt; matches!(bench.poll(add)?, Reply::Added(1)));
+    assert!(rt; matches!(bench.poll(add), Reply::Added(1)));
     assert_eq!(rt; bench.size()?, 1);
     assert_eq!(rt; bench.try_remove()?, 2);
     Ok(())
