@@ -1,9 +1,10 @@
 //! Whole lists of moves, one after another on one trial.
-use super::managers::Counter;
+use super::managers::{Counter, Refused};
 use super::{Bench, stands};
 use deadpool::Moment;
 use deadpool::managed::{NoHook, PoolBuilder, QueueMode};
 use deadpool::replay::{Move, Reply};
+use std::alloc::Global;
 use std::random::RandomSource;
 use std::test::Fail;
 
@@ -20,62 +21,96 @@ fn bench<R: RandomSource + AllocGlobal>(
     Bench::new(rt, builder)
 }
 
-#[test]
-fn a_list_that_waits_and_one_that_goes_on(rt: HostRuntime) -> Result<(), Fail> {
-    let mut bench = bench(&rt, 1, QueueMode::Fifo)?;
-    let moves = vec![in rt.alloc();
-        Move::Start(None),
-        Move::Poll(0, Moment(0)),
-        Move::Start(None),
-        Move::Poll(1, Moment(0)),
-        Move::Start(None),
-        Move::Poll(2, Moment(0)),
-    ]?;
-    let replies = bench.run(moves)?;
-    assert!(rt;
-        matches!(
-            replies.as_slice(),
-            [
-                Reply::Started(0),
-                Reply::Object(0),
-                Reply::Started(1),
-                Reply::Pending,
-                Reply::Started(2),
-                Reply::Pending
-            ]
-        )
-    );
-    assert_eq!(rt; bench.status()?, stands(1, 1, 0, 2));
+type CounterReply = Reply<u64, Refused>;
 
-    let moves = vec![in rt.alloc();
+// So many gets start, each polled as soon as it has.
+fn gets(alloc: Global, count: usize) -> Result<Vec<Move<u64>>, Fail> {
+    let mut moves = Vec::new(alloc);
+    for party in 0..count {
+        moves.push(Move::Start(None))?;
+        moves.push(Move::Poll(party, Moment(0)))?;
+    }
+    Ok(moves)
+}
+
+// Of three gets the first has the object.
+fn is_first_served(replies: &[CounterReply]) -> bool {
+    matches!(
+        replies,
+        [
+            Reply::Started(0),
+            Reply::Object(0),
+            Reply::Started(1),
+            Reply::Pending,
+            Reply::Started(2),
+            Reply::Pending
+        ]
+    )
+}
+
+// The object comes back, and the second get is given up.
+fn passes_the_second_over(alloc: Global) -> Result<Vec<Move<u64>>, Fail> {
+    Ok(vec![in alloc;
         Move::Back(0),
         Move::Cancel(1),
         Move::Poll(2, Moment(0)),
         Move::Poll(1, Moment(0)),
-    ]?;
-    let replies = bench.run(moves)?;
-    assert!(rt;
-        matches!(
-            replies.as_slice(),
-            [
-                Reply::Kept,
-                Reply::Cancelled,
-                Reply::Object(0),
-                Reply::NoSuch
-            ]
-        )
-    );
+    ]?)
+}
+
+fn is_third_served(replies: &[CounterReply]) -> bool {
+    matches!(
+        replies,
+        [
+            Reply::Kept,
+            Reply::Cancelled,
+            Reply::Object(0),
+            Reply::NoSuch
+        ]
+    )
+}
+
+#[test]
+fn a_list_that_waits_and_one_that_goes_on(rt: HostRuntime) -> Result<(), Fail> {
+    let mut bench = bench(&rt, 1, QueueMode::Fifo)?;
+    let replies = bench.run(gets(rt.alloc(), 3)?)?;
+    assert!(rt; is_first_served(&replies));
+    assert_eq!(rt; bench.status()?, stands(1, 1, 0, 2));
+
+    let replies = bench.run(passes_the_second_over(rt.alloc())?)?;
+    assert!(rt; is_third_served(&replies));
     assert_eq!(rt; bench.status()?, stands(1, 1, 0, 0));
     Ok(())
+}
+
+// A get starts, and two of the idle objects are kept.
+fn starts_and_retains(alloc: Global) -> Result<Vec<Move<u64>>, Fail> {
+    let kept = vec![in alloc; 1, 3]?;
+    Ok(vec![in alloc; Move::Start(None), Move::Retain(kept)]?)
+}
+
+// The get is polled at a pool that shrinks and closes then.
+fn polls_and_shrinks(alloc: Global) -> Result<Vec<Move<u64>>, Fail> {
+    Ok(vec![in alloc;
+        Move::Poll(4, Moment(0)),
+        Move::Resize(1),
+        Move::Close,
+        Move::Take(3),
+    ]?)
+}
+
+fn is_served_and_taken(replies: &[CounterReply]) -> bool {
+    matches!(
+        replies,
+        [Reply::Object(3), Reply::Done, Reply::Done, Reply::Taken(3)]
+    )
 }
 
 #[test]
 fn a_list_that_retains_and_one_that_shrinks(rt: HostRuntime) -> Result<(), Fail> {
     let mut bench = bench(&rt, 4, QueueMode::Lifo)?;
     bench.idle(4)?;
-    let kept = vec![in rt.alloc(); 1, 3]?;
-    let moves = vec![in rt.alloc(); Move::Start(None), Move::Retain(kept)]?;
-    let mut replies = bench.run(moves)?;
+    let mut replies = bench.run(starts_and_retains(rt.alloc())?)?;
     let Some(Reply::Retained(result)) = replies.pop() else {
         return Err(Fail::new("not retained"));
     };
@@ -83,19 +118,8 @@ fn a_list_that_retains_and_one_that_shrinks(rt: HostRuntime) -> Result<(), Fail>
     assert_eq!(rt; result.removed.as_slice(), [0, 2].as_slice());
     assert!(rt; matches!(replies.as_slice(), [Reply::Started(4)]));
 
-    let moves = vec![in rt.alloc();
-        Move::Poll(4, Moment(0)),
-        Move::Resize(1),
-        Move::Close,
-        Move::Take(3),
-    ]?;
-    let replies = bench.run(moves)?;
-    assert!(rt;
-        matches!(
-            replies.as_slice(),
-            [Reply::Object(3), Reply::Done, Reply::Done, Reply::Taken(3)]
-        )
-    );
+    let replies = bench.run(polls_and_shrinks(rt.alloc())?)?;
+    assert!(rt; is_served_and_taken(&replies));
     assert_eq!(rt; bench.status()?, stands(0, 0, 0, 0));
     Ok(())
 }

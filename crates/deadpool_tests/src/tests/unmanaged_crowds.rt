@@ -25,40 +25,51 @@ fn status(trial: &mut Trial<u64>, alloc: Global) -> Result<Status, Fail> {
     }
 }
 
+// The pool is filled, an add waits, and an object goes out.
+fn fills_and_gets(alloc: Global) -> Result<Vec<Move<u64>>, Fail> {
+    let mut moves = Vec::new(alloc);
+    for value in 1..4 {
+        moves.push(Move::TryAdd(value))?;
+    }
+    moves.push(Move::Add(3))?;
+    moves.push(Move::Poll(0, Moment(0)))?;
+    moves.push(Move::TryGet)?;
+    Ok(moves)
+}
+
+fn is_filled(replies: &[Reply<u64>]) -> bool {
+    matches!(
+        replies,
+        [
+            Reply::Added(0),
+            Reply::Added(1),
+            Reply::Refused(_, 3),
+            Reply::Started(0),
+            Reply::Pending,
+            Reply::Object(1)
+        ]
+    )
+}
+
+// The object leaves the pool, and the add that waited goes on.
+fn takes_and_gets(alloc: Global) -> Result<Vec<Move<u64>>, Fail> {
+    Ok(vec![in alloc; Move::Take(1), Move::Poll(0, Moment(0)), Move::TryGet]?)
+}
+
+fn is_added(replies: &[Reply<u64>]) -> bool {
+    matches!(
+        replies,
+        [Reply::Taken(2), Reply::Added(3), Reply::Object(3)]
+    )
+}
+
 #[test]
 fn a_list_that_adds_and_one_that_goes_on(rt: HostRuntime) -> Result<(), Fail> {
     let mut trial = Trial::new(rt.alloc(), 2, None, 4)?;
-    let moves = vec![in rt.alloc();
-        Move::TryAdd(1),
-        Move::TryAdd(2),
-        Move::TryAdd(3),
-        Move::Add(3),
-        Move::Poll(0, Moment(0)),
-        Move::TryGet,
-    ]?;
-    let replies = run(&mut trial, moves)?;
-    assert!(rt;
-        matches!(
-            replies.as_slice(),
-            [
-                Reply::Added(0),
-                Reply::Added(1),
-                Reply::Refused(_, 3),
-                Reply::Started(0),
-                Reply::Pending,
-                Reply::Object(1)
-            ]
-        )
-    );
-
-    let moves = vec![in rt.alloc(); Move::Take(1), Move::Poll(0, Moment(0)), Move::TryGet]?;
-    let replies = run(&mut trial, moves)?;
-    assert!(rt;
-        matches!(
-            replies.as_slice(),
-            [Reply::Taken(2), Reply::Added(3), Reply::Object(3)]
-        )
-    );
+    let replies = run(&mut trial, fills_and_gets(rt.alloc())?)?;
+    assert!(rt; is_filled(&replies));
+    let replies = run(&mut trial, takes_and_gets(rt.alloc())?)?;
+    assert!(rt; is_added(&replies));
     assert_eq!(rt; status(&mut trial, rt.alloc())?, stands(2, 2, 1, 0));
     Ok(())
 }
