@@ -54,8 +54,7 @@ after_cancel d held.Place = settled (record d { going = d.going - 1 })
 after_cancel d held.Creation = settled (record d { creations = d.creations - 1 })
 after_cancel d held.Object = settled (record d { outside = d.outside - 1 })
 
--- The state after an entry. Of its reply it takes what the state does not say: the ticket, a refusal for memory, and what a
--- retain removed.
+-- The state after an entry. It goes by the reply: which one it is, the ticket, and what a retain removed.
 abbrev pub after : DeskState ℕ → Entry → DeskState ℕ
 after d (Enter wait (enter.Served served)) = after_serving d served
 after d (Enter wait (enter.Waiting ticket)) = record d { waiting = d.waiting ++ ticket ∷ [] }

@@ -1,4 +1,6 @@
-//! What no clause says: which entries some steps make, their texts, and that a full journal is left as it is.
+//! What no clause says: which entries some steps make, their texts, what makes two differ, and that a full journal is left as
+//! it is.
+mod equality;
 mod full;
 mod rows;
 mod texts;
