@@ -8,6 +8,7 @@ mod min_idle;
 mod own_steps;
 mod preparation;
 mod program;
+mod rare_replies;
 mod refused;
 mod streams;
 mod timeouts;
@@ -54,7 +55,8 @@ pub fn play<R: RandomSource + AllocGlobal>(
     Ok((String::from_utf8(written)?, ending))
 }
 
-fn replies_as_written<R: RandomSource + AllocGlobal + Abort>(
+/// Plays each script, and compares what it writes.
+pub fn replies_as_written<R: RandomSource + AllocGlobal + Abort>(
     rt: &R,
     scripts: &[(&str, Lines)],
 ) -> Result<(), Fail> {
@@ -66,17 +68,4 @@ fn replies_as_written<R: RandomSource + AllocGlobal + Abort>(
         assert_eq!(rt; ending, Ok(()), "in {name}");
     }
     Ok(())
-}
-
-#[test]
-fn scripts_have_their_replies(rt: HostRuntime) -> Result<(), Fail> {
-    replies_as_written(&rt, &first_path::SCRIPTS)?;
-    replies_as_written(&rt, &preparation::SCRIPTS)?;
-    replies_as_written(&rt, &timeouts::SCRIPTS)?;
-    replies_as_written(&rt, &cancelled::SCRIPTS)?;
-    replies_as_written(&rt, &limits::SCRIPTS)?;
-    replies_as_written(&rt, &own_steps::SCRIPTS)?;
-    replies_as_written(&rt, &configuration::SCRIPTS)?;
-    replies_as_written(&rt, &min_idle::SCRIPTS)?;
-    replies_as_written(&rt, &unmanaged::SCRIPTS)
 }

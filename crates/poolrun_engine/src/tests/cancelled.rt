@@ -1,7 +1,8 @@
 //! Scripts of a get that is cancelled, whose place one in the queue is then given.
-use super::Lines;
+use super::{Lines, replies_as_written};
+use std::test::Fail;
 
-pub const SCRIPTS: [(&'static str, Lines); 6] = [
+const SCRIPTS: [(&'static str, Lines); 6] = [
     (
         "cancelled-while-queued",
         &[
@@ -116,3 +117,8 @@ pub const SCRIPTS: [(&'static str, Lines); 6] = [
         ],
     ),
 ];
+
+#[test]
+fn scripts_have_their_replies(rt: HostRuntime) -> Result<(), Fail> {
+    replies_as_written(&rt, &SCRIPTS)
+}

@@ -1,7 +1,8 @@
 //! Scripts whose pool is configured by a text.
-use super::Lines;
+use super::{Lines, replies_as_written};
+use std::test::Fail;
 
-pub const SCRIPTS: [(&'static str, Lines); 3] = [
+const SCRIPTS: [(&'static str, Lines); 3] = [
     (
         "all-timeouts-zero",
         &[
@@ -83,3 +84,8 @@ pub const SCRIPTS: [(&'static str, Lines); 3] = [
         ],
     ),
 ];
+
+#[test]
+fn scripts_have_their_replies(rt: HostRuntime) -> Result<(), Fail> {
+    replies_as_written(&rt, &SCRIPTS)
+}

@@ -1,7 +1,8 @@
 //! Scripts of gets that create, wait and come back.
-use super::Lines;
+use super::{Lines, replies_as_written};
+use std::test::Fail;
 
-pub const SCRIPTS: [(&'static str, Lines); 4] = [
+const SCRIPTS: [(&'static str, Lines); 4] = [
     (
         "first-run",
         &[
@@ -66,3 +67,8 @@ pub const SCRIPTS: [(&'static str, Lines); 4] = [
         ],
     ),
 ];
+
+#[test]
+fn scripts_have_their_replies(rt: HostRuntime) -> Result<(), Fail> {
+    replies_as_written(&rt, &SCRIPTS)
+}

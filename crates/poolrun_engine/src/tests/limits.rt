@@ -1,7 +1,8 @@
 //! Scripts at the ends of the language: the greatest numbers, waits of zero, refused pools.
-use super::Lines;
+use super::{Lines, replies_as_written};
+use std::test::Fail;
 
-pub const SCRIPTS: [(&'static str, Lines); 7] = [
+const SCRIPTS: [(&'static str, Lines); 7] = [
     (
         "greatest-numbers",
         &[
@@ -115,3 +116,8 @@ pub const SCRIPTS: [(&'static str, Lines); 7] = [
         ],
     ),
 ];
+
+#[test]
+fn scripts_have_their_replies(rt: HostRuntime) -> Result<(), Fail> {
+    replies_as_written(&rt, &SCRIPTS)
+}

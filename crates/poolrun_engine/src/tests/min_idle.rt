@@ -1,9 +1,9 @@
 //! Scripts over pools that keep a least number of objects idle.
-use super::{Lines, play};
+use super::{Lines, play, replies_as_written};
 use crate::fault::Fault;
 use std::test::Fail;
 
-pub const SCRIPTS: [(&'static str, Lines); 17] = [
+const SCRIPTS: [(&'static str, Lines); 17] = [
     (
         "floor-under-shrink-and-retain",
         &[
@@ -352,6 +352,11 @@ pub const SCRIPTS: [(&'static str, Lines); 17] = [
         ],
     ),
 ];
+
+#[test]
+fn scripts_have_their_replies(rt: HostRuntime) -> Result<(), Fail> {
+    replies_as_written(&rt, &SCRIPTS)
+}
 
 // Each as the first line.
 const BAD_LINES: [&[u8]; 8] = [

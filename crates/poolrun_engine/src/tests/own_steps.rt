@@ -1,7 +1,8 @@
 //! Scripts with the owner's steps: take, resize, retain, close, and the count of pool handles.
-use super::Lines;
+use super::{Lines, replies_as_written};
+use std::test::Fail;
 
-pub const SCRIPTS: [(&'static str, Lines); 23] = [
+const SCRIPTS: [(&'static str, Lines); 23] = [
     (
         "clone-and-two-drops",
         &[
@@ -437,3 +438,8 @@ pub const SCRIPTS: [(&'static str, Lines); 23] = [
         ],
     ),
 ];
+
+#[test]
+fn scripts_have_their_replies(rt: HostRuntime) -> Result<(), Fail> {
+    replies_as_written(&rt, &SCRIPTS)
+}

@@ -1,7 +1,8 @@
 //! Scripts of managers and hooks that are pending, refuse or change an object.
-use super::Lines;
+use super::{Lines, replies_as_written};
+use std::test::Fail;
 
-pub const SCRIPTS: [(&'static str, Lines); 6] = [
+const SCRIPTS: [(&'static str, Lines); 6] = [
     (
         "allowance-used-up",
         &[
@@ -135,3 +136,8 @@ pub const SCRIPTS: [(&'static str, Lines); 6] = [
         ],
     ),
 ];
+
+#[test]
+fn scripts_have_their_replies(rt: HostRuntime) -> Result<(), Fail> {
+    replies_as_written(&rt, &SCRIPTS)
+}

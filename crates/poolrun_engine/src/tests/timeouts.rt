@@ -1,7 +1,8 @@
 //! Scripts of timeouts, and of gets that are cancelled.
-use super::Lines;
+use super::{Lines, replies_as_written};
+use std::test::Fail;
 
-pub const SCRIPTS: [(&'static str, Lines); 12] = [
+const SCRIPTS: [(&'static str, Lines); 12] = [
     (
         "cancelled-at-each-pending-call",
         &[
@@ -193,3 +194,8 @@ pub const SCRIPTS: [(&'static str, Lines); 12] = [
         ],
     ),
 ];
+
+#[test]
+fn scripts_have_their_replies(rt: HostRuntime) -> Result<(), Fail> {
+    replies_as_written(&rt, &SCRIPTS)
+}

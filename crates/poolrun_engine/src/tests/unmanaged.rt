@@ -1,12 +1,8 @@
 //! Scripts of unmanaged pools.
-use super::Lines;
-use crate::opening::UnmanagedTrial;
-use crate::texts::write_unmanaged;
-use deadpool::replay::unmanaged::Reply;
-use deadpool::unmanaged::PoolError;
+use super::{Lines, replies_as_written};
 use std::test::Fail;
 
-pub const SCRIPTS: [(&'static str, Lines); 24] = [
+const SCRIPTS: [(&'static str, Lines); 24] = [
     (
         "add-and-remove",
         &[
@@ -476,25 +472,7 @@ pub const SCRIPTS: [(&'static str, Lines); 24] = [
     ),
 ];
 
-// Replies that no script of ours can bring about: they need 2^64 - 1 adds, or a queue without memory.
 #[test]
-fn rare_replies_have_their_lines(rt: HostRuntime) -> Result<(), Fail> {
-    let trial = UnmanagedTrial::new(rt.alloc(), 1, None, 1)?;
-    for (reply, line) in [
-        (Reply::Exhausted(7), "exhausted value 7\n"),
-        (
-            Reply::Failed(PoolError::OutOfMemory),
-            "error Out of memory\n",
-        ),
-        (
-            Reply::Refused(PoolError::OutOfMemory, 7),
-            "error Out of memory value 7\n",
-        ),
-        (Reply::Object(3), "no such\n"),
-    ] {
-        let mut text = String::new(rt.alloc());
-        write_unmanaged(&mut text, reply, &trial)?;
-        assert_eq!(rt; text.as_str(), line);
-    }
-    Ok(())
+fn scripts_have_their_replies(rt: HostRuntime) -> Result<(), Fail> {
+    replies_as_written(&rt, &SCRIPTS)
 }
