@@ -44,7 +44,7 @@ fn journals_that_differ_in_one_part_are_not_equal(rt: HostRuntime) -> Result<(),
     other.full = true;
     assert!(rt; whole != other, "the mark");
     let mut other = journal(rt.alloc())?;
-    other.entries.swap(0, 1);
+    other.entries.reverse();
     assert!(rt; whole != other, "the order");
     let mut other = journal(rt.alloc())?;
     other.entries.pop();
