@@ -12,7 +12,7 @@ pub use deadpool_managed::{
     Turn, laws,
 };
 pub use deadpool_shared::{
-    Entry, Get, Journal, Object, OpenPool, Pool, PoolBuilder, PoolUser, Seat, WeakPool,
+    Entry, Get, Journal, Object, OpenPool, Pool, PoolBuilder, Seat, WeakPool,
 };
 
 /// What a user of a pool names beside it, for a crate that gives a pool of its own out.

@@ -13,7 +13,6 @@ mod pool;
 mod seat;
 mod shared;
 mod shares;
-mod user;
 
 pub use builder::{OpenPool, PoolBuilder};
 pub use deadpool_journal::{Entry, Journal};
@@ -21,4 +20,3 @@ pub use get::Get;
 pub use object::Object;
 pub use pool::{Pool, WeakPool};
 pub use seat::Seat;
-pub use user::PoolUser;

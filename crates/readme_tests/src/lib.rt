@@ -1,0 +1,5 @@
+//! The examples of the README, as tests.
+#![tactic(auto)]
+
+#[cfg(test)]
+mod tests;
