@@ -133,9 +133,9 @@ impl<
         self.handle.shared().resize(limit)
     }
 
-    /// Asks about each idle object once, front to back, and gives up those that are not kept. Each is detached before the
-    /// next is asked about. The lock is taken all the while: neither the predicate nor the manager's `detach` may use the
-    /// pool. `AllocError` says that there was no memory for the list of their values, and nothing was asked.
+    /// Asks about each idle object once, front to back, and gives up those that are not kept. The manager detaches one before
+    /// the predicate sees the next. The lock is taken all the while: neither the predicate nor the manager's `detach` may use
+    /// the pool. `AllocError` says that there was no memory for the list of their values, and nothing was asked.
     pub fn retain<P: FnMut(&M::Type, Metrics) -> bool + Drop>(
         &self,
         predicate: P,

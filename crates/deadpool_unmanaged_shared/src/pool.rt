@@ -25,7 +25,7 @@ pub type Add<T, C, R> = RequestFuture<Adding<T>, Shared<T, C, R>>;
 /// A handle of a pool whose objects are those that its users add. The last handle that is dropped takes the idle objects with
 /// it. Each future holds a handle of its own.
 ///
-/// `C` tells the time, and `R` is the handle by which the lock is taken.
+/// `C` tells the time, and with `R` the lock is taken.
 #[derive(Drop)]
 pub struct Pool<T: Drop, C: Clock + Drop, R: Wait + Drop> {
     inner: Handle<Shared<T, C, R>>,
