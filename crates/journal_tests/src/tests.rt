@@ -8,7 +8,7 @@ use deadpool_managed::Desk;
 use driver::Driver;
 use manager::Answers;
 use replay::replays;
-use scripts::{Script, gets, owner};
+use scripts::{Script, deadlines, gets, owner};
 use std::process::Abort;
 use std::random::RandomSource;
 use std::test::Fail;
@@ -35,6 +35,11 @@ fn play_and_replay<R: RandomSource + AllocGlobal + Abort>(
 #[test]
 fn scripts_of_gets(rt: HostRuntime) -> Result<(), Fail> {
     play_and_replay(&rt, &gets::SCRIPTS)
+}
+
+#[test]
+fn scripts_of_deadlines(rt: HostRuntime) -> Result<(), Fail> {
+    play_and_replay(&rt, &deadlines::SCRIPTS)
 }
 
 #[test]

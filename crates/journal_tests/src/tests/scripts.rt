@@ -2,6 +2,7 @@
 use super::manager::{Answer, Kind};
 use deadpool_managed::QueueMode;
 
+pub mod deadlines;
 pub mod gets;
 pub mod owner;
 
