@@ -1,0 +1,5 @@
+//! Tests of the shared managed pool on one thread, against what its replay says.
+#![tactic(auto)]
+
+#[cfg(test)]
+mod tests;

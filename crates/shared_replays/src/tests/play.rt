@@ -1,0 +1,108 @@
+//! A script, played over a shared pool.
+ghost use Rattle.deadpool_shared.specs.Opens.{Opens};
+
+use super::bench::{Bench, TestPool};
+use super::openings::builder;
+use super::outside::Outside;
+use std::alloc::Global;
+use std::marker::Brand;
+use std::random::RandomSource;
+use std::sync::ledger::{Blank, Ledger};
+use std::sync::{Arc, Wait};
+use std::test::Fail;
+
+/// What a script came to.
+#[derive(Drop)]
+pub struct Played {
+    /// The lines whose reply is not the one that stands after them, with the reply that came. Empty if there is none.
+    pub faults: String,
+    /// The pool's journal at the end, as text.
+    pub journal: String,
+}
+
+// A script, taken apart.
+#[derive(Drop)]
+struct Script {
+    name: &'static str,
+    // How its pool opens.
+    opening: &'static str,
+    lines: &'static str,
+}
+
+impl Script {
+    fn new(text: &'static str) -> Self {
+        let (heading, lines) = text.split_once(';').unwrap_or((text, ""));
+        let (name, opening) = heading.split_once(": ").unwrap_or(("", heading));
+        Script {
+            name,
+            opening,
+            lines,
+        }
+    }
+}
+
+/// Plays a script: its name with a colon, how its pool opens, and its lines, each after a semicolon. The pool's journal
+/// has room for so many entries.
+pub fn play<R>(rt: R, text: &'static str, room: usize) -> Result<Played, Fail>
+where
+    R: Wait + RandomSource + AllocGlobal + Copy + Drop + Send + Sync,
+{
+    let script = Script::new(text);
+    let going = Blank::new(u64::MAX);
+    let creations = Blank::new(u64::MAX);
+    let outside = Blank::new(u64::MAX);
+    play_with::<_, Brand, Brand, Brand>(rt, script, room, going, creations, outside)
+}
+
+fn play_with<R, G: Ledger, N: Ledger, O: Ledger>(
+    rt: R,
+    script: Script,
+    room: usize,
+    going: Blank,
+    creations: Blank,
+    outside: Blank,
+) -> Result<Played, Fail>
+where
+    R: Wait + RandomSource + AllocGlobal + Copy + Drop + Send + Sync,
+    requires going { Opens G.Ledger going }
+    requires creations { Opens N.Ledger creations }
+    requires outside { Opens O.Ledger outside }
+{
+    let common = Arc::new(rt.alloc(), Outside::new(rt.alloc(), 1))?;
+    let builder = builder(rt.alloc(), script.opening, &common)?.journal(room);
+    let pool: TestPool<R, G, N, O> = builder.build(going, creations, outside, rt)?;
+    let mut bench = Bench::new(&rt, common, pool)?;
+    let faults = play_lines(rt.alloc(), &mut bench, script.name, script.lines)?;
+    Ok(Played {
+        faults,
+        journal: bench.journal()?,
+    })
+}
+
+fn play_lines<R: Wait + Drop, G: Ledger, N: Ledger, O: Ledger>(
+    alloc: Global,
+    bench: &mut Bench<R, G, N, O>,
+    name: &str,
+    lines: &str,
+) -> Result<String, Fail> {
+    let mut faults = String::new(alloc);
+    for line in lines.split(';') {
+        play_line(bench, name, line, &mut faults)?;
+    }
+    Ok(faults)
+}
+
+// One line. After ` =` stands the reply that it is to have, and else it is to have none.
+fn play_line<R: Wait + Drop, G: Ledger, N: Ledger, O: Ledger>(
+    bench: &mut Bench<R, G, N, O>,
+    name: &str,
+    line: &str,
+    faults: &mut String,
+) -> Result<(), Fail> {
+    let (words, wanted) = line.split_once(" =").unwrap_or((line, ""));
+    let reply = bench.do_line(words.trim())?;
+    if reply.as_str().trim() != wanted.trim() {
+        write!(faults, "in {name} {words}: {reply}; ")?;
+    }
+    Ok(())
+}
