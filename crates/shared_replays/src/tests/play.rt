@@ -41,8 +41,8 @@ impl Script {
     }
 }
 
-/// Plays a script: its name with a colon, how its pool opens, and its lines, each after a semicolon. The pool's journal
-/// has room for so many entries.
+/// Plays a script: its name with a colon, how its pool opens, and its lines, each after a semicolon. The journal of
+/// its pool has room for so many entries.
 pub fn play<R>(rt: R, text: &'static str, room: usize) -> Result<Played, Fail>
 where
     R: Wait + RandomSource + AllocGlobal + Copy + Drop + Send + Sync,
