@@ -1,0 +1,106 @@
+//! Hooks in each of a pool's lists.
+use super::play::Reply::{Counted, Done, RefusedByHook, Value};
+use super::play::Step::{Back, Counts, Get};
+use super::play::{Line, builder, play_over};
+use super::world::{Habit, Kind, World};
+use deadpool::managed::Hook;
+use std::process::Abort;
+use std::random::RandomSource;
+use std::sync::Wait;
+use std::sync::atomic::Ordering;
+use std::test::Fail;
+
+// A pool's list of hooks.
+#[derive(Clone, Copy)]
+enum List {
+    PostCreate,
+    PreRecycle,
+    PostRecycle,
+}
+
+// Makes the steps over a pool for three objects with one hook, whose first value is this.
+fn play_with_hook<R>(
+    rt: R,
+    first: u64,
+    list: List,
+    kind: Kind,
+    is_sync: bool,
+    lines: &'static [Line],
+) -> Result<(), Fail>
+where
+    R: Wait + RandomSource + AllocGlobal + Abort + Drop + Copy + Send + Sync,
+{
+    let world = World::shared(rt.alloc())?;
+    world.next.store(first, Ordering::SeqCst);
+    let habit = Habit::of(&world, kind)?;
+    let hook = if is_sync {
+        Hook::sync_fn(habit)
+    } else {
+        Hook::async_fn(habit)
+    };
+    let builder = builder(&rt, &world)?.max_size(3);
+    let hooked = match list {
+        List::PostCreate => builder.post_create(hook),
+        List::PreRecycle => builder.pre_recycle(hook),
+        List::PostRecycle => builder.post_recycle(hook),
+    };
+    match hooked {
+        Ok(builder) => play_over(rt, builder, lines),
+        Err(_) => Err(Fail::new("no memory for a hook")),
+    }
+}
+
+#[test]
+fn hooks_see_a_new_object(rt: HostRuntime) -> Result<(), Fail> {
+    const LINES: &[Line] = &[(Get, Value(43), &[], (3, 1, 0, 0))];
+    play_with_hook(rt, 42, List::PostCreate, Kind::AddsOne, true, LINES)?;
+    play_with_hook(rt, 42, List::PostCreate, Kind::AddsOne, false, LINES)
+}
+
+#[test]
+fn a_hook_refuses_a_new_object(rt: HostRuntime) -> Result<(), Fail> {
+    const LINES: &[Line] = &[
+        (Get, Value(0), &[], (3, 1, 0, 0)),
+        (Get, RefusedByHook, &[], (3, 1, 0, 0)),
+        (Get, Value(2), &[], (3, 2, 0, 0)),
+        (Get, RefusedByHook, &[], (3, 2, 0, 0)),
+        (Get, Value(4), &[], (3, 3, 0, 0)),
+        (Counts, Counted(5, 0, 5, 2), &[], (3, 3, 0, 0)),
+    ];
+    play_with_hook(rt, 0, List::PostCreate, Kind::RefusesOdd, true, LINES)
+}
+
+#[test]
+fn hooks_see_a_recycled_object(rt: HostRuntime) -> Result<(), Fail> {
+    const LINES: &[Line] = &[
+        (Get, Value(42), &[], (3, 1, 0, 0)),
+        (Back(0), Done, &[], (3, 1, 1, 0)),
+        (Get, Value(43), &[], (3, 1, 0, 0)),
+        (Back(1), Done, &[], (3, 1, 1, 0)),
+        (Get, Value(44), &[], (3, 1, 0, 0)),
+        (Back(2), Done, &[], (3, 1, 1, 0)),
+        (Get, Value(45), &[], (3, 1, 0, 0)),
+    ];
+    play_with_hook(rt, 42, List::PreRecycle, Kind::AddsOne, true, LINES)?;
+    play_with_hook(rt, 42, List::PostRecycle, Kind::AddsOne, true, LINES)
+}
+
+#[test]
+fn a_hook_refuses_a_recycled_object(rt: HostRuntime) -> Result<(), Fail> {
+    const LINES: &[Line] = &[
+        (Get, Value(0), &[], (3, 1, 0, 0)),
+        (Back(0), Done, &[], (3, 1, 1, 0)),
+        (Get, Value(0), &[], (3, 1, 0, 0)),
+        (Back(1), Done, &[], (3, 1, 1, 0)),
+        (Get, Value(1), &[], (3, 1, 0, 0)),
+        (Back(2), Done, &[], (3, 1, 1, 0)),
+        (Get, Value(1), &[], (3, 1, 0, 0)),
+        (Back(3), Done, &[], (3, 1, 1, 0)),
+        (Get, Value(2), &[], (3, 1, 0, 0)),
+        (Back(4), Done, &[], (3, 1, 1, 0)),
+        (Get, Value(2), &[], (3, 1, 0, 0)),
+        (Back(5), Done, &[], (3, 1, 1, 0)),
+    ];
+    play_with_hook(rt, 0, List::PreRecycle, Kind::RefusesRecycled, true, LINES)?;
+    play_with_hook(rt, 0, List::PostRecycle, Kind::RefusesRecycled, true, LINES)
+}

@@ -1,0 +1,111 @@
+//! Moves and replies as the lines of a script.
+use deadpool_unmanaged::replay::{Move, Reply};
+use deadpool_unmanaged::{Moment, Runtime, Status};
+use std::alloc::{AllocError, Global};
+use std::str::Split;
+use std::test::Fail;
+use std::time::Duration;
+
+/// The words of a line.
+type Words<'a> = Split<'a, char>;
+
+fn next_number(words: &mut Words<'_>) -> Result<u64, Fail> {
+    match words.next().map(|word| word.parse::<u64>()) {
+        Some(Ok(number)) => Ok(number),
+        _ => Err(Fail::new("not a number")),
+    }
+}
+
+fn next_index(words: &mut Words<'_>) -> Result<usize, Fail> {
+    Ok(next_number(words)? as usize)
+}
+
+fn next_moment(words: &mut Words<'_>) -> Result<Moment, Fail> {
+    match words.next().map(|word| word.parse::<u128>()) {
+        Some(Ok(now)) => Ok(Moment(now)),
+        _ => Err(Fail::new("not a moment")),
+    }
+}
+
+// How long a get may wait, in nanoseconds. No word, or a dash, is without an end.
+fn wait_of(words: &mut Words<'_>) -> Option<Duration> {
+    let nanos = words.next()?.parse::<u64>().ok()?;
+    Some(Duration::from_nanos(nanos))
+}
+
+/// What a line opens: a pool for so many objects.
+pub fn opening_of(line: &str) -> Result<(usize, Option<Runtime>), Fail> {
+    let mut words = line.split(' ');
+    let kind = words.next();
+    let limit = next_index(&mut words)?;
+    match (kind, words.next()) {
+        (Some("unmanaged"), Some("none")) => Ok((limit, None)),
+        (Some("unmanaged"), Some("clock")) => Ok((limit, Some(Runtime::Clock))),
+        _ => Err(Fail::new("not an opening")),
+    }
+}
+
+/// The move that a line says.
+pub fn move_of(line: &str) -> Result<Move<u64>, Fail> {
+    let mut words = line.split(' ');
+    Ok(match words.next() {
+        Some("get") => Move::Get(wait_of(&mut words)),
+        Some("add") => Move::Add(next_number(&mut words)?),
+        Some("poll") => Move::Poll(next_index(&mut words)?, next_moment(&mut words)?),
+        Some("tryget") => Move::TryGet,
+        Some("tryadd") => Move::TryAdd(next_number(&mut words)?),
+        Some("cancel") => Move::Cancel(next_index(&mut words)?),
+        Some("back") => Move::Back(next_index(&mut words)?),
+        Some("take") => Move::Take(next_index(&mut words)?),
+        Some("close") => Move::Close,
+        Some("status") => Move::Status,
+        Some("clone") => Move::Clone,
+        Some("drop") => Move::DropHandle,
+        _ => return Err(Fail::new("not a move")),
+    })
+}
+
+/// A reply as a line, with the value of the object that it hands out.
+pub fn line_of(alloc: Global, reply: Reply<u64>, value: Option<u64>) -> Result<String, AllocError> {
+    let mut text = String::new(alloc);
+    match reply {
+        Reply::Started(party) => write!(text, "party {party}")?,
+        Reply::NoRoom => text.push_str("no room")?,
+        Reply::NoSuch => text.push_str("no such")?,
+        Reply::NoHandle => text.push_str("no handle")?,
+        Reply::Exhausted(value) => write!(text, "exhausted value {value}")?,
+        Reply::Pending => text.push_str("pending")?,
+        Reply::Object(number) => write_object(&mut text, number, value)?,
+        Reply::Added(number) => write!(text, "added {number}")?,
+        Reply::Failed(cause) => write!(text, "error {cause}")?,
+        Reply::Refused(cause, value) => write!(text, "error {cause} value {value}")?,
+        Reply::Cancelled => text.push_str("cancelled")?,
+        Reply::Kept => text.push_str("kept")?,
+        Reply::Dropped => text.push_str("dropped")?,
+        Reply::Taken(value) => write!(text, "taken {value}")?,
+        Reply::Done => text.push_str("ok")?,
+        Reply::Stands(status) => write_status(&mut text, status)?,
+        Reply::Upgraded(is_open) => write!(text, "upgraded {is_open}")?,
+    }
+    Ok(text)
+}
+
+fn write_object(text: &mut String, number: usize, value: Option<u64>) -> Result<(), AllocError> {
+    match value {
+        Some(value) => write!(text, "object {number} value {value}"),
+        None => write!(text, "object {number} is not out"),
+    }
+}
+
+fn write_status(text: &mut String, status: Status) -> Result<(), AllocError> {
+    let Status {
+        max_size,
+        size,
+        available,
+        waiting,
+    } = status;
+    write!(
+        text,
+        "max {max_size} size {size} available {available} waiting {waiting}"
+    )
+}
