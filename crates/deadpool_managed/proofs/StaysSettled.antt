@@ -14,7 +14,7 @@ use Rattle.deadpool_parts.specs.declared.replies.HandleReply.{HandleReply}
 use Rattle.deadpool_parts.specs.declared.replies.HandleReply.TheVariants as handle
 use Rattle.deadpool_parts.proofs.Numbers.{has_number-append, without_number-append, without_number-same, without_number-one}
 use Rattle.deadpool_parts.proofs.Orders.{IsOnce-without, IsOnce-push, IsOnce-front}
-use Rattle.deadpool_managed.specs.DeskState.{DeskState, least_idle, new_core, other_idle, places, size, grants, settled}
+use Rattle.deadpool_managed.specs.DeskState.{DeskState, least_idle, new_core, other_idle, places, grants, settled}
 use Rattle.deadpool_managed.specs.DeskSteps.{Serves, Enters, Asks, GoesOn, Discards, Creates, Fails, Refuses, TakesBack, Cancels, Stands, Takes, Resizes, Closes, Clones, DropsHandle, Upgrades, unqueued, given_up, resized}
 use Rattle.deadpool_managed.specs.Retained.{Retained}
 use Rattle.deadpool_managed.specs.Retains.{Retains, RetainsNoting}
