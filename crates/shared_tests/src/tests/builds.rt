@@ -2,8 +2,8 @@
 ghost use Rattle.deadpool_shared.specs.Opens.{Opens};
 
 use deadpool::managed::{
-    BuildError, Hook, HookResult, Manager, Metrics, NoHook, Object, Pool, PoolBuilder,
-    RecycleResult, SyncHook, Timeouts,
+    BuildError, Hook, HookResult, Manager, Metrics, NoHook, Pool, PoolBuilder, RecycleResult,
+    SyncHook, Timeouts,
 };
 use deadpool::{Clock, Moment, Runtime};
 use futures::task::{Context, Poll};

@@ -56,8 +56,8 @@ struct Party<R: Host> {
     stage: Stage,
 }
 
-/// Handles of a pool, and the objects that are out, by the numbers that a trial gives them. Each step is seen to wake whoever
-/// is to be woken by it, once.
+/// Handles of a pool, and the objects that are out, by the numbers that a trial gives them. Each step is seen to wake
+/// whoever is to be woken by it, once.
 #[derive(Drop)]
 pub struct Player<R: Host> {
     rt: R,

@@ -1,5 +1,5 @@
-//! The worked scripts of an unmanaged pool that a `Pool` plays, each with those whom a step wakes. None drops the last handle
-//! under a get or an add.
+//! The worked scripts of an unmanaged pool that a `Pool` plays, each with those whom a step wakes. None drops the last
+//! handle under a get or an add.
 
 /// A name, and lines with their replies.
 pub type Script = (&'static str, &'static str);
