@@ -6,8 +6,6 @@ mod entry;
 mod journal;
 mod journaled;
 mod log;
-#[cfg(test)]
-mod tests;
 mod texts;
 
 pub use entry::Entry;

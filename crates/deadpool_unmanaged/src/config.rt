@@ -85,6 +85,3 @@ fn written_config(alloc: Global, config: PoolConfig) -> Result<Value, AllocError
     let max_size = config.max_size;
     json!(in alloc; {"max_size": max_size, "timeout": timeout})
 }
-
-#[cfg(test)]
-mod tests;

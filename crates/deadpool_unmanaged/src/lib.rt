@@ -10,8 +10,6 @@ pub mod replay;
 mod settled;
 mod state;
 mod steps;
-#[cfg(test)]
-mod tests;
 
 pub use add::{AddStage, AddState};
 pub use config::PoolConfig;

@@ -1,5 +1,7 @@
-//! Each worked script over a pool with a journal, whose entries are then driven again through a pool of their own.
+//! Each worked script over a pool with a journal, whose entries are then driven again through a pool of their own; and what
+//! single steps leave in a journal.
 mod driver;
+mod journaled;
 mod manager;
 mod replay;
 mod scripts;

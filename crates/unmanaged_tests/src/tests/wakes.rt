@@ -1,5 +1,5 @@
 //! Who is named, and when somebody would have to wait.
-use crate::{AddState, Core, GetState, Moment};
+use deadpool_unmanaged::{AddState, Core, GetState, Moment};
 use std::alloc::AllocError;
 
 #[test]

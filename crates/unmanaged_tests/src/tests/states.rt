@@ -1,5 +1,7 @@
 //! Gets and adds over a core, polled by hand.
-use crate::{AddState, BackReply, Core, GetState, Moment, PoolConfig, PoolError, Runtime, Status};
+use deadpool_unmanaged::{
+    AddState, BackReply, Core, GetState, Moment, PoolConfig, PoolError, Runtime, Status,
+};
 use futures::task::Poll;
 use std::alloc::AllocError;
 use std::process::Abort;

@@ -1,6 +1,6 @@
 //! Runs of moves.
-use crate::replay::{Move, Reply, Trial};
-use crate::{Moment, PoolError, Status};
+use deadpool_unmanaged::replay::{Move, Reply, Trial};
+use deadpool_unmanaged::{Moment, PoolError, Status};
 use std::alloc::Global;
 use std::test::Fail;
 

@@ -1,4 +1,4 @@
-use crate::PoolError;
+use deadpool_unmanaged::PoolError;
 use std::alloc::AllocError;
 
 #[test]

@@ -1,5 +1,5 @@
 //! Many that wait, and many objects.
-use crate::{AddEnterReply, AddState, Core, GetState, Moment, PoolError};
+use deadpool_unmanaged::{AddEnterReply, AddState, Core, GetState, Moment, PoolError};
 use futures::task::Poll;
 use std::test::Fail;
 

@@ -1,6 +1,6 @@
 //! A journal that is full.
 use super::object;
-use crate::Journaled;
+use deadpool_journal::Journaled;
 use deadpool_managed::{
     BackReply, CreatedReply, Desk, EnterReply, HandleReply, Held, Metrics, QueueMode, Retainer,
     Serving, StepReply, TakeReply,

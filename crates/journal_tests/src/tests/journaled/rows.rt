@@ -1,7 +1,7 @@
 //! The journal of a get that creates an object, which comes back: with more room than its six steps take, with just enough,
 //! with too little, and with none.
 use super::object;
-use crate::Journaled;
+use deadpool_journal::Journaled;
 use deadpool_managed::{BackReply, Desk, QueueMode};
 use std::test::Fail;
 

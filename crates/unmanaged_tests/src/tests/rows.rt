@@ -1,6 +1,6 @@
 //! Lists of several moves, one after another on one trial.
-use crate::replay::{Move, Reply, Trial};
-use crate::{Moment, PoolError};
+use deadpool_unmanaged::replay::{Move, Reply, Trial};
+use deadpool_unmanaged::{Moment, PoolError};
 use std::alloc::{AllocError, Global};
 use std::test::Fail;
 

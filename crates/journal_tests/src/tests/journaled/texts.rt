@@ -1,5 +1,5 @@
 //! The text of an entry of each kind, with each reply.
-use crate::{Entry, Journal, Journaled};
+use deadpool_journal::{Entry, Journal, Journaled};
 use deadpool_managed::gate::Ticket;
 use deadpool_managed::{
     AgainReply, AskReply, BackReply, CreatedReply, Desk, EnterReply, HandleReply, Held, QueueMode,

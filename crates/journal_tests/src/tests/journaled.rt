@@ -1,11 +1,11 @@
-//! What no clause says: which entries some steps make, their texts, what makes two differ, and that a full journal is left as
-//! it is.
+//! What no clause says: which entries some steps make, their texts, what makes two differ, and that a full journal is left
+//! as it is.
 mod equality;
 mod full;
 mod rows;
 mod texts;
 
-use crate::Journaled;
+use deadpool_journal::Journaled;
 use deadpool_managed::{CreatedReply, Desk, EnterReply, Metrics, Moment, Serving, Slot};
 use std::test::Fail;
 

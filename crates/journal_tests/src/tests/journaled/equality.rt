@@ -1,5 +1,5 @@
 //! Two journals are equal only if each of their parts is.
-use crate::{Entry, Journal};
+use deadpool_journal::{Entry, Journal};
 use deadpool_managed::{
     AgainReply, CreatedReply, EnterReply, QueueMode, Removal, Removals, Serving, StepReply,
 };

@@ -1,5 +1,9 @@
-use super::*;
+//! Configurations in JSON.
+use deadpool_unmanaged::{ConfigError, PoolConfig, Runtime};
+use serde_json::Value;
+use std::alloc::AllocError;
 use std::test::Fail;
+use std::time::Duration;
 
 /// What the text's value reads as.
 fn read<R: AllocGlobal>(rt: &R, text: &str) -> Result<Result<PoolConfig, ConfigError>, Fail> {

@@ -1,4 +1,5 @@
 //! What no clause says: printed texts, success where memory is there, and runs step by step.
+mod configuration;
 mod errors;
 mod many;
 mod rows;
