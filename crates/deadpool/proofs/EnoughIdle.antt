@@ -1,5 +1,5 @@
 -- A resize and a retain leave as many idle as are to stay, if as many were.
-use Rattle.std.proofs.Common.{ℕ, ◌≤◌, List, Bool, true, false, not, min, length, drop, arith, length-drop}
+use Rattle.std.proofs.Common.{ℕ, ◌≤◌, List, Bool, true, false, not, min, length, arith, length-drop}
 use Rattle.std.specs.Prelude.{nat_lt, ◌==◌}
 use Rattle.std.proofs.lemmas.Bool.{cond_both}
 use Rattle.deadpool_parts.specs.Program.{Return, Always}

@@ -1,8 +1,8 @@
 -- What follows each step of a pool's owner, and each move.
 use Rattle.std.proofs.Common.{◌≡◌, ℕ, zero, suc, ◌+◌, ◌-◌, ◌≤◌, max, min, List, [], ◌∷◌, ◌++◌, Bool, true, false, not, length, drop, refl, sym, ◌∙◌, arith, Option, Some, None, length-append, length-drop}
-use Rattle.std.specs.Prelude.{nat_lt, nat_le, slice_get, filter, unwrap_or, ◌==◌, if◌then◌else◌}
+use Rattle.std.specs.Prelude.{nat_lt, nat_le, slice_get, unwrap_or, ◌==◌, if◌then◌else◌}
 use Rattle.std.proofs.lemmas.Bool.{cond_both}
-use Rattle.deadpool_parts.specs.Numbers.{has_number, most_handles}
+use Rattle.deadpool_parts.specs.Numbers.{most_handles}
 use Rattle.deadpool_parts.specs.Program.{Return, Always}
 use Rattle.deadpool_parts.specs.declared.config.Timeouts.{Timeouts}
 use Rattle.deadpool_parts.proofs.Programs.{Always-bind}

@@ -1,6 +1,6 @@
 -- An object that a reply gives is out, and one that it keeps is idle.
 use Rattle.std.proofs.Common.{◌≡◌, ℕ, ◌+◌, List, [], ◌∷◌, ◌++◌, Bool, true, false, not, ◌&&◌, length, refl, ap, arith, Option, Some, None, Result, Ok, Err}
-use Rattle.std.specs.Prelude.{nat_lt, nat_le, slice_get, filter, unwrap_or, is_none, ◌==◌}
+use Rattle.std.specs.Prelude.{nat_lt, nat_le, slice_get, unwrap_or, is_none, ◌==◌}
 use Rattle.std.proofs.lemmas.Bool.{cond_both, eq-eqb}
 use Rattle.futures.specs.declared.task.Poll.{Poll}
 use Rattle.futures.specs.declared.task.Poll.TheVariants as poll

@@ -1,5 +1,5 @@
 -- What each move has, and each step of a pool's owner.
-use Rattle.std.proofs.Common.{◌≡◌, ◌≢◌, ℕ, zero, suc, ◌+◌, ◌-◌, ◌≤◌, max, min, List, [], ◌∷◌, ◌++◌, Bool, true, false, not, length, take, drop, refl, ap, ◌∙◌, arith, Option, Some, None, inl, inr, length-append, length-drop}
+use Rattle.std.proofs.Common.{◌≡◌, ◌≢◌, ℕ, zero, suc, ◌+◌, ◌-◌, ◌≤◌, max, min, List, [], ◌∷◌, ◌++◌, Bool, true, false, not, length, take, drop, refl, arith, Option, Some, None, inl, inr, length-append, length-drop}
 use Rattle.std.specs.Prelude.{nat_lt, nat_le, slice_get, filter, unwrap_or, ◌==◌, if◌then◌else◌}
 use Rattle.std.proofs.lemmas.Bool.{cases_Bool, cond_both, eqb-false, ne_eqb, leb-true}
 use Rattle.deadpool_parts.specs.Numbers.{has_number, most_handles}
