@@ -1,5 +1,5 @@
 -- A step of a desk, by number, is the same step of the desk by number.
-use Rattle.std.proofs.Common.{◌≡◌, ◌≢◌, ℕ, ◌+◌, ◌-◌, Bool, true, false, cond, List, [], ◌∷◌, ◌++◌, length, map, min, refl, sym, ap, ◌∙◌, Option, Some, None, drop}
+use Rattle.std.proofs.Common.{◌≡◌, ◌≢◌, ℕ, ◌+◌, ◌-◌, Bool, true, false, List, [], ◌∷◌, length, map, refl, sym, ap, ◌∙◌, Option, Some, None, drop}
 use Rattle.std.specs.Prelude.{if◌then◌else◌, ◌==◌, max, Result, Ok, Err}
 use Rattle.std.specs.Option.{option_map}
 use Rattle.std.specs.declared.alloc.AllocError.{AllocError}
@@ -13,8 +13,8 @@ use Rattle.deadpool_parts.specs.declared.replies.StepReply.{StepReply}
 use Rattle.deadpool_parts.specs.declared.replies.StepReply.TheVariants as step
 use Rattle.deadpool_parts.specs.declared.replies.HandleReply.{HandleReply}
 use Rattle.deadpool_parts.specs.declared.replies.HandleReply.TheVariants as handle
-use Rattle.deadpool_managed.specs.DeskState.{DeskState, next_idle, other_idle, size, settled, status_of}
-use Rattle.deadpool_managed.specs.DeskSteps.{Serves, Enters, Asks, GoesOn, Discards, Creates, Fails, Refuses, TakesBack, Cancels, Stands, Takes, Resizes, Closes, Clones, DropsHandle, Upgrades, unqueued, given_up, resized, one_handle_less}
+use Rattle.deadpool_managed.specs.DeskState.{DeskState, next_idle, other_idle, settled, status_of}
+use Rattle.deadpool_managed.specs.DeskSteps.{Serves, Enters, Asks, GoesOn, Discards, Creates, Fails, Refuses, TakesBack, Cancels, Stands, Takes, Resizes, Closes, Clones, DropsHandle, Upgrades, unqueued, given_up, resized}
 use Rattle.deadpool_managed.specs.declared.slot.Slot.{Slot}
 use Rattle.deadpool_managed.specs.declared.desk.Serving.{Serving}
 use Rattle.deadpool_managed.specs.declared.desk.Serving.TheVariants as serving

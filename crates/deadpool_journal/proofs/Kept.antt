@@ -1,13 +1,12 @@
 -- A step that is noted keeps a journal true.
-use Rattle.std.proofs.Common.{◌≡◌, ℕ, ◌<◌, ◌≤◌, Bool, true, false, cond, ltb, List, [], ◌∷◌, ◌++◌, length, refl, sym, ap, ◌∙◌, arith, inl, inr, Option, None, length-append}
-use Rattle.std.specs.Prelude.{nat_lt, if◌then◌else◌, Result, Ok, Err}
+use Rattle.std.proofs.Common.{◌≡◌, ℕ, ◌<◌, ◌≤◌, true, false, List, [], ◌∷◌, ◌++◌, length, refl, ◌∙◌, arith, inl, inr, Option, None, length-append}
+use Rattle.std.specs.Prelude.{nat_lt, Ok, Err}
 use Rattle.std.proofs.lemmas.Bool.{cases_Bool}
 use borrow.Author.Tests.{ltb-true, ltb-false}
-use Rattle.deadpool_parts.specs.declared.config.QueueMode.{QueueMode}
 use Rattle.deadpool_parts.specs.declared.replies.StepReply.TheVariants as step
 use Rattle.deadpool_parts.specs.declared.replies.HandleReply.TheVariants as handle
 use Rattle.deadpool_managed.specs.CoreState.{CoreState}
-use Rattle.deadpool_managed.specs.DeskState.{DeskState, new_core}
+use Rattle.deadpool_managed.specs.DeskState.{DeskState}
 use Rattle.deadpool_managed.specs.DeskSteps.{Serves}
 use Rattle.deadpool_managed.specs.declared.desk.Serving.{Serving}
 use Rattle.deadpool_managed.specs.declared.desk.Serving.TheVariants as serving
@@ -19,7 +18,7 @@ use Rattle.deadpool_managed.specs.declared.desk.BackReply.TheVariants as back
 use Rattle.deadpool_managed.specs.declared.desk.TakeReply.TheVariants as taking
 use Rattle.deadpool_managed.specs.declared.desk.Held.TheVariants as held
 use Rattle.deadpool_journal.specs.ByNumber.{numbered}
-use Rattle.deadpool_journal.specs.LogState.{LogState, noted}
+use Rattle.deadpool_journal.specs.LogState.{noted}
 use Rattle.deadpool_journal.specs.Journaling.{Journaling, opening}
 use Rattle.deadpool_journal.specs.Kept.{IsKept}
 use Rattle.deadpool_journal.specs.Replay.{Makes, after, after_serving, replayed, AreSteps}
