@@ -276,6 +276,3 @@ pub fn written_timeout(alloc: Global, timeout: Option<Duration>) -> Result<Value
         }
     }
 }
-
-#[cfg(test)]
-mod tests;

@@ -270,6 +270,3 @@ impl<C: fmt::Display> fmt::Display for CreatePoolError<C> {
         }
     }
 }
-
-#[cfg(test)]
-mod tests;

@@ -9,8 +9,6 @@ ghost use Rattle.deadpool_parts.specs.Waking.{next_due, still_untold};
 ghost use Rattle.slab.specs.Slab.{slab_len};
 
 mod store;
-#[cfg(test)]
-mod tests;
 
 use std::alloc::Global;
 use std::marker::Model;

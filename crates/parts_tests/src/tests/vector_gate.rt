@@ -1,12 +1,11 @@
 //! A gate over a plain vector of waiters, each of which is searched for from the front. The gate's answers are held
-//! against its answers.
-
-use crate::gate::{Ask, Entry, Ticket, Withdrawn};
-use std::alloc::Global;
+//! against its answers. A waiter is known by the number of those that joined before it.
+use deadpool_parts::gate::{Ask, Withdrawn};
+use std::alloc::{AllocError, Global};
 
 #[derive(Drop)]
 struct Listed {
-    ticket: Ticket,
+    arrival: usize,
     granted: bool,
     told: bool,
 }
@@ -14,7 +13,6 @@ struct Listed {
 #[derive(Drop)]
 pub struct VectorGate {
     listed: Vec<Listed>,
-    // How many have joined so far. It is the next one's ticket.
     joined: usize,
     is_closed: bool,
 }
@@ -28,29 +26,15 @@ impl VectorGate {
         }
     }
 
-    pub fn enter(&mut self, room: usize, wait: bool) -> Entry {
-        if self.is_closed {
-            return Entry::Closed;
-        }
-        if room > 0 {
-            return Entry::Granted;
-        }
-        if !wait {
-            return Entry::Full;
-        }
-        let ticket = Ticket {
-            number: self.joined,
-        };
-        let last = Listed {
-            ticket,
+    /// One more waits.
+    pub fn join(&mut self) -> Result<(), AllocError> {
+        self.listed.push(Listed {
+            arrival: self.joined,
             granted: false,
             told: false,
-        };
-        if self.listed.push(last).is_err() {
-            return Entry::OutOfMemory;
-        }
+        })?;
         self.joined = self.joined.saturating_add(1);
-        Entry::Waiting(ticket)
+        Ok(())
     }
 
     pub fn settle(&mut self, room: usize) -> usize {
@@ -67,37 +51,37 @@ impl VectorGate {
         given
     }
 
-    fn is_granted(&self, ticket: Ticket) -> Option<bool> {
+    fn is_granted(&self, arrival: usize) -> Option<bool> {
         for waiter in self.listed.iter() {
-            if waiter.ticket == ticket {
+            if waiter.arrival == arrival {
                 return Some(waiter.granted);
             }
         }
         None
     }
 
-    fn remove(&mut self, ticket: Ticket) {
-        self.listed.retain(|waiter| waiter.ticket != ticket);
+    fn remove(&mut self, arrival: usize) {
+        self.listed.retain(|waiter| waiter.arrival != arrival);
     }
 
-    pub fn ask(&mut self, ticket: Ticket) -> Ask {
-        let answer = match self.is_granted(ticket) {
+    pub fn ask(&mut self, arrival: usize) -> Ask {
+        let answer = match self.is_granted(arrival) {
             None => Ask::Unknown,
             Some(_) if self.is_closed => Ask::Closed,
             Some(true) => Ask::Granted,
             Some(false) => return Ask::Waiting,
         };
-        self.remove(ticket);
+        self.remove(arrival);
         answer
     }
 
-    pub fn withdraw(&mut self, ticket: Ticket) -> Withdrawn {
-        let was = match self.is_granted(ticket) {
+    pub fn withdraw(&mut self, arrival: usize) -> Withdrawn {
+        let was = match self.is_granted(arrival) {
             None => Withdrawn::Unknown,
             Some(true) => Withdrawn::Granted,
             Some(false) => Withdrawn::Waiting,
         };
-        self.remove(ticket);
+        self.remove(arrival);
         was
     }
 
@@ -105,12 +89,12 @@ impl VectorGate {
         self.is_closed = true;
     }
 
-    pub fn take_wake(&mut self) -> Option<Ticket> {
+    pub fn take_wake(&mut self) -> Option<usize> {
         let is_closed = self.is_closed;
         for waiter in self.listed.iter_mut() {
             if (waiter.granted || is_closed) && !waiter.told {
                 waiter.told = true;
-                return Some(waiter.ticket);
+                return Some(waiter.arrival);
             }
         }
         None

@@ -1,9 +1,9 @@
-mod vector_gate;
-
-use super::*;
+//! The gate, alone and beside one over a vector.
+use super::vector_gate::VectorGate;
+use deadpool_parts::gate::{Ask, Entry, Gate, Ticket, Withdrawn};
+use std::alloc::Global;
 use std::process::Abort;
 use std::test::Fail;
-use vector_gate::VectorGate;
 
 fn ticket_of(entry: Entry) -> Result<Ticket, Fail> {
     match entry {
@@ -48,19 +48,13 @@ fn the_line_is_served_in_order(rt: HostRuntime) -> Result<(), Fail> {
     Ok(())
 }
 
-// One arrival's tickets at the gate and at the one over a vector.
-#[derive(Clone, Copy)]
-struct Arrival {
-    linked: Ticket,
-    vector: Ticket,
-}
-
 // A gate and one over a vector, which are called alike. A call that walked the list would make more than four accesses.
 #[derive(Drop)]
 struct Both {
     linked: Gate,
     vector: VectorGate,
-    arrivals: Vec<Arrival>,
+    // The ticket of each arrival at the gate.
+    tickets: Vec<Ticket>,
 }
 
 impl Both {
@@ -68,59 +62,47 @@ impl Both {
         Both {
             linked: Gate::new(alloc),
             vector: VectorGate::new(alloc),
-            arrivals: Vec::new(alloc),
+            tickets: Vec::new(alloc),
         }
     }
 
     fn join(&mut self, rt: &impl Abort) -> Result<(), Fail> {
         let linked = ticket_of(self.linked.enter(0, true))?;
         assert!(rt; self.linked.touched() <= 4);
-        let vector = ticket_of(self.vector.enter(0, true))?;
-        self.arrivals.push(Arrival { linked, vector })?;
+        self.tickets.push(linked)?;
+        self.vector.join()?;
         Ok(())
     }
 
-    fn arrival(&self, number: usize) -> Result<Arrival, Fail> {
-        match self.arrivals.get(number) {
-            Some(arrival) => Ok(*arrival),
+    fn ticket(&self, arrival: usize) -> Result<Ticket, Fail> {
+        match self.tickets.get(arrival) {
+            Some(ticket) => Ok(*ticket),
             None => Err(Fail::from("so many did not arrive")),
         }
     }
 
-    fn withdraw(&mut self, number: usize, rt: &impl Abort) -> Result<Withdrawn, Fail> {
-        let arrival = self.arrival(number)?;
-        let was = self.linked.withdraw(arrival.linked);
+    fn withdraw(&mut self, arrival: usize, rt: &impl Abort) -> Result<Withdrawn, Fail> {
+        let ticket = self.ticket(arrival)?;
+        let was = self.linked.withdraw(ticket);
         assert!(rt; self.linked.touched() <= 4);
-        assert_eq!(rt;
-            was,
-            self.vector.withdraw(arrival.vector),
-            "arrival {number}"
-        );
+        assert_eq!(rt; was, self.vector.withdraw(arrival), "arrival {arrival}");
         Ok(was)
     }
 
-    fn ask(&mut self, number: usize, rt: &impl Abort) -> Result<Ask, Fail> {
-        let arrival = self.arrival(number)?;
-        let answer = self.linked.ask(arrival.linked);
+    fn ask(&mut self, arrival: usize, rt: &impl Abort) -> Result<Ask, Fail> {
+        let ticket = self.ticket(arrival)?;
+        let answer = self.linked.ask(ticket);
         assert!(rt; self.linked.touched() <= 4);
-        assert_eq!(rt; answer, self.vector.ask(arrival.vector), "arrival {number}");
+        assert_eq!(rt; answer, self.vector.ask(arrival), "arrival {arrival}");
         Ok(answer)
     }
 
     // The next to be told is this arrival.
-    fn tell(&mut self, number: usize, rt: &impl Abort) -> Result<(), Fail> {
-        let arrival = self.arrival(number)?;
-        assert_eq!(rt;
-            self.linked.take_wake(),
-            Some(arrival.linked),
-            "arrival {number}"
-        );
+    fn tell(&mut self, arrival: usize, rt: &impl Abort) -> Result<(), Fail> {
+        let ticket = self.ticket(arrival)?;
+        assert_eq!(rt; self.linked.take_wake(), Some(ticket), "arrival {arrival}");
         assert!(rt; self.linked.touched() <= 4);
-        assert_eq!(rt;
-            self.vector.take_wake(),
-            Some(arrival.vector),
-            "arrival {number}"
-        );
+        assert_eq!(rt; self.vector.take_wake(), Some(arrival), "arrival {arrival}");
         Ok(())
     }
 

@@ -1,5 +1,10 @@
-use super::*;
+//! Configurations as they are read, written and shown.
+use deadpool_parts::config::{PoolConfig, QueueMode, Timeouts};
+use deadpool_parts::errors::ConfigError;
+use serde_json::Value;
+use std::alloc::AllocError;
 use std::test::Fail;
+use std::time::Duration;
 
 /// What the text's value reads as.
 fn read<R: AllocGlobal>(rt: &R, text: &str) -> Result<Result<PoolConfig, ConfigError>, Fail> {

@@ -1,4 +1,10 @@
-use super::*;
+//! The text of each error.
+use deadpool_parts::errors::{
+    BuildError, ConfigError, CreatePoolError, HookError, PoolError, RecycleError, RecycleResult,
+    TimeoutType,
+};
+use std::alloc::AllocError;
+use std::fmt;
 use std::process::Abort;
 
 /// A backend's own error.
