@@ -1,5 +1,6 @@
 //! Runs a script from any reader to any writer.
 use crate::fault::Fault;
+use crate::lines::{read_line, without_line_feed, write_out};
 use crate::manager::{Answer, Answers, Kind};
 use crate::opening::{ManagedTrial, Refusal, ScriptPool, UnmanagedTrial, open_pool};
 use crate::script;
@@ -35,11 +36,7 @@ fn play_lines<B: BufRead, W: Write>(
 ) -> Result<(), Fault> {
     let mut line = Vec::new(engine.alloc);
     for number in 1..=u64::MAX {
-        line.clear();
-        let count = reader
-            .read_until(b'\n', &mut line)
-            .map_err(Fault::from_read)?;
-        if count == 0 {
+        if !read_line(reader, &mut line)? {
             return Ok(());
         }
         match engine.play_line(without_line_feed(&line), cx) {
@@ -50,24 +47,6 @@ fn play_lines<B: BufRead, W: Write>(
         write_out(writer, engine.reply.as_str())?;
     }
     Err(Fault::InputFailed)
-}
-
-// The last line of a script may have none.
-fn without_line_feed(line: &[u8]) -> &[u8] {
-    match line {
-        [text @ .., b'\n'] => text,
-        text => text,
-    }
-}
-
-fn write_out<W: Write>(writer: &mut W, reply: &str) -> Result<(), Fault> {
-    if reply.is_empty() {
-        return Ok(());
-    }
-    writer
-        .write_all(reply.as_bytes())
-        .map_err(|_| Fault::OutputFailed)?;
-    writer.flush().map_err(|_| Fault::OutputFailed)
 }
 
 // A script's pool, once there is one, and the reply to its last line.

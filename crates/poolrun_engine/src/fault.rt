@@ -58,7 +58,7 @@ impl From<AllocError> for Fault {
 impl fmt::Display for Fault {
     fn fmt<W: fmt::Write>(&self, f: &mut fmt::Formatter<W>) -> fmt::Result {
         match self {
-            Fault::Usage => f.write_str("usage: poolrun [threads N M]"),
+            Fault::Usage => f.write_str("usage: poolrun [threads N M | buffers MOST]"),
             Fault::NotAMove(number) => write!(f, "line {number}: not a move"),
             Fault::OutOfMemory => f.write_str("out of memory"),
             Fault::InputFailed => f.write_str("input failed"),

@@ -1,4 +1,7 @@
-//! A program that plays the script which it is given.
+//! A program that does what its arguments say.
+use crate::arguments::Task;
+use crate::buffers::{builder_of, fill_buffers};
+use crate::counting::count;
 use crate::engine::play;
 use crate::fault::Fault;
 use std::env;
@@ -6,9 +9,16 @@ use std::io::{BufRead, Write};
 use std::process::ExitCode;
 use std::random::RandomSource;
 use std::rt::Env;
+use std::sync::Wait;
+use std::thread::Threads;
 
-/// Plays the script that the reader gives, and writes the replies to the writer. A run that ends before its input does
-/// says why on `errors`, in a line of its own. Gives the status that the program is to end with.
+/// Does what the arguments say. With none it plays the script that the reader gives, and writes the replies to the writer.
+/// With `threads N M` it reads nothing: in N threads, M times each, one is added to an object of a pool, and the writer
+/// is given the pool's status and the sum of its objects. With `buffers MOST` it puts each line that it reads into a
+/// buffer of a pool, and writes which one it was.
+///
+/// A run that ends before its input does says why on `errors`, in a line of its own. Gives the status that the program is
+/// to end with.
 pub fn run<R, B: BufRead, W: Write, E: Write>(
     rt: &R,
     reader: &mut B,
@@ -17,6 +27,7 @@ pub fn run<R, B: BufRead, W: Write, E: Write>(
 ) -> ExitCode
 where
     R: Env + RandomSource + AllocGlobal,
+    R: Wait + Threads + Drop + Copy + Send + Sync + 'static,
 {
     match obey(rt, reader, writer) {
         Ok(()) => ExitCode::SUCCESS,
@@ -29,15 +40,17 @@ where
     }
 }
 
-// Does what the arguments say: with any after the program's name, nothing is read.
+// Does what the arguments after the program's name say. With others than it knows, nothing is read.
 fn obey<R, B: BufRead, W: Write>(rt: &R, reader: &mut B, writer: &mut W) -> Result<(), Fault>
 where
     R: Env + RandomSource + AllocGlobal,
+    R: Wait + Threads + Drop + Copy + Send + Sync + 'static,
 {
     let mut arguments = env::args(rt).map_err(Fault::from_arguments)?;
     let _program = arguments.next();
-    match arguments.next() {
-        None => play(rt, reader, writer),
-        Some(_) => Err(Fault::Usage),
+    match Task::parse(&mut arguments).ok_or(Fault::Usage)? {
+        Task::Play => play(rt, reader, writer),
+        Task::Count(crowd) => count(rt, crowd, writer),
+        Task::Fill(most) => fill_buffers(rt, builder_of(rt.alloc(), most), reader, writer),
     }
 }

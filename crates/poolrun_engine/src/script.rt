@@ -8,6 +8,7 @@ pub use managed::{ManagedLine, parse_managed};
 pub use pool::{ManagedPool, PoolLine, Settings, UnmanagedPool, parse_pool};
 use std::alloc::{AllocError, AllocFailed};
 pub use unmanaged::parse_unmanaged;
+pub use words::parse_number;
 
 /// Why a line was not done.
 #[derive(Clone, Copy, Debug, PartialEq, Eq)]

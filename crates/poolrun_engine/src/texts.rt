@@ -83,7 +83,8 @@ fn write_retained(text: &mut String, retain: &RetainResult<u64>) -> Result<(), A
     Ok(())
 }
 
-fn write_status(text: &mut String, status: Status) -> Result<(), AllocError> {
+/// Appends how a pool stands.
+pub fn write_status(text: &mut String, status: Status) -> Result<(), AllocError> {
     let Status {
         max_size,
         size,

@@ -1,7 +1,6 @@
 //! Readers and writers of which one call fails, and a pair that sees in which order it is read and written.
 use super::{Lines, replies_of, script_of};
-use crate::engine;
-use crate::fault::Fault;
+use poolrun_engine::Fault;
 use std::cell::Cell;
 use std::io;
 use std::io::{BufRead, ErrorKind, Read, Write};
@@ -60,17 +59,18 @@ impl<'a> BufRead for FailingReader<'a> {
     }
 }
 
-fn lines_in(bytes: &[u8]) -> usize {
+/// How many lines end in a text.
+pub fn lines_in(bytes: &[u8]) -> usize {
     bytes.iter().filter(|byte| **byte == b'\n').count()
 }
 
-// So many bytes of a text, or all of it.
-fn first_bytes(text: &[u8], count: usize) -> &[u8] {
+/// So many bytes of a text, or all of it.
+pub fn first_bytes(text: &[u8], count: usize) -> &[u8] {
     &text[..count.min(text.len())]
 }
 
-// So many lines of a text, or all of it.
-fn first_lines(text: &[u8], count: usize) -> &[u8] {
+/// So many lines of a text, or all of it.
+pub fn first_lines(text: &[u8], count: usize) -> &[u8] {
     for end in 0..text.len() {
         if lines_in(&text[..end]) == count {
             return &text[..end];
@@ -91,7 +91,7 @@ fn a_failed_read_ends_the_run(rt: HostRuntime) -> Result<(), Fail> {
             kind: ErrorKind::BrokenPipe,
         };
         let mut written = Vec::new(rt.alloc());
-        let ending = engine::play(&rt, &mut reader, &mut written);
+        let ending = poolrun_engine::play(&rt, &mut reader, &mut written);
         let lines = lines_in(first_bytes(script.as_bytes(), reads));
         let whole = first_lines(replies.as_bytes(), lines);
         let want = if reads <= script.len() {
@@ -116,7 +116,7 @@ fn a_read_that_was_interrupted_is_tried_again(rt: HostRuntime) -> Result<(), Fai
             kind: ErrorKind::Interrupted,
         };
         let mut written = Vec::new(rt.alloc());
-        let ending = engine::play(&rt, &mut reader, &mut written);
+        let ending = poolrun_engine::play(&rt, &mut reader, &mut written);
         assert_eq!(rt; ending, Ok(()), "at read {reads}");
         assert_eq!(rt; written.as_slice(), replies.as_bytes(), "at read {reads}");
     }
@@ -156,7 +156,7 @@ fn a_failed_write_ends_the_run(rt: HostRuntime) -> Result<(), Fail> {
             writes_left: Some(writes),
             flushes_left: None,
         };
-        let ending = engine::play(&rt, &mut reader, &mut writer);
+        let ending = poolrun_engine::play(&rt, &mut reader, &mut writer);
         let whole = first_bytes(replies.as_bytes(), writes);
         let want = if writes < replies.len() {
             Err(Fault::OutputFailed)
@@ -185,7 +185,7 @@ fn a_failed_flush_ends_the_run(rt: HostRuntime) -> Result<(), Fail> {
             writes_left: None,
             flushes_left: Some(flushes),
         };
-        let ending = engine::play(&rt, &mut reader, &mut writer);
+        let ending = poolrun_engine::play(&rt, &mut reader, &mut writer);
         let lines = flushes.saturating_add(1);
         let whole = first_lines(replies.as_bytes(), lines);
         let want = if flushes < SCRIPT.len() {
@@ -204,11 +204,11 @@ fn a_failed_flush_ends_the_run(rt: HostRuntime) -> Result<(), Fail> {
     Ok(())
 }
 
-// Two ends of one conversation: how many replies were flushed.
+/// Two ends of one conversation: how many replies were flushed.
 #[derive(Drop)]
-struct Listener<'a> {
-    written: Vec<u8>,
-    flushed: &'a Cell<usize>,
+pub struct Listener<'a> {
+    pub written: Vec<u8>,
+    pub flushed: &'a Cell<usize>,
 }
 
 impl<'a> Write for Listener<'a> {
@@ -223,12 +223,12 @@ impl<'a> Write for Listener<'a> {
     }
 }
 
-// Gives one line at each read. A read that comes before the reply to each line before it has been flushed fails.
+/// Gives one line at each read. A read that comes before the reply to each line before it has been flushed fails.
 #[derive(Drop)]
-struct Speaker<'a> {
-    flushed: &'a Cell<usize>,
-    text: &'a [u8],
-    lines: usize,
+pub struct Speaker<'a> {
+    pub flushed: &'a Cell<usize>,
+    pub text: &'a [u8],
+    pub lines: usize,
 }
 
 impl<'a> Read for Speaker<'a> {
@@ -269,7 +269,10 @@ fn each_reply_is_out_before_the_next_line_is_read(rt: HostRuntime) -> Result<(),
         written: Vec::new(rt.alloc()),
         flushed: &flushed,
     };
-    assert_eq!(rt; engine::play(&rt, &mut speaker, &mut listener), Ok(()));
+    assert_eq!(rt;
+        poolrun_engine::play(&rt, &mut speaker, &mut listener),
+        Ok(())
+    );
     assert_eq!(rt; listener.written.as_slice(), replies.as_bytes());
     assert_eq!(rt; flushed.get(), SCRIPT.len());
     Ok(())

@@ -1,6 +1,6 @@
 //! What is not in the language, and what just is.
 use super::play;
-use crate::fault::Fault;
+use poolrun_engine::Fault;
 use std::process::Abort;
 use std::random::RandomSource;
 use std::test::Fail;

@@ -1,5 +1,8 @@
+mod backend;
+mod buffers;
 mod cancelled;
 mod configuration;
+mod counting;
 mod faults;
 mod first_path;
 mod limits;
@@ -10,12 +13,12 @@ mod preparation;
 mod program;
 mod rare_replies;
 mod refused;
+mod started;
 mod streams;
 mod timeouts;
 mod unmanaged;
 
-use crate::engine;
-use crate::fault::Fault;
+use poolrun_engine::Fault;
 use std::alloc::{AllocError, Global};
 use std::process::Abort;
 use std::random::RandomSource;
@@ -51,7 +54,7 @@ pub fn play<R: RandomSource + AllocGlobal>(
 ) -> Result<(String, Result<(), Fault>), Fail> {
     let mut reader = script;
     let mut written = Vec::new(rt.alloc());
-    let ending = engine::play(rt, &mut reader, &mut written);
+    let ending = poolrun_engine::play(rt, &mut reader, &mut written);
     Ok((String::from_utf8(written)?, ending))
 }
 

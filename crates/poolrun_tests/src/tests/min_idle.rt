@@ -1,6 +1,6 @@
 //! Scripts over pools that keep a least number of objects idle.
 use super::{Lines, play, replies_as_written};
-use crate::fault::Fault;
+use poolrun_engine::Fault;
 use std::test::Fail;
 
 const SCRIPTS: [(&'static str, Lines); 17] = [

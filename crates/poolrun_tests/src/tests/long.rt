@@ -1,6 +1,6 @@
 //! Long lines, and numbers of many digits.
 use super::{Lines, play, replies_of, script_of};
-use crate::fault::Fault;
+use poolrun_engine::Fault;
 use std::alloc::{AllocError, Global};
 use std::process::Abort;
 use std::random::RandomSource;

@@ -1,8 +1,7 @@
 //! Replies of an unmanaged pool that no script of ours can bring about.
-use crate::opening::UnmanagedTrial;
-use crate::texts::write_unmanaged;
 use deadpool::replay::unmanaged::Reply;
 use deadpool::unmanaged::PoolError;
+use poolrun_engine::{UnmanagedTrial, write_unmanaged};
 use std::test::Fail;
 
 // They need 2^64 - 1 adds, or a queue without memory.

@@ -1,5 +1,5 @@
 //! What a fault says, its status, and which error is which fault.
-use crate::fault::Fault;
+use poolrun_engine::Fault;
 use std::io;
 use std::io::ErrorKind;
 use std::test::Fail;
@@ -7,7 +7,11 @@ use std::test::Fail;
 #[test]
 fn faults_have_their_texts(rt: HostRuntime) -> Result<(), Fail> {
     for (fault, text, status) in [
-        (Fault::Usage, "usage: poolrun [threads N M]", 2),
+        (
+            Fault::Usage,
+            "usage: poolrun [threads N M | buffers MOST]",
+            2,
+        ),
         (Fault::NotAMove(12), "line 12: not a move", 2),
         (Fault::OutOfMemory, "out of memory", 1),
         (Fault::InputFailed, "input failed", 1),

@@ -1,0 +1,58 @@
+//! What is known of a buffer that its pool hands out.
+ghost use Rattle.std.specs.Prelude.{◌≡◌, [], length, IfOk, OnOk};
+ghost use Rattle.futures.specs.Poll.{OnPending};
+ghost use Rattle.futures.specs.Task.{IsArmed, Keeps};
+ghost use Rattle.deadpool_managed.specs.Answers.{IfReadyOk};
+
+use crate::manager::{BufferError, Buffers};
+use deadpool::Clock;
+use deadpool::managed::{Get, NoHook, Object, Pool, PoolError};
+use futures::Future;
+use futures::task::{Context, Poll};
+use std::alloc::AllocError;
+use std::sync::Wait;
+use std::sync::ledger::Ledger;
+
+/// A pool of buffers that has no hooks.
+pub type BufferPool<C, R, G, N, O> = Pool<Buffers, NoHook, NoHook, C, R, G, N, O>;
+
+/// A buffer out of such a pool. It goes back when it is dropped.
+pub type Buffer<C, R, G, N, O> = Object<Buffers, NoHook, NoHook, C, R, G, N, O>;
+
+/// A get for such a buffer.
+pub type GetBuffer<C, R, G, N, O> = Get<
+    Buffers,
+    NoHook,
+    NoHook,
+    C,
+    R,
+    G,
+    N,
+    O,
+    Buffer<C, R, G, N, O>,
+>;
+
+/// Polls a get. The buffer that it hands out is empty, whatever was in it when it came back.
+pub fn poll_buffer<C: Clock + Drop, R: Wait + Drop, G: Ledger, N: Ledger, O: Ledger>(
+    get: &mut GetBuffer<C, R, G, N, O>,
+    cx: &mut Context<'_>,
+) -> Poll<Result<Buffer<C, R, G, N, O>, PoolError<BufferError>>>
+    ensures empty { IfReadyOk result (λ buffer. buffer.slot.value.items ≡ []) }
+    ensures armed { OnPending result (IsArmed cx.new) }
+    ensures kept { Keeps cx.old cx.new }
+{
+    get.poll(cx)
+}
+
+/// Puts a line into a buffer that was handed out, and says how many bytes are in it then.
+pub fn fill<C: Clock + Drop, R: Wait + Drop, G: Ledger, N: Ledger, O: Ledger>(
+    buffer: &mut Buffer<C, R, G, N, O>,
+    line: &[u8],
+) -> Result<usize, AllocError>
+    requires empty { buffer.old.slot.value.items ≡ [] }
+    ensures length { IfOk result (λ count. count ≡ length line.now) }
+    ensures filled { OnOk result (buffer.new.slot.value.items ≡ line.now) }
+{
+    buffer.extend_from_slice(line)?;
+    Ok(buffer.len())
+}

@@ -1,0 +1,159 @@
+//! Buffers out of a pool of one, and the texts of what is refused.
+ghost use Rattle.deadpool_shared.specs.Opens.{Opens};
+
+use deadpool::managed::{Manager, Metrics, Object, PoolBuilder};
+use deadpool::{Clock, Moment};
+use futures::task::{Context, Doorbell, Poll, Solo};
+use poolrun_buffers::{BufferError, BufferPool, Buffers, GetBuffer, fill, poll_buffer};
+use std::alloc::AllocError;
+use std::marker::Brand;
+use std::random::RandomSource;
+use std::sync::Wait;
+use std::sync::ledger::{Blank, Ledger};
+use std::test::Fail;
+
+// Nobody asks for the time, as no timeout is set.
+#[derive(Drop)]
+struct NoTime;
+
+impl Clock for NoTime {
+    fn now(&self) -> Moment {
+        Moment(0)
+    }
+
+    fn wake_at(&self, _at: Moment, _cx: &mut Context<'_>) {}
+}
+
+// Polls a get once, puts the line into the buffer that it gives, and appends what came of it.
+fn put_line<R: Wait + Drop, G: Ledger, N: Ledger, O: Ledger>(
+    task: &Solo,
+    get: &mut GetBuffer<NoTime, R, G, N, O>,
+    line: &[u8],
+    text: &mut String,
+) -> Result<(), AllocError> {
+    let mut cx = task.begin();
+    let polled = poll_buffer(get, &mut cx);
+    cx.cancel();
+    match polled {
+        Poll::Ready(Ok(mut buffer)) => {
+            let count = fill(&mut buffer, line)?;
+            let id = Object::id(&buffer);
+            let is_whole = buffer.as_slice() == line;
+            writeln!(text, "buffer {id} bytes {count} {is_whole}")
+        }
+        Poll::Ready(Err(cause)) => writeln!(text, "{cause}"),
+        Poll::Pending => text.push_str("pending\n"),
+    }
+}
+
+// Gets a buffer for each line of a pool of one, and lets it go back.
+fn put_lines<R, G: Ledger, N: Ledger, O: Ledger>(
+    rt: R,
+    manager: Buffers,
+    lines: &[&[u8]],
+    going: Blank,
+    creations: Blank,
+    outside: Blank,
+) -> Result<String, Fail>
+where
+    R: Wait + RandomSource + AllocGlobal + Drop + Copy + Send + Sync,
+    requires going { Opens G.Ledger going }
+    requires creations { Opens N.Ledger creations }
+    requires outside { Opens O.Ledger outside }
+{
+    let builder = PoolBuilder::new(rt.alloc(), manager, NoTime).max_size(1);
+    let pool: BufferPool<NoTime, R, G, N, O> = builder.build(going, creations, outside, rt)?;
+    let task = Solo::new(&rt, Doorbell::spinning())?;
+    let mut text = String::new(rt.alloc());
+    for line in lines {
+        put_line(&task, &mut pool.get(), line, &mut text)?;
+    }
+    Ok(text)
+}
+
+// What comes of the lines at a manager with these numbers.
+fn comes_of<R>(rt: R, reserve: usize, most: usize, lines: &[&[u8]]) -> Result<String, Fail>
+where
+    R: Wait + RandomSource + AllocGlobal + Drop + Copy + Send + Sync,
+{
+    let manager = Buffers {
+        alloc: rt.alloc(),
+        reserve,
+        most,
+    };
+    let going = Blank::new(u64::MAX);
+    let creations = Blank::new(u64::MAX);
+    let outside = Blank::new(u64::MAX);
+    put_lines::<_, Brand, Brand, Brand>(rt, manager, lines, going, creations, outside)
+}
+
+const LINES: [&[u8]; 4] = [b"abcd", b"abcde", b"x", b""];
+
+#[test]
+fn a_buffer_that_is_too_long_is_not_used_again(rt: HostRuntime) -> Result<(), Fail> {
+    let text = comes_of(rt, 16, 4, &LINES)?;
+    let want =
+        "buffer 0 bytes 4 true\nbuffer 0 bytes 5 true\nbuffer 1 bytes 1 true\nbuffer 1 bytes 0 true\n";
+    assert_eq!(rt; text.as_str(), want);
+    Ok(())
+}
+
+#[test]
+fn only_a_buffer_that_stayed_empty_is_used_again(rt: HostRuntime) -> Result<(), Fail> {
+    let lines: [&[u8]; 3] = [b"", b"a", b"\n\xff"];
+    let text = comes_of(rt, 0, 0, &lines)?;
+    let want = "buffer 0 bytes 0 true\nbuffer 0 bytes 1 true\nbuffer 1 bytes 2 true\n";
+    assert_eq!(rt; text.as_str(), want);
+    Ok(())
+}
+
+#[test]
+fn every_buffer_is_used_again(rt: HostRuntime) -> Result<(), Fail> {
+    let text = comes_of(rt, 1, usize::MAX, &LINES)?;
+    let want =
+        "buffer 0 bytes 4 true\nbuffer 0 bytes 5 true\nbuffer 0 bytes 1 true\nbuffer 0 bytes 0 true\n";
+    assert_eq!(rt; text.as_str(), want);
+    Ok(())
+}
+
+// A buffer that was not made takes no number, and the place is free for the next get.
+#[test]
+fn no_memory_for_a_buffer(rt: HostRuntime) -> Result<(), Fail> {
+    let text = comes_of(rt, usize::MAX, 4, &[b"a", b"b"])?;
+    let line = "Error occurred while creating a new object: No memory for a buffer\n";
+    let want = format!(in rt.alloc(); "{line}{line}")?;
+    assert_eq!(rt; text.as_str(), want.as_str());
+    Ok(())
+}
+
+#[test]
+fn the_error_has_its_text(rt: HostRuntime) -> Result<(), Fail> {
+    let text = format!(in rt.alloc(); "{}", BufferError::OutOfMemory)?;
+    assert_eq!(rt; text.as_str(), "No memory for a buffer");
+    Ok(())
+}
+
+#[test]
+fn the_refusal_of_a_long_buffer_has_its_text(rt: HostRuntime) -> Result<(), Fail> {
+    let manager = Buffers {
+        alloc: rt.alloc(),
+        reserve: 0,
+        most: 1,
+    };
+    let mut buffer = vec![in rt.alloc(); 7u8, 8]?;
+    let metrics = Metrics::new(Moment(0));
+    let task = Solo::new(&rt, Doorbell::spinning())?;
+    let mut cx = task.begin();
+    let polled = manager.poll_recycle(&mut (), &mut buffer, &metrics, &mut cx);
+    cx.cancel();
+    let Poll::Ready(Err(cause)) = polled else {
+        return Err(Fail::new("not refused"));
+    };
+    let text = format!(in rt.alloc(); "{cause}")?;
+    assert_eq!(rt;
+        text.as_str(),
+        "Error occurred while recycling an object: buffer too long"
+    );
+    assert_eq!(rt; buffer.as_slice(), [7, 8].as_slice());
+    Ok(())
+}

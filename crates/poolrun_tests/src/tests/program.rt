@@ -1,0 +1,163 @@
+//! A whole program: its arguments, what it says, and the status that it ends with.
+use super::started::{Arguments, Started, ends_so};
+use super::streams::{FailingReader, FailingWriter};
+use poolrun_engine::run;
+use std::io::ErrorKind;
+use std::test::Fail;
+
+const NAME: Arguments = &[b"poolrun"];
+
+// Scripts, what they write, what is said of their end, and the status.
+const SCRIPTS: [(&[u8], &[u8], &str, u8); 4] = [
+    (b"pool 1 fifo none 0\nstart", b"ok\nparty 0\n", "", 0),
+    (b"", b"", "", 0),
+    (b"start\n", b"", "line 1: not a move\n", 2),
+    (
+        b"unmanaged 1 none\n# get\nget\nstop\nstatus\n",
+        b"ok\nparty 0\n",
+        "line 4: not a move\n",
+        2,
+    ),
+];
+
+#[test]
+fn text_and_status_say_how_a_script_ended(rt: HostRuntime) -> Result<(), Fail> {
+    for (script, replies, said, status) in SCRIPTS {
+        let mut reader = script;
+        let mut written = Vec::new(rt.alloc());
+        ends_so(rt, NAME, &mut reader, &mut written, said, status)?;
+        assert_eq!(rt; written.as_slice(), replies, "before {said:?}");
+    }
+    Ok(())
+}
+
+const ARGUMENTS: [Arguments; 5] = [
+    &[b"poolrun", b"threads"],
+    &[b"poolrun", b"script", b"more"],
+    &[b"poolrun", b"poolrun"],
+    &[b"poolrun", b""],
+    &[b"poolrun", b"\xff"],
+];
+
+// With an argument that it does not know, nothing is read.
+#[test]
+fn arguments_are_refused(rt: HostRuntime) -> Result<(), Fail> {
+    for arguments in ARGUMENTS {
+        let mut reader: &[u8] = b"pool 1 fifo none 0\n";
+        let mut written = Vec::new(rt.alloc());
+        let said = "usage: poolrun [threads N M | buffers MOST]\n";
+        ends_so(rt, arguments, &mut reader, &mut written, said, 2)?;
+        assert!(rt; written.is_empty());
+        assert_eq!(rt; reader.len(), 19);
+    }
+    Ok(())
+}
+
+#[test]
+fn failing_streams_have_their_texts(rt: HostRuntime) -> Result<(), Fail> {
+    for (kind, said) in [
+        (ErrorKind::UnexpectedEof, "input failed\n"),
+        (ErrorKind::OutOfMemory, "out of memory\n"),
+    ] {
+        let mut reader = FailingReader {
+            text: b"",
+            reads_left: Some(0),
+            kind,
+        };
+        ends_so(rt, NAME, &mut reader, &mut Vec::new(rt.alloc()), said, 1)?;
+    }
+    for (writes_left, flushes_left) in [(Some(0), None), (None, Some(0))] {
+        let mut reader: &[u8] = b"pool 1 fifo none 0\n";
+        let mut writer = FailingWriter {
+            written: Vec::new(rt.alloc()),
+            writes_left,
+            flushes_left,
+        };
+        ends_so(rt, NAME, &mut reader, &mut writer, "output failed\n", 1)?;
+    }
+    Ok(())
+}
+
+// What cannot be said changes no status.
+#[test]
+fn the_status_stands_where_nothing_is_said(rt: HostRuntime) -> Result<(), Fail> {
+    let started = Started {
+        rt,
+        arguments: NAME,
+    };
+    let mut errors = FailingWriter {
+        written: Vec::new(rt.alloc()),
+        writes_left: Some(0),
+        flushes_left: None,
+    };
+    let mut reader: &[u8] = b"start\n";
+    let mut written = Vec::new(rt.alloc());
+    let ending = run(&started, &mut reader, &mut written, &mut errors);
+    let shown = format!(in rt.alloc(); "{ending:?}")?;
+    assert_eq!(rt; shown.as_str(), "ExitCode(unix_exit_status(2))");
+    assert!(rt; written.is_empty() && errors.written.is_empty());
+    Ok(())
+}
+
+// What the program is started with, what it reads, and what it writes.
+const LINES: [(Arguments, &[u8], &[u8]); 4] = [
+    (
+        &[b"poolrun", b"buffers", b"4"],
+        b"abcd\nabcde\nx\n\n",
+        b"buffer 0 bytes 4\nbuffer 0 bytes 5\nbuffer 1 bytes 1\nbuffer 1 bytes 0\n",
+    ),
+    (
+        &[b"poolrun", b"buffers", b"0001"],
+        b"a\nab\nabc",
+        b"buffer 0 bytes 1\nbuffer 0 bytes 2\nbuffer 1 bytes 3\n",
+    ),
+    (
+        &[b"poolrun", b"buffers", b"0"],
+        b"\na\n",
+        b"buffer 0 bytes 0\nbuffer 0 bytes 1\n",
+    ),
+    (
+        &[b"poolrun", b"buffers", b"18446744073709551615"],
+        b"pool 1 fifo none 0\nstart\n",
+        b"buffer 0 bytes 18\nbuffer 0 bytes 5\n",
+    ),
+];
+
+#[test]
+fn lines_are_put_into_buffers(rt: HostRuntime) -> Result<(), Fail> {
+    for (arguments, lines, replies) in LINES {
+        let mut reader = lines;
+        let mut written = Vec::new(rt.alloc());
+        ends_so(rt, arguments, &mut reader, &mut written, "", 0)?;
+        assert_eq!(rt; written.as_slice(), replies);
+        assert!(rt; reader.is_empty());
+    }
+    Ok(())
+}
+
+const NOT_ONE_NUMBER: [Arguments; 10] = [
+    &[b"poolrun", b"buffers"],
+    &[b"poolrun", b"buffers", b""],
+    &[b"poolrun", b"buffers", b"-1"],
+    &[b"poolrun", b"buffers", b"+1"],
+    &[b"poolrun", b"buffers", b"1.0"],
+    &[b"poolrun", b"buffers", b" 1"],
+    &[b"poolrun", b"buffers", b"18446744073709551616"],
+    &[b"poolrun", b"buffers", b"4", b"4"],
+    &[b"poolrun", b"buffers", b"4", b""],
+    &[b"poolrun", b"buffers", b"4", b"\xff"],
+];
+
+// `buffers` takes one number in its range.
+#[test]
+fn buffers_take_one_number(rt: HostRuntime) -> Result<(), Fail> {
+    for arguments in NOT_ONE_NUMBER {
+        let mut reader: &[u8] = b"line\n";
+        let mut written = Vec::new(rt.alloc());
+        let said = "usage: poolrun [threads N M | buffers MOST]\n";
+        ends_so(rt, arguments, &mut reader, &mut written, said, 2)?;
+        assert!(rt; written.is_empty());
+        assert_eq!(rt; reader.len(), 5);
+    }
+    Ok(())
+}
