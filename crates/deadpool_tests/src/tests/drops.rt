@@ -1,11 +1,11 @@
 //! Drops of objects, which no contract counts: each is dropped once, by whoever has it last.
-use super::managers::count;
 use deadpool::managed::{
     BackReply, Core, CreatedReply, Desk, EnterReply, Metrics, QueueMode, Serving, Slot,
 };
 use deadpool::{Moment, unmanaged};
 use std::cell::Cell;
 use std::test::Fail;
+use test_support::managers::count;
 
 /// An object that counts its drop.
 pub struct Tracked<'a> {

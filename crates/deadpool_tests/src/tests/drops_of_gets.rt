@@ -1,8 +1,6 @@
 //! Drops of what gets give up: objects, and what creations and recyclings have begun. Nothing of it is kept by anybody,
 //! whether the pool knows of the step that gives it up or not.
-use super::managers::Calls;
-use super::new_core;
-use super::polls::{Answering, poll, task};
+use super::polls::{poll, task};
 use super::told::{Answer, Lent, Object, environment};
 use super::watched::Watched;
 use deadpool::Moment;
@@ -14,6 +12,9 @@ use futures::task::Solo;
 use std::alloc::Global;
 use std::test::Fail;
 use std::time::Duration;
+use test_support::answering::Answering;
+use test_support::bench::new_core;
+use test_support::managers::Calls;
 
 // The desk of a pool for one object, which knows of the steps that give up or not.
 fn desk<'a>(alloc: Global, calls: &'a Calls, knows: bool) -> Result<Watched<'a, Object>, Fail> {

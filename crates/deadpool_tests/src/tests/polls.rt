@@ -1,40 +1,12 @@
-//! Gets that are polled over a desk, and a hook that does not accept.
+//! Gets that are polled over a desk.
 ghost use Rattle.deadpool_managed.specs.declared.desk.Holding.{Holding};
 
 use deadpool::Moment;
-use deadpool::managed::{
-    AsyncHook, Desk, Environment, GetState, HookError, HookResult, Manager, Metrics, NoHook,
-    PoolError, Slot, Turn,
-};
-use futures::task::{Context, Doorbell, Poll, Solo};
+use deadpool::managed::{Desk, Environment, GetState, Manager, NoHook, PoolError, Slot, Turn};
+use futures::task::{Doorbell, Solo};
 use std::random::RandomSource;
 use std::test::Fail;
-
-/// A hook that refuses each object, or is pending for ever.
-#[derive(Drop)]
-pub enum Answering {
-    Refuses,
-    Stalls,
-}
-
-impl<M: Manager> AsyncHook<M> for Answering {
-    type State = ();
-
-    fn begin(&self, _value: &mut M::Type, _metrics: &Metrics) -> () {}
-
-    fn poll(
-        &self,
-        _state: &mut (),
-        _value: &mut M::Type,
-        _metrics: &Metrics,
-        _cx: &mut Context<'_>,
-    ) -> Poll<HookResult<M::Error>> {
-        match self {
-            Answering::Refuses => Poll::Ready(Err(HookError::message("refused"))),
-            Answering::Stalls => Poll::Pending,
-        }
-    }
-}
+use test_support::answering::Answering;
 
 /// Polls a get over a desk once: what it ended with, or none where it is pending.
 pub fn poll<M: Manager + Drop, D: Desk<M::Type>>(

@@ -1,11 +1,11 @@
 //! Retains over a pool's state, by retainers that change with each call.
-use super::stands;
 use deadpool::Moment;
 use deadpool::managed::{
     BackReply, Core, CreatedReply, Desk, EnterReply, Metrics, QueueMode, Retainer, Serving, Slot,
 };
 use std::test::Fail;
 use std::time::Duration;
+use test_support::bench::stands;
 
 // A new object, created at a moment.
 fn object(core: &mut Core<u64>, created: u128) -> Result<Slot<u64>, Fail> {

@@ -1,6 +1,4 @@
 //! A manager that answers as it is told. What it makes is counted while it is there.
-use super::managers::Refused;
-use super::polls::Answering;
 use deadpool::Runtime;
 use deadpool::managed::{
     Environment, Hooks, Manager, Metrics, NoHook, RecycleError, RecycleResult,
@@ -9,6 +7,8 @@ use futures::task::{Context, Poll};
 use std::alloc::{AllocError, Global};
 use std::cell::Cell;
 use std::rc::Rc;
+use test_support::answering::Answering;
+use test_support::managers::Refused;
 
 /// An object. All objects of a manager share one count.
 pub type Object = Rc<(), Global>;

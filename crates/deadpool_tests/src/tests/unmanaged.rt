@@ -1,5 +1,4 @@
 //! Unmanaged pools on one thread, by the moves of a trial and by the steps of their state.
-use super::stands;
 use deadpool::replay::unmanaged::{Move, Reply, Trial};
 use deadpool::unmanaged::{
     AddEnterReply, AddState, BackReply, Core, GetEnterReply, GetState, HandleReply, PoolConfig,
@@ -10,6 +9,7 @@ use futures::task::Poll;
 use std::alloc::Global;
 use std::test::Fail;
 use std::time::Duration;
+use test_support::bench::stands;
 
 /// A trial of numbers, by one move at a time.
 #[derive(Drop)]

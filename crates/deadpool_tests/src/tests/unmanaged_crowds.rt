@@ -1,10 +1,10 @@
 //! Whole lists of moves over an unmanaged pool, many parties, and a large limit.
-use super::stands;
 use deadpool::replay::unmanaged::{Move, Reply, Trial};
 use deadpool::unmanaged::{AddEnterReply, BackReply, Core, GetEnterReply};
 use deadpool::{Moment, Status};
 use std::alloc::Global;
 use std::test::Fail;
+use test_support::bench::stands;
 
 const CROWD: usize = 1_024;
 

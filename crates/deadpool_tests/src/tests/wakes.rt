@@ -1,11 +1,11 @@
 //! Wakes of its own task, which no contract says: a get that is pending or has ended asks for no further poll.
-use super::new_core;
-use super::polls::Answering;
 use super::told::{Answer, Lent, Object, Told, environment};
 use deadpool::Moment;
 use deadpool::managed::{BackReply, Core, Desk, GetState, Hook, QueueMode, Timeouts, Turn};
 use futures::test::MockTask;
 use std::test::Fail;
+use test_support::answering::Answering;
+use test_support::bench::new_core;
 
 // Polls a get of a pool, and says whether it is pending and has left its task asleep.
 fn sleeps(

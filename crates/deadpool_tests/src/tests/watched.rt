@@ -1,7 +1,6 @@
 //! A desk that shows when objects are detached.
 ghost use Rattle.std.specs.Prelude.{⊤};
 
-use super::managers::Calls;
 use deadpool::Status;
 use deadpool::gate::Ticket;
 use deadpool::managed::{
@@ -9,6 +8,7 @@ use deadpool::managed::{
     RetainResult, Retainer, Slot, StepReply, TakeReply,
 };
 use std::alloc::AllocError;
+use test_support::managers::Calls;
 
 /// A pool's state. At each step that gives an object up it notes how many were detached by then.
 #[derive(Drop)]

@@ -1,9 +1,9 @@
 //! Gets that create, are refused and wait.
-use super::managers::{Counter, Draining, Refused, Unreliable};
-use super::{Bench, stands};
 use deadpool::managed::{NoHook, PoolBuilder, PoolError};
 use std::cell::Cell;
 use std::test::Fail;
+use test_support::bench::{Bench, stands};
+use test_support::managers::{Counter, Draining, Refused, Unreliable};
 
 #[test]
 fn objects_are_created_and_kept(rt: HostRuntime) -> Result<(), Fail> {

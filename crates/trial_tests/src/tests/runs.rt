@@ -1,12 +1,12 @@
 //! Whole lists of moves, one after another on one trial.
-use super::managers::{Counter, Refused};
-use super::{Bench, stands};
 use deadpool::Moment;
 use deadpool::managed::{NoHook, PoolBuilder, QueueMode};
 use deadpool::replay::{Move, Reply};
 use std::alloc::Global;
 use std::random::RandomSource;
 use std::test::Fail;
+use test_support::bench::{Bench, stands};
+use test_support::managers::{Counter, Refused};
 
 type Plain = Bench<Counter, NoHook, NoHook>;
 

@@ -1,6 +1,4 @@
 //! Many gets, and a large limit.
-use super::managers::Counter;
-use super::{Bench, new_core, stands};
 use deadpool::Moment;
 use deadpool::managed::{
     BackReply, Core, CreatedReply, Desk, EnterReply, Metrics, NoHook, PoolBuilder, QueueMode,
@@ -10,6 +8,8 @@ use deadpool::replay::{Move, Reply};
 use std::alloc::Global;
 use std::random::RandomSource;
 use std::test::Fail;
+use test_support::bench::{Bench, new_core, stands};
+use test_support::managers::Counter;
 
 type Plain = Bench<Counter, NoHook, NoHook>;
 

@@ -1,8 +1,6 @@
 //! Hooks in each of a pool's lists.
 ghost use Rattle.deadpool_managed.specs.HookLists.{CanCall};
 
-use super::managers::{Counter, FortyTwo, Refused};
-use super::{Bench, stands};
 use deadpool::Moment;
 use deadpool::managed::{
     AsyncHook, FnHook, Hook, HookError, HookResult, Manager, Metrics, NoHook, PoolBuilder,
@@ -13,6 +11,8 @@ use std::cell::Cell;
 use std::process::Abort;
 use std::random::RandomSource;
 use std::test::Fail;
+use test_support::bench::{Bench, stands};
+use test_support::managers::{Counter, FortyTwo, Refused};
 
 // A pool's list of hooks.
 #[derive(Clone, Copy, Debug)]

@@ -1,10 +1,10 @@
 //! Moves that ask nothing of a manager, which no contract says, and how often a get asks it.
-use super::managers::{Calls, Counted};
-use super::{Bench, stands};
 use deadpool::managed::{NoHook, PoolBuilder};
 use deadpool::replay::{Move, Reply};
 use std::random::RandomSource;
 use std::test::Fail;
+use test_support::bench::{Bench, stands};
+use test_support::managers::{Calls, Counted};
 
 type Counting<'a> = Bench<Counted<'a>, NoHook, NoHook>;
 

@@ -1,8 +1,6 @@
 //! Timeouts of a pool and of its gets.
 ghost use Rattle.deadpool_managed.specs.declared.desk.Holding.{Holding};
 
-use super::managers::{Counter, Draining};
-use super::{Bench, stands};
 use deadpool::managed::{
     BackReply, BuildError, Core, CreatedReply, Desk, EnterReply, Environment, GetState, Hooks,
     Manager, Metrics, NoHook, PoolBuilder, PoolError, QueueMode, Serving, Slot, TimeoutType,
@@ -15,6 +13,8 @@ use futures::test::MockTask;
 use std::cell::Cell;
 use std::test::Fail;
 use std::time::Duration;
+use test_support::bench::{Bench, stands};
+use test_support::managers::{Counter, Draining};
 
 const NO_TIMEOUTS: Timeouts = Timeouts {
     wait: None,

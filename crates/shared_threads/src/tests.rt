@@ -1,0 +1,4 @@
+mod chaos;
+mod jobs;
+mod outside;
+mod replay;

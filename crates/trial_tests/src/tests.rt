@@ -1,0 +1,8 @@
+//! Managed pools on one thread, by the moves of a trial.
+mod calls;
+mod crowds;
+mod gets;
+mod hooks;
+mod quiet;
+mod runs;
+mod timeouts;
