@@ -1,0 +1,59 @@
+//! What a get and its return cost, beside a plain pool and a bare lock.
+//!
+//! The program writes nothing to standard output. With the argument `measure` it does each work often and writes a
+//! table to standard error. Without it, it does each work a few times, which shows that all of it runs.
+#![tactic(auto)]
+
+mod cancels;
+mod crowd;
+mod gates;
+mod host;
+mod line;
+mod managed;
+mod plain;
+mod scale;
+mod table;
+mod tenths;
+mod unmanaged;
+mod vector_gate;
+mod work;
+mod zeros;
+
+use host::Host;
+use scale::Scale;
+use std::process::ExitCode;
+use std::{env, io};
+use table::Table;
+
+fn main(rt: HostRuntime) -> ExitCode {
+    match run(rt) {
+        Ok(()) => ExitCode::SUCCESS,
+        Err(error) => {
+            // If this is not written either, the status still says it.
+            let _ = eprintln!(rt; "{error}");
+            ExitCode::FAILURE
+        }
+    }
+}
+
+fn run<R: Host>(rt: R) -> io::Result<()> {
+    let table = Table::new(rt, asked_scale(&rt)?);
+    managed::measure(table)?;
+    unmanaged::measure(table)?;
+    gates::measure(table)
+}
+
+// How much the arguments ask for.
+fn asked_scale<R: Host>(rt: &R) -> io::Result<Scale> {
+    let mut arguments = env::args(rt)?;
+    let _program = arguments.next();
+    let measures = match arguments.next() {
+        Some(argument) => argument.as_str() == "measure",
+        None => false,
+    };
+    Ok(if measures {
+        Scale::MEASURE
+    } else {
+        Scale::QUICK
+    })
+}

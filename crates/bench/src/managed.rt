@@ -1,0 +1,245 @@
+//! The managed pool.
+ghost use Rattle.deadpool_shared.specs.Opens.{Opens};
+
+use crate::cancels::cancels;
+use crate::crowd::{LIMIT, crowds};
+use crate::host::Host;
+use crate::line::Line;
+use crate::table::Table;
+use crate::work::{SharedWork, Work};
+use crate::zeros::{NoTime, Zeros};
+use deadpool::managed::{Get, NoHook, Object, Pool, PoolBuilder};
+use futures::Future;
+use futures::executor::block_on;
+use futures::task::{Doorbell, Poll, Solo};
+use futures::test::MockTask;
+use std::alloc::AllocError;
+use std::marker::Brand;
+use std::sync::ledger::{Blank, Ledger};
+use std::{io, thread};
+
+type ZeroPool<R, G, N, O> = Pool<Zeros, NoHook, NoHook, NoTime, R, G, N, O>;
+
+type Zero<R, G, N, O> = Object<Zeros, NoHook, NoHook, NoTime, R, G, N, O>;
+
+type ZeroGet<R, G, N, O> = Get<Zeros, NoHook, NoHook, NoTime, R, G, N, O, Zero<R, G, N, O>>;
+
+/// Times all work of a managed pool.
+pub fn measure<R: Host>(table: Table<R>) -> io::Result<()> {
+    let going = Blank::new(u64::MAX);
+    let creations = Blank::new(u64::MAX);
+    let outside = Blank::new(u64::MAX);
+    measure_pool::<_, Brand, Brand, Brand>(table, going, creations, outside)
+}
+
+// A blank opens each of the ledgers that the pool counts with.
+fn measure_pool<R, G, N, O>(
+    table: Table<R>,
+    going: Blank,
+    creations: Blank,
+    outside: Blank,
+) -> io::Result<()>
+where
+    R: Host,
+    G: Ledger + Send + Sync + 'static,
+    N: Ledger + Send + Sync + 'static,
+    O: Ledger + Send + Sync + 'static,
+    requires going { Opens G.Ledger going }
+    requires creations { Opens N.Ledger creations }
+    requires outside { Opens O.Ledger outside }
+{
+    let builder = PoolBuilder::new(table.rt.alloc(), Zeros, NoTime).max_size(LIMIT);
+    let Ok(pool) = builder.build(going, creations, outside, table.rt) else {
+        return Err(io::Error::other("the managed pool was not built"));
+    };
+    let pool: ZeroPool<R, G, N, O> = pool;
+    table.head("managed pool")?;
+    measure_alone(table, &pool)?;
+    let holds = Holds {
+        pool: pool.clone()?,
+        rt: table.rt,
+    };
+    crowds(table, &holds)?;
+    measure_cancels(table, &pool)
+}
+
+fn measure_alone<R: Host, G: Ledger, N: Ledger, O: Ledger>(
+    table: Table<R>,
+    pool: &ZeroPool<R, G, N, O>,
+) -> io::Result<()> {
+    let creates = Creates {
+        pool: pool.clone()?,
+        task: Solo::new(&table.rt, Doorbell::spinning())?,
+    };
+    table.figure("create and take, polled by hand", &creates)?;
+    let polls = Polls {
+        pool: pool.clone()?,
+        task: Solo::new(&table.rt, Doorbell::spinning())?,
+    };
+    table.figure("get and return, polled by hand", &polls)?;
+    let blocks = Blocks {
+        pool: pool.clone()?,
+        rt: table.rt,
+    };
+    table.figure("get and return, by block_on", &blocks)
+}
+
+// All objects are out, so every get waits.
+fn measure_cancels<R: Host, G: Ledger, N: Ledger, O: Ledger>(
+    table: Table<R>,
+    pool: &ZeroPool<R, G, N, O>,
+) -> io::Result<()> {
+    pool.resize(1)?;
+    let task = MockTask::new(&table.rt)?;
+    let Poll::Ready(Ok(held)) = task.poll(&mut pool.get()) else {
+        return Err(lacks_object());
+    };
+    for waiters in table.scale.waiters {
+        let line = PoolLine {
+            pool: pool.clone()?,
+            task: MockTask::new(&table.rt)?,
+        };
+        let mut lines = Vec::new(table.rt.alloc());
+        lines.push(line)?;
+        cancels(table, "cancel in the middle", lines, waiters)?;
+    }
+    drop(held);
+    Ok(())
+}
+
+// Gets an object and gives it back, in a poll of one task.
+#[derive(Drop)]
+struct Polls<R: Host, G: Ledger, N: Ledger, O: Ledger> {
+    pool: ZeroPool<R, G, N, O>,
+    task: Solo,
+}
+
+impl<R: Host, G: Ledger, N: Ledger, O: Ledger> Work for Polls<R, G, N, O> {
+    fn repeat(&self, times: u32) -> io::Result<()> {
+        let mut cx = self.task.begin();
+        let mut served = 0u32;
+        for _time in 0..times {
+            if let Poll::Ready(Ok(object)) = self.pool.get().poll(&mut cx) {
+                drop(object);
+                served = served.saturating_add(1);
+            }
+        }
+        cx.cancel();
+        all_served(served, times)
+    }
+}
+
+// The same, each get in a task of its own.
+#[derive(Drop)]
+struct Blocks<R: Host, G: Ledger, N: Ledger, O: Ledger> {
+    pool: ZeroPool<R, G, N, O>,
+    rt: R,
+}
+
+impl<R: Host, G: Ledger, N: Ledger, O: Ledger> Work for Blocks<R, G, N, O> {
+    fn repeat(&self, times: u32) -> io::Result<()> {
+        for _time in 0..times {
+            let Ok(object) = block_on(&self.rt, self.pool.get())? else {
+                return Err(lacks_object());
+            };
+            drop(object);
+        }
+        Ok(())
+    }
+}
+
+// Has an object created, and takes it out of the pool.
+#[derive(Drop)]
+struct Creates<R: Host, G: Ledger, N: Ledger, O: Ledger> {
+    pool: ZeroPool<R, G, N, O>,
+    task: Solo,
+}
+
+impl<R: Host, G: Ledger, N: Ledger, O: Ledger> Work for Creates<R, G, N, O> {
+    fn repeat(&self, times: u32) -> io::Result<()> {
+        let mut cx = self.task.begin();
+        let mut served = 0u32;
+        for _time in 0..times {
+            if let Poll::Ready(Ok(object)) = self.pool.get().poll(&mut cx) {
+                Object::take(object);
+                served = served.saturating_add(1);
+            }
+        }
+        cx.cancel();
+        all_served(served, times)
+    }
+}
+
+// Gets an object, holds it over a yield, and gives it back.
+#[derive(Drop)]
+struct Holds<R: Host, G: Ledger, N: Ledger, O: Ledger> {
+    pool: ZeroPool<R, G, N, O>,
+    rt: R,
+}
+
+impl<R: Host, G: Ledger, N: Ledger, O: Ledger> Work for Holds<R, G, N, O> {
+    fn repeat(&self, times: u32) -> io::Result<()> {
+        for _time in 0..times {
+            let Ok(object) = block_on(&self.rt, self.pool.get())? else {
+                return Err(lacks_object());
+            };
+            thread::yield_now();
+            drop(object);
+        }
+        Ok(())
+    }
+}
+
+impl<R, G, N, O> SharedWork for Holds<R, G, N, O>
+where
+    R: Host,
+    G: Ledger + Send + Sync + 'static,
+    N: Ledger + Send + Sync + 'static,
+    O: Ledger + Send + Sync + 'static,
+{
+    fn share(&self) -> Result<Self, AllocError> {
+        Ok(Holds {
+            pool: self.pool.clone()?,
+            rt: self.rt,
+        })
+    }
+}
+
+// The gets that wait in a pool.
+#[derive(Drop)]
+struct PoolLine<R: Host, G: Ledger, N: Ledger, O: Ledger> {
+    pool: ZeroPool<R, G, N, O>,
+    task: MockTask,
+}
+
+impl<R: Host, G: Ledger, N: Ledger, O: Ledger> Line for PoolLine<R, G, N, O> {
+    type Waiter = ZeroGet<R, G, N, O>;
+
+    fn join(&mut self) -> io::Result<ZeroGet<R, G, N, O>> {
+        let mut get = self.pool.get();
+        if self.task.poll(&mut get).is_pending() {
+            return Ok(get);
+        }
+        Err(io::Error::other("a get did not wait"))
+    }
+
+    fn leave(&mut self, get: ZeroGet<R, G, N, O>) {
+        drop(get);
+    }
+
+    fn waiting(&self) -> usize {
+        self.pool.status().waiting
+    }
+}
+
+fn all_served(served: u32, times: u32) -> io::Result<()> {
+    if served == times {
+        Ok(())
+    } else {
+        Err(lacks_object())
+    }
+}
+
+fn lacks_object() -> io::Error {
+    io::Error::other("the managed pool gave no object")
+}
