@@ -1,4 +1,4 @@
-//! The examples of the README, as tests.
+//! The examples of the READMEs, as tests.
 #![tactic(auto)]
 
 #[cfg(test)]

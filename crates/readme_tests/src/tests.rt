@@ -1,2 +1,3 @@
 mod managed;
+mod threads;
 mod unmanaged;
