@@ -1,3 +1,5 @@
 mod managed;
+mod states;
 mod threads;
+mod trial;
 mod unmanaged;
