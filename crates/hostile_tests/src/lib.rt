@@ -1,0 +1,5 @@
+//! Tests of pools whose managers, hooks and scripts do their worst.
+#![tactic(auto)]
+
+#[cfg(test)]
+mod tests;

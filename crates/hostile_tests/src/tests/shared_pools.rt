@@ -1,0 +1,248 @@
+//! Gets over a shared pool, a poll at a time, with each way to answer.
+ghost use Rattle.deadpool_shared.specs.Opens.{Opens};
+
+use super::answers::{Answer, Answers, NoTime, Switch, Told, ToldHook, builder, new_switch};
+use super::lanes::{Fault, LANES, LIMIT, Lanes, MOST_STEPS, Standing, play};
+use deadpool::managed::{EnterReply, Entry, Get, Journal, NoHook, Object, Pool, Serving};
+use deadpool::{Moment, Status};
+use futures::task::Poll;
+use futures::test::MockTask;
+use std::marker::Brand;
+use std::mem;
+use std::process::Abort;
+use std::random::RandomSource;
+use std::sync::Wait;
+use std::sync::atomic::Ordering;
+use std::sync::ledger::{Blank, Ledger};
+use std::test::Fail;
+
+// How many steps a pool keeps in its journal, which are more than it makes.
+const JOURNAL: usize = 2_000;
+
+type TestPool<R, G, N, O> = Pool<Told, NoHook, ToldHook, NoTime, R, G, N, O>;
+
+type TestObject<R, G, N, O> = Object<Told, NoHook, ToldHook, NoTime, R, G, N, O>;
+
+type TestGet<R, G, N, O> = Get<Told, NoHook, ToldHook, NoTime, R, G, N, O, TestObject<R, G, N, O>>;
+
+// What is in a lane: a get, with the number of its polls or the object that it gave.
+#[derive(Drop)]
+enum Lane<R: Wait + Drop, G: Ledger, N: Ledger, O: Ledger> {
+    Empty,
+    Getting(TestGet<R, G, N, O>, usize),
+    Holding(TestGet<R, G, N, O>, TestObject<R, G, N, O>),
+    Ended(TestGet<R, G, N, O>),
+}
+
+// A shared pool with its lanes.
+#[derive(Drop)]
+struct PoolLanes<R: Wait + Drop, G: Ledger, N: Ledger, O: Ledger> {
+    task: MockTask,
+    pool: TestPool<R, G, N, O>,
+    answers: Answers,
+    lanes: Vec<Lane<R, G, N, O>>,
+}
+
+impl<R: Wait + Drop, G: Ledger, N: Ledger, O: Ledger> PoolLanes<R, G, N, O> {
+    // A pool with empty lanes.
+    fn new<H: RandomSource + AllocGlobal>(
+        rt: &H,
+        pool: TestPool<R, G, N, O>,
+        answers: Answers,
+    ) -> Result<Self, Fail> {
+        let mut lanes = Vec::new(rt.alloc());
+        for _lane in 0..LANES {
+            if lanes.push(Lane::Empty).is_err() {
+                return Err(Fail::new("no memory for a lane"));
+            }
+        }
+        Ok(PoolLanes {
+            task: MockTask::new(rt)?,
+            pool,
+            answers,
+            lanes,
+        })
+    }
+
+    // What is in a lane, which is empty then.
+    fn take(&mut self, lane: usize) -> Lane<R, G, N, O> {
+        match self.lanes.get_mut(lane) {
+            Some(place) => mem::replace(place, Lane::Empty),
+            None => Lane::Empty,
+        }
+    }
+
+    fn set(&mut self, lane: usize, new: Lane<R, G, N, O>) {
+        if let Some(old) = self.lanes.get_mut(lane) {
+            *old = new;
+        }
+    }
+
+    // Three gets are polled once while all polls are pending. Gives what stands in the journal then.
+    fn journal_of_three(&self, stalls: &Switch) -> Result<Journal, Fail> {
+        stalls.store(true, Ordering::SeqCst);
+        let (mut first, mut second, mut third) = (
+            self.pool.get(),
+            self.pool.get(),
+            self.pool.get(),
+        );
+        let are_pending = self.task.poll(&mut first).is_pending()
+            && self.task.poll(&mut second).is_pending()
+            && self.task.poll(&mut third).is_pending();
+        if !are_pending {
+            return Err(Fail::new("a poll was not pending"));
+        }
+        Ok(self.pool.journal()?)
+    }
+}
+
+impl<R: Wait + Drop, G: Ledger, N: Ledger, O: Ledger> Lanes for PoolLanes<R, G, N, O> {
+    fn standing(&self, lane: usize) -> Standing {
+        match self.lanes.get(lane) {
+            Some(Lane::Getting(_, polls)) => Standing::Getting(*polls),
+            Some(Lane::Holding(_, _)) => Standing::Holding,
+            _ => Standing::Ended,
+        }
+    }
+
+    fn start(&mut self, lane: usize) -> Result<(), Fault> {
+        let get = self.pool.get();
+        self.set(lane, Lane::Getting(get, 0));
+        Ok(())
+    }
+
+    fn step(&mut self, lane: usize, _now: Moment) -> Result<(), Fault> {
+        let Lane::Getting(mut get, polls) = self.take(lane) else {
+            return Err(Fault::Step);
+        };
+        let after = match self.task.poll(&mut get) {
+            Poll::Pending => Lane::Getting(get, polls.saturating_add(1)),
+            Poll::Ready(Ok(object)) => Lane::Holding(get, object),
+            Poll::Ready(Err(cause)) => {
+                if !self.answers.lead_to(&cause) {
+                    return Err(Fault::Step);
+                }
+                Lane::Ended(get)
+            }
+        };
+        self.set(lane, after);
+        Ok(())
+    }
+
+    fn back(&mut self, lane: usize) -> Result<(), Fault> {
+        let Lane::Holding(get, object) = self.take(lane) else {
+            return Err(Fault::Back);
+        };
+        drop(object);
+        self.set(lane, Lane::Ended(get));
+        Ok(())
+    }
+
+    fn cancel(&mut self, lane: usize) -> Result<(), Fault> {
+        match self.take(lane) {
+            Lane::Getting(get, _) | Lane::Ended(get) => {
+                drop(get);
+                Ok(())
+            }
+            Lane::Holding(_, _) | Lane::Empty => Err(Fault::Cancel),
+        }
+    }
+
+    fn status(&mut self) -> Result<Status, Fault> {
+        Ok(self.pool.status())
+    }
+}
+
+fn is_served(entry: &Entry) -> bool {
+    matches!(
+        entry,
+        Entry::Enter(
+            _,
+            EnterReply::Served(Serving::Object(_, _) | Serving::Create)
+        )
+    )
+}
+
+// Whether of the last three gets two were served, and the third waits.
+fn are_two_served(journal: &Journal) -> bool {
+    match journal.entries.as_slice() {
+        [.., first, second, Entry::Enter(_, EnterReply::Waiting(_))] => {
+            !journal.full && is_served(first) && is_served(second)
+        }
+        _ => false,
+    }
+}
+
+// Plays over a new pool, whose places are all free in the end. Gives the number of rounds.
+fn play_one<R>(rt: R, answers: Answers, most_steps: usize) -> Result<usize, Fail>
+where
+    R: Wait + RandomSource + AllocGlobal + Abort + Copy + Drop + Send + Sync,
+{
+    let going = Blank::new(u64::MAX);
+    let creations = Blank::new(u64::MAX);
+    let outside = Blank::new(u64::MAX);
+    play_with::<_, Brand, Brand, Brand>(rt, answers, most_steps, going, creations, outside)
+}
+
+fn play_with<R, G: Ledger, N: Ledger, O: Ledger>(
+    rt: R,
+    answers: Answers,
+    most_steps: usize,
+    going: Blank,
+    creations: Blank,
+    outside: Blank,
+) -> Result<usize, Fail>
+where
+    R: Wait + RandomSource + AllocGlobal + Abort + Copy + Drop + Send + Sync,
+    requires going { Opens G.Ledger going }
+    requires creations { Opens N.Ledger creations }
+    requires outside { Opens O.Ledger outside }
+{
+    let switch = new_switch(rt.alloc())?;
+    let builder = builder(rt.alloc(), answers, &switch)?
+        .max_size(LIMIT)
+        .journal(JOURNAL);
+    let pool: TestPool<R, G, N, O> = builder.build(going, creations, outside, rt)?;
+    let mut lanes = PoolLanes::new(&rt, pool, answers)?;
+    let rounds = play(&rt, &mut lanes, answers, most_steps)?;
+    let journal = lanes.journal_of_three(&switch)?;
+    assert!(rt; are_two_served(&journal), "{answers:?}, {most_steps} steps");
+    Ok(rounds)
+}
+
+// Plays all ways to answer in which a creation is answered so.
+fn play_all<R>(rt: R, create: Answer) -> Result<(), Fail>
+where
+    R: Wait + RandomSource + AllocGlobal + Abort + Print + Copy + Drop + Send + Sync,
+{
+    let mut rounds = 0;
+    for way in 0..Answers::WAYS {
+        for most_steps in 0..=MOST_STEPS {
+            let played = play_one(rt, Answers::of(create, way), most_steps)?;
+            rounds = played.saturating_add(rounds);
+        }
+    }
+    assert_eq!(rt; rounds, 256 * 13 * 128);
+    println!(rt; "{rounds} rounds over shared pools")?;
+    Ok(())
+}
+
+#[test]
+fn pools_whose_creations_succeed(rt: HostRuntime) -> Result<(), Fail> {
+    play_all(rt, Answer::Accepts)
+}
+
+#[test]
+fn pools_whose_creations_are_refused(rt: HostRuntime) -> Result<(), Fail> {
+    play_all(rt, Answer::Refuses)
+}
+
+#[test]
+fn pools_whose_creations_hesitate(rt: HostRuntime) -> Result<(), Fail> {
+    play_all(rt, Answer::Hesitates)
+}
+
+#[test]
+fn pools_whose_creations_never_end(rt: HostRuntime) -> Result<(), Fail> {
+    play_all(rt, Answer::Stalls)
+}
