@@ -1,56 +1,19 @@
 -- Advances of a get with a creation under way, with an object, or that has ended.
-use Rattle.std.proofs.Common.{◌≡◌, ℕ, ◌+◌, ◌-◌, ◌≤◌, List, true, false, set, refl, ap, ◌∙◌, arith, inl, inr, Option, Some, None, Result, Ok, Err}
-use Rattle.std.specs.List.{slice_get}
-use Rattle.std.proofs.lemmas.Bool.{cond-true, cond-false}
-use Rattle.futures.specs.declared.task.Poll.{Poll}
+use Rattle.deadpool.proofs.Basics.{◌≡◌, ℕ, ◌+◌, ◌-◌, ◌≤◌, List, true, false, set, refl, ap, ◌∙◌, arith, inl, inr, Option, Some, None, Result, Ok, Err, slice_get, cond-true, cond-false, Return, ◌>>=◌, Gives, Gives-bind, set-same, owned-set, length-with_numbered}
+use Rattle.deadpool.proofs.Words.{Poll, deadline_after, is_reached, lacks_runtime, Moment, Runtime, Timeouts, PoolError, Timeout, Backend, NoRuntimeSpecified, PostCreateHook, start, new_metrics, HookLists, DeskState, settled, Fails, Getting, May, create, prepare, check, with_value, Made, no_step, discarding, by_creation as creating, failing, refusing, DeskMakes as Makes, AfterCreation, AfterPrepared, AfterChecked, AdvancesCreation, ended_by, Pool, Party, fail, rest, go_on, with_slot, slot_number, created, reviewed, checked, hand_out, advance_at, party_of, standing_of, image, IsCounted, has_ticket, queue_of, given, reply_to, Slot, Position, Verdict, Preparation, Prepared, Stage, Turn, StepReply, Reply, core_desk}
 use Rattle.futures.specs.declared.task.Poll.TheVariants as poll
-use Rattle.deadpool_parts.specs.Moments.{deadline_after, is_reached, lacks_runtime}
-use Rattle.deadpool_parts.specs.Program.{Return, ◌>>=◌, Gives}
-use Rattle.deadpool_parts.specs.declared.moment.Moment.{Moment}
-use Rattle.deadpool_parts.specs.declared.moment.Runtime.{Runtime}
-use Rattle.deadpool_parts.specs.declared.config.Timeouts.{Timeouts}
-use Rattle.deadpool_parts.specs.declared.errors.PoolError.{PoolError}
-use Rattle.deadpool_parts.specs.declared.errors.PoolError.TheVariants.{Timeout, Backend, NoRuntimeSpecified, PostCreateHook}
 use Rattle.deadpool_parts.specs.declared.errors.TimeoutType.TheVariants as phase
-use Rattle.deadpool_parts.proofs.Programs.{Gives-bind}
-use Rattle.deadpool_parts.proofs.Lists.{set-same}
-use Rattle.deadpool_parts.proofs.Owners.{owned-set}
-use Rattle.deadpool_managed.specs.Calls.{start}
-use Rattle.deadpool_managed.specs.Metrics.{new_metrics}
-use Rattle.deadpool_managed.specs.HookLists.{HookLists}
-use Rattle.deadpool_managed.specs.DeskState.{DeskState, settled}
-use Rattle.deadpool_managed.specs.DeskSteps.{Fails}
-use Rattle.deadpool_managed.specs.Stages.{Getting}
-use Rattle.deadpool_managed.specs.Outside.{May}
-use Rattle.deadpool_managed.specs.Prepare.{create, prepare, check, with_value}
-use Rattle.deadpool_managed.specs.Get.{Made, no_step, discarding, creating, failing, refusing, Makes, AfterCreation, AfterPrepared, AfterChecked, AdvancesCreation, ended_by}
-use Rattle.deadpool.specs.Pool.{Pool, Party}
-use Rattle.deadpool.specs.Steps.{fail, rest, go_on, with_slot, slot_number}
-use Rattle.deadpool.specs.Party.{created, reviewed, checked, hand_out, advance_at}
-use Rattle.deadpool.specs.Image.{party_of, standing_of, image, IsCounted, has_ticket, queue_of}
-use Rattle.deadpool.specs.TrialFields.{given, reply_to}
-use Rattle.deadpool_managed.specs.declared.slot.Slot.{Slot}
-use Rattle.deadpool_managed.specs.declared.prepare.Position.{Position}
-use Rattle.deadpool_managed.specs.declared.prepare.Verdict.{Verdict}
 use Rattle.deadpool_managed.specs.declared.prepare.Verdict.TheVariants as verdict
-use Rattle.deadpool_managed.specs.declared.prepare.Preparation.{Preparation}
-use Rattle.deadpool_managed.specs.declared.prepare.Prepared.{Prepared}
 use Rattle.deadpool_managed.specs.declared.prepare.Prepared.TheVariants as prepared
-use Rattle.deadpool_managed.specs.declared.get.Stage.{Stage}
 use Rattle.deadpool_managed.specs.declared.get.Stage.TheVariants as stage
-use Rattle.deadpool_managed.specs.declared.get.Turn.{Turn}
 use Rattle.deadpool_managed.specs.declared.get.Turn.TheVariants as turn
-use Rattle.deadpool_parts.specs.declared.replies.StepReply.{StepReply}
 use Rattle.deadpool_parts.specs.declared.replies.StepReply.TheVariants as step
 use Rattle.deadpool_managed.specs.declared.desk.CreatedReply.TheVariants as numbered
-use Rattle.deadpool.specs.declared.replay.moves.Reply.{Reply}
 use Rattle.deadpool.specs.declared.replay.moves.Reply.TheVariants as reply
 use Rattle.deadpool.proofs.Tickets.{NoTicket, owned-same}
 use Rattle.deadpool.proofs.Settles.{counted_settled}
 use Rattle.deadpool.proofs.Settling.{goes, creates, prepares, lasts, Shifts, put, put_off, IsCounted-set, put-image, put_off-image}
 use Rattle.deadpool.proofs.Ends.{Gives-same, holds_creation, holds_object, ends_free}
-use Rattle.deadpool_managed.proofs.CoreDesk.{core_desk}
-use Rattle.deadpool_parts.proofs.Numbered.{length-with_numbered}
 
 module _ {V E C R S F A : Type 0} (may : May V E C R S F A) (runtime : Option Runtime) (hooks : HookLists F A) (timeouts : Timeouts) (first most n : ℕ) (now : Moment)
     (core core' : DeskState (Slot V)) (gets : List (Option (Getting V C R S))) (out : List (Slot V)) (own : Timeouts) (k : IsCounted core gets out) where

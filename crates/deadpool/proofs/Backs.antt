@@ -1,24 +1,8 @@
 -- An object comes back.
-use Rattle.std.proofs.Common.{◌≡◌, ℕ, ◌-◌, List, [], ◌∷◌, ◌++◌, true, false, ◌==◌, nat_le, sym, ap, arith, Option, Some}
-use Rattle.std.proofs.lemmas.Bool.{le-leb, lt-leb, eq-eqb, ne_eqb}
-use Rattle.deadpool_parts.specs.Program.{Gives}
-use Rattle.deadpool_parts.specs.declared.moment.Runtime.{Runtime}
-use Rattle.deadpool_parts.specs.declared.config.Timeouts.{Timeouts}
-use Rattle.deadpool_managed.specs.HookLists.{HookLists}
-use Rattle.deadpool_managed.specs.Outside.{May}
-use Rattle.deadpool_managed.specs.DeskState.{DeskState}
-use Rattle.deadpool_managed.specs.DeskSteps.{TakesBack}
-use Rattle.deadpool_managed.specs.Stages.{Getting}
-use Rattle.deadpool.specs.Pool.{Pool, size}
-use Rattle.deadpool.specs.Steps.{find_slot, without_slot}
-use Rattle.deadpool.specs.Moves.{moved}
-use Rattle.deadpool.specs.Image.{image, IsCounted}
-use Rattle.deadpool.specs.TrialFields.{IsTaken, reply_to_back}
-use Rattle.deadpool_managed.specs.declared.slot.Slot.{Slot}
-use Rattle.deadpool_managed.specs.declared.desk.BackReply.{BackReply}
+use Rattle.deadpool.proofs.Basics.{◌≡◌, ℕ, ◌-◌, List, [], ◌∷◌, ◌++◌, true, false, ◌==◌, nat_le, sym, ap, arith, Option, Some, le-leb, lt-leb, eq-eqb, ne_eqb, Gives}
+use Rattle.deadpool.proofs.Words.{Runtime, Timeouts, HookLists, May, DeskState, TakesBack, Getting, Pool, size, find_slot, without_slot, moved, image, IsCounted, IsTaken, reply_to_back, Slot, BackReply, Reply}
 use Rattle.deadpool_managed.specs.declared.desk.BackReply.TheVariants as back
 use Rattle.deadpool.specs.declared.replay.moves.Move.TheVariants as move
-use Rattle.deadpool.specs.declared.replay.moves.Reply.{Reply}
 use Rattle.deadpool.specs.declared.replay.moves.Reply.TheVariants as reply
 use Rattle.deadpool.proofs.Settles.{settles, counts_of, counted_settled}
 use Rattle.deadpool.proofs.Takes.{one_outside, taken_counted, takes}

@@ -1,36 +1,11 @@
 -- A get that is cancelled over the desk is a party that is cancelled in the pool.
-use Rattle.std.proofs.Common.{◌≡◌, ℕ, ◌-◌, ◌≤◌, List, true, false, set, refl, sym, ap, ◌∙◌, subst, arith, Option, Some, None, slice_set, option_map, eq-eqb}
-use Rattle.std.specs.List.{slice_get}
-use Rattle.std.proofs.lemmas.Option.{slice_get-map}
-use Rattle.deadpool_parts.specs.Program.{Gives}
-use Rattle.deadpool_parts.specs.declared.moment.Moment.{Moment}
-use Rattle.deadpool_parts.specs.declared.moment.Runtime.{Runtime}
-use Rattle.deadpool_parts.specs.declared.config.Timeouts.{Timeouts}
-use Rattle.deadpool_parts.specs.Owners.{owner}
-use Rattle.deadpool_parts.proofs.Owners.{owned-set, owned-leaves}
-use Rattle.deadpool_managed.specs.HookLists.{HookLists}
-use Rattle.deadpool_managed.specs.DeskState.{DeskState, settled}
-use Rattle.deadpool_managed.specs.DeskSteps.{is_listed, unqueued, Fails, Refuses, Cancels as DeskCancels}
-use Rattle.deadpool_managed.specs.Stages.{Getting}
-use Rattle.deadpool_managed.specs.Outside.{May}
-use Rattle.deadpool_managed.specs.Prepare.{object_of}
-use Rattle.deadpool_managed.specs.Get.{Made, no_step, cancelling, Makes, CancelsFrom, GivesUp}
-use Rattle.deadpool.specs.Pool.{Pool, prepared_at}
-use Rattle.deadpool.specs.Steps.{removed}
-use Rattle.deadpool.specs.Party.{cancel}
-use Rattle.deadpool.specs.Moves.{NobodyWaits, by_party, moved}
-use Rattle.deadpool.specs.Laws.{IsLawful}
-use Rattle.deadpool.specs.Image.{party_of, standing_of, has_ticket, queue_of, image, IsCounted}
-use Rattle.deadpool_managed.specs.declared.slot.Slot.{Slot}
-use Rattle.deadpool_managed.specs.declared.get.Stage.{Stage}
+use Rattle.deadpool.proofs.Basics.{◌≡◌, ℕ, ◌-◌, ◌≤◌, List, true, false, set, refl, sym, ap, ◌∙◌, subst, arith, Option, Some, None, slice_set, option_map, eq-eqb, slice_get, slice_get-map, Gives, owner, owned-set, owned-leaves}
+use Rattle.deadpool.proofs.Words.{Moment, Runtime, Timeouts, HookLists, DeskState, settled, is_listed, desk_unqueued as unqueued, Fails, Refuses, DeskCancels, Getting, May, object_of, Made, no_step, cancelling, DeskMakes as Makes, CancelsFrom, GivesUp, Pool, prepared_at, removed, cancel, NobodyWaits, by_party, moved, IsLawful, party_of, standing_of, has_ticket, queue_of, image, IsCounted, Slot, Stage, StepReply, Held, core_desk}
 use Rattle.deadpool_managed.specs.declared.get.Stage.TheVariants as stage
-use Rattle.deadpool_parts.specs.declared.replies.StepReply.{StepReply}
 use Rattle.deadpool_parts.specs.declared.replies.StepReply.TheVariants as step
-use Rattle.deadpool_managed.specs.declared.desk.Held.{Held}
 use Rattle.deadpool_managed.specs.declared.desk.Held.TheVariants as held
 use Rattle.deadpool.specs.declared.replay.moves.Move.TheVariants as move
 use Rattle.deadpool.specs.declared.replay.moves.Reply.TheVariants as reply
-use Rattle.deadpool_managed.proofs.CoreDesk.{core_desk}
 use Rattle.deadpool.proofs.Tickets.{NoTicket}
 use Rattle.deadpool.proofs.Settles.{counted_settled}
 use Rattle.deadpool.proofs.Settling.{goes, creates, prepares, Shifts, IsCounted-set, put_off-image, put_off-unqueued}

@@ -1,23 +1,6 @@
 -- A get that ends, at the desk and in the pool.
-use Rattle.std.proofs.Common.{◌≡◌, ℕ, ◌<◌, ◌≤◌, List, [], ◌∷◌, true, false, set, map, refl, sym, ap, ◌∙◌, subst, arith, Option, Some, None}
-use Rattle.std.specs.List.{slice_get}
-use Rattle.std.proofs.lemmas.Option.{slice_get-map}
-use Rattle.deadpool_parts.specs.Numbers.{has_number, without_number}
-use Rattle.deadpool_parts.specs.Program.{Program, Gives}
-use Rattle.deadpool_parts.specs.declared.moment.Runtime.{Runtime}
-use Rattle.deadpool_parts.specs.declared.config.Timeouts.{Timeouts}
-use Rattle.deadpool_parts.specs.Owners.{owner}
-use Rattle.deadpool_parts.proofs.Numbers.{without_number-same}
-use Rattle.deadpool_parts.proofs.Owners.{renamed-set}
-use Rattle.deadpool_managed.specs.HookLists.{HookLists}
-use Rattle.deadpool_managed.specs.DeskState.{DeskState, places, settled}
-use Rattle.deadpool_managed.specs.DeskSteps.{unqueued}
-use Rattle.deadpool_managed.specs.Stages.{Getting}
-use Rattle.deadpool.specs.Pool.{Pool, is_going, is_creating, prepared_by, places as pool_places, settle}
-use Rattle.deadpool.specs.Moves.{NobodyWaits}
-use Rattle.deadpool.specs.Image.{party_of, has_ticket, queue_of, image, IsCounted}
-use Rattle.deadpool_managed.specs.declared.slot.Slot.{Slot}
-use Rattle.deadpool_parts.proofs.Counts.{count-set, held-set}
+use Rattle.deadpool.proofs.Basics.{◌≡◌, ℕ, ◌<◌, ◌≤◌, List, [], ◌∷◌, true, false, set, map, refl, sym, ap, ◌∙◌, subst, arith, Option, Some, None, slice_get, slice_get-map, has_number, without_number, Program, Gives, owner, without_number-same, renamed-set, count-set, held-set}
+use Rattle.deadpool.proofs.Words.{Runtime, Timeouts, HookLists, DeskState, desk_places as places, settled, desk_unqueued as unqueued, Getting, Pool, is_going, is_creating, prepared_by, places as pool_places, settle, NobodyWaits, party_of, has_ticket, queue_of, image, IsCounted, Slot}
 use Rattle.deadpool.proofs.Tickets.{NoTicket}
 use Rattle.deadpool.proofs.Settles.{settles, counts_of}
 use Rattle.deadpool.proofs.Settling.{goes, creates, prepares, put_off, put_off-image, settle-none, places-image}

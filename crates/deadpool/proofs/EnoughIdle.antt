@@ -1,17 +1,7 @@
 -- A resize and a retain leave as many idle as are to stay, if as many were.
-use Rattle.std.proofs.Common.{ℕ, ◌≤◌, List, Bool, true, false, not, min, length, arith, length-drop}
-use Rattle.std.specs.Prelude.{nat_lt, ◌==◌}
-use Rattle.std.proofs.lemmas.Bool.{cond_both}
-use Rattle.deadpool_parts.specs.Program.{Return, Always}
-use Rattle.deadpool_parts.proofs.Programs.{Always-bind}
-use Rattle.deadpool_managed.specs.Outside.{Asking}
-use Rattle.deadpool.specs.Pool.{Pool, least_idle}
-use Rattle.deadpool.specs.Steps.{given_up, resized}
-use Rattle.deadpool.specs.Moves.{resize, staying, give_up, retain_with, retain, moved}
-use Rattle.deadpool.specs.RunLaws.{LeavesEnough}
-use Rattle.deadpool.specs.declared.replay.moves.Move.{Move}
+use Rattle.deadpool.proofs.Basics.{ℕ, ◌≤◌, List, Bool, true, false, not, min, length, arith, length-drop, nat_lt, ◌==◌, cond_both, Return, Always, Always-bind}
+use Rattle.deadpool.proofs.Words.{Asking, Pool, least_idle, given_up, resized, resize, staying, give_up, retain_with, retain, moved, LeavesEnough, Move, Reply}
 use Rattle.deadpool.specs.declared.replay.moves.Move.TheVariants as move
-use Rattle.deadpool.specs.declared.replay.moves.Reply.{Reply}
 use Rattle.deadpool.specs.declared.replay.moves.Reply.TheVariants as reply
 use Rattle.deadpool.proofs.Given.{any_answer}
 use Rattle.deadpool.proofs.Staying.{staying-least}

@@ -1,43 +1,12 @@
 -- Advances of a get that was not polled, that is in the queue, or that holds a place and nothing else.
-use Rattle.std.proofs.Common.{◌≡◌, ℕ, ◌-◌, ◌<◌, ◌≤◌, List, Bool, true, false, not, ◌&&◌, set, map, refl, sym, ap, ◌∙◌, subst, arith, Option, Some, None, Err, is_none, nat_lt, option_map, eq-eqb, lt-ltb, le-ltb}
-use Rattle.std.specs.List.{slice_get}
-use Rattle.std.proofs.lemmas.Option.{slice_get-map}
-use Rattle.deadpool_parts.specs.Moments.{deadline_after, is_reached, is_positive}
-use Rattle.deadpool_parts.specs.Numbers.{has_number, without_number}
-use Rattle.deadpool_parts.specs.Program.{Return, ask, ◌>>=◌, Gives}
-use Rattle.deadpool_parts.specs.declared.moment.Moment.{Moment}
-use Rattle.deadpool_parts.specs.declared.moment.Runtime.{Runtime}
-use Rattle.deadpool_parts.specs.declared.config.Timeouts.{Timeouts}
-use Rattle.deadpool_parts.specs.declared.errors.PoolError.{PoolError}
-use Rattle.deadpool_parts.specs.declared.errors.PoolError.TheVariants.{Timeout, Closed, NoRuntimeSpecified, OutOfMemory}
+use Rattle.deadpool.proofs.Basics.{◌≡◌, ℕ, ◌-◌, ◌<◌, ◌≤◌, List, Bool, true, false, not, ◌&&◌, set, map, refl, sym, ap, ◌∙◌, subst, arith, Option, Some, None, Err, is_none, nat_lt, option_map, eq-eqb, lt-ltb, le-ltb, slice_get, slice_get-map, has_number, without_number, Return, ask, ◌>>=◌, Gives, owner, set-same, owned-set, owned-joins, owned-leaves, granted-renamed}
+use Rattle.deadpool.proofs.Words.{deadline_after, is_reached, is_positive, Moment, Runtime, Timeouts, PoolError, Timeout, Closed, NoRuntimeSpecified, OutOfMemory, HookLists, DeskState, desk_places as places, is_listed, desk_unqueued as unqueued, Enters, Asks, GoesOn, Getting, May, Reserve, AfterEntered, AfterAsked, AfterGoingOn, Pool, Party, unpolled, queued, going, places as pool_places, unqueued as pool_unqueued, fail, rest, serve, enter, inquire, joined, advance_at, NobodyWaits, party_of, standing_of, has_ticket, queue_of, image, IsCounted, given, reply_to, Slot, Stage, Turn, EnterReply, AskReply, AgainReply, Reply}
 use Rattle.deadpool_parts.specs.declared.errors.TimeoutType.TheVariants as phase
-use Rattle.deadpool_parts.specs.Owners.{owner}
-use Rattle.deadpool_parts.proofs.Lists.{set-same}
-use Rattle.deadpool_parts.proofs.Owners.{owned-set, owned-joins, owned-leaves, granted-renamed}
-use Rattle.deadpool_managed.specs.HookLists.{HookLists}
-use Rattle.deadpool_managed.specs.DeskState.{DeskState, places}
-use Rattle.deadpool_managed.specs.DeskSteps.{is_listed, unqueued, Enters, Asks, GoesOn}
-use Rattle.deadpool_managed.specs.Stages.{Getting}
-use Rattle.deadpool_managed.specs.Outside.{May, Reserve}
-use Rattle.deadpool_managed.specs.Get.{AfterEntered, AfterAsked, AfterGoingOn}
-use Rattle.deadpool.specs.Pool.{Pool, Party, unpolled, queued, going, places as pool_places}
-use Rattle.deadpool.specs.Steps.{unqueued as pool_unqueued, fail, rest, serve}
-use Rattle.deadpool.specs.Party.{enter, inquire, joined, advance_at}
-use Rattle.deadpool.specs.Moves.{NobodyWaits}
-use Rattle.deadpool.specs.Image.{party_of, standing_of, has_ticket, queue_of, image, IsCounted}
-use Rattle.deadpool.specs.TrialFields.{given, reply_to}
-use Rattle.deadpool_managed.specs.declared.slot.Slot.{Slot}
-use Rattle.deadpool_managed.specs.declared.get.Stage.{Stage}
 use Rattle.deadpool_managed.specs.declared.get.Stage.TheVariants as stage
-use Rattle.deadpool_managed.specs.declared.get.Turn.{Turn}
 use Rattle.deadpool_managed.specs.declared.get.Turn.TheVariants as turn
-use Rattle.deadpool_managed.specs.declared.desk.EnterReply.{EnterReply}
 use Rattle.deadpool_managed.specs.declared.desk.EnterReply.TheVariants as entered
-use Rattle.deadpool_managed.specs.declared.desk.AskReply.{AskReply}
 use Rattle.deadpool_managed.specs.declared.desk.AskReply.TheVariants as asked
-use Rattle.deadpool_managed.specs.declared.desk.AgainReply.{AgainReply}
 use Rattle.deadpool_managed.specs.declared.desk.AgainReply.TheVariants as again
-use Rattle.deadpool.specs.declared.replay.moves.Reply.{Reply}
 use Rattle.deadpool.specs.declared.replay.moves.Reply.TheVariants as reply
 use Rattle.deadpool.proofs.NumberLists.{without-twice}
 use Rattle.deadpool.proofs.Tickets.{Owns, NoTicket, OneTicket, queueing}

@@ -1,32 +1,11 @@
 -- An advance after which there is more to do takes its party nearer to its end.
-use Rattle.std.proofs.Common.{◌≡◌, ℕ, ◌+◌, ◌<◌, List, Bool, true, false, length, set, refl, arith, inl, inr, Option, Some, None, Result, Ok, Err}
-use Rattle.std.proofs.lemmas.Bool.{cases_Bool, cond_both}
-use Rattle.std.specs.Prelude.{nat_lt, slice_get, unwrap_or, not, ◌&&◌, is_none}
-use Rattle.futures.specs.declared.task.Poll.{Poll}
+use Rattle.deadpool.proofs.Basics.{◌≡◌, ℕ, ◌+◌, ◌<◌, List, Bool, true, false, length, set, refl, arith, inl, inr, Option, Some, None, Result, Ok, Err, cases_Bool, cond_both, nat_lt, slice_get, unwrap_or, not, ◌&&◌, is_none, has_number, largest_usize, Return, Always, Gives, Always-bind, Always-Gives, get-set_same}
+use Rattle.deadpool.proofs.Words.{Poll, deadline_after, is_reached, is_positive, lacks_runtime, Moment, Asking, May, next_idle, other_idle, create, prepare, check, Pool, Party, Standing, unpolled, queued, going, creating, recycling, checking, finished, creating_count, places, unqueued, serve_from, joined, enter, inquire, reviewed, checked, created, go_on_creating, advance_at, advance, moved, by_party, rank, rank_of, rank_at, Slot, Verdict, Prepared, Reply, other_idle-shorter}
 use Rattle.futures.specs.declared.task.Poll.TheVariants as poll
-use Rattle.deadpool_parts.specs.Moments.{deadline_after, is_reached, is_positive, lacks_runtime}
-use Rattle.deadpool_parts.specs.Numbers.{has_number, largest_usize}
-use Rattle.deadpool_parts.specs.Program.{Return, Always, Gives}
-use Rattle.deadpool_parts.specs.declared.moment.Moment.{Moment}
-use Rattle.deadpool_parts.proofs.Programs.{Always-bind, Always-Gives}
-use Rattle.deadpool_parts.proofs.Lists.{get-set_same}
-use Rattle.deadpool_managed.specs.Outside.{Asking, May}
-use Rattle.deadpool_managed.specs.DeskState.{next_idle, other_idle}
-use Rattle.deadpool_managed.specs.Prepare.{create, prepare, check}
-use Rattle.deadpool.specs.Pool.{Pool, Party, Standing, unpolled, queued, going, creating, recycling, checking, finished, creating_count, places}
-use Rattle.deadpool.specs.Steps.{unqueued, serve_from}
-use Rattle.deadpool.specs.Party.{joined, enter, inquire, reviewed, checked, created, go_on_creating, advance_at, advance}
-use Rattle.deadpool.specs.Moves.{moved, by_party}
-use Rattle.deadpool.specs.Rank.{rank, rank_of, rank_at}
-use Rattle.deadpool_managed.specs.declared.slot.Slot.{Slot}
-use Rattle.deadpool_managed.specs.declared.prepare.Verdict.{Verdict}
 use Rattle.deadpool_managed.specs.declared.prepare.Verdict.TheVariants as verdict
-use Rattle.deadpool_managed.specs.declared.prepare.Prepared.{Prepared}
 use Rattle.deadpool_managed.specs.declared.prepare.Prepared.TheVariants as prepared
 use Rattle.deadpool.specs.declared.replay.moves.Move.TheVariants as move
-use Rattle.deadpool.specs.declared.replay.moves.Reply.{Reply}
 use Rattle.deadpool.specs.declared.replay.moves.Reply.TheVariants as reply
-use Rattle.deadpool_managed.proofs.IdleLists.{other_idle-shorter}
 
 module _ {V E C R S F A : Type 0} where
   -- an answer after which there is more to do leaves the party nearer to its end than so

@@ -1,22 +1,7 @@
 -- What each state of a run has from the one before it: a queue in order of those that stand as queued, nobody who waits while a
 -- place is free, and no more places and objects than its limit or so many.
-use Rattle.std.proofs.Common.{◌≡◌, ◌≢◌, ℕ, ◌+◌, ◌-◌, ◌≤◌, max, min, List, ◌++◌, true, false, length, set, take, drop, sym, ap, ◌∙◌, subst, arith, inl, inr, Option, Some, None, length-append, length-take, append_assoc}
-use Rattle.std.specs.Prelude.{slice_get, is_some, filter, filter_map}
-use Rattle.std.proofs.lemmas.Bool.{cond_both, cond-true}
-use Rattle.std.proofs.lemmas.Bool.Decides.{eqb_tells}
-use Rattle.std.proofs.lemmas.List.{take-append-drop, drop_all}
-use Rattle.deadpool_parts.specs.Numbers.{has_number}
-use Rattle.deadpool_parts.specs.declared.config.Timeouts.{Timeouts}
-use Rattle.deadpool_parts.specs.Orders.{IsOnce}
-use Rattle.deadpool_parts.proofs.Lists.{get-set_same, get-set_other}
-use Rattle.deadpool_parts.proofs.Numbers.{without_number-append, without_number-shorter}
-use Rattle.deadpool_parts.proofs.Orders.{IsOnce-without}
-use Rattle.deadpool.specs.Pool.{Pool, Party, Standing, goes, creates, prepared_at, is_going, is_creating, prepared_by, creating_count, places, size, reach, grants, settle}
-use Rattle.deadpool.specs.Steps.{to, unqueued}
-use Rattle.deadpool.specs.Moves.{NobodyWaits}
-use Rattle.deadpool.specs.Laws.{MarksQueued, IsLawful, queue, waits_at, is_queued}
-use Rattle.deadpool_managed.specs.declared.slot.Slot.{Slot}
-use Rattle.deadpool_parts.proofs.Counts.{one_if, count-set, held-set}
+use Rattle.deadpool.proofs.Basics.{◌≡◌, ◌≢◌, ℕ, ◌+◌, ◌-◌, ◌≤◌, max, min, List, ◌++◌, true, false, length, set, take, drop, sym, ap, ◌∙◌, subst, arith, inl, inr, Option, Some, None, length-append, length-take, append_assoc, slice_get, is_some, filter, filter_map, cond_both, cond-true, eqb_tells, take-append-drop, drop_all, has_number, IsOnce, get-set_same, get-set_other, without_number-append, without_number-shorter, IsOnce-without, one_if, count-set, held-set}
+use Rattle.deadpool.proofs.Words.{Timeouts, Pool, Party, Standing, goes, creates, prepared_at, is_going, is_creating, prepared_by, creating_count, places, size, reach, grants, settle, to, unqueued, NobodyWaits, MarksQueued, IsLawful, queue, waits_at, is_queued, Slot}
 use Rattle.deadpool.proofs.NumberLists.{has_number-other, without_number-gone}
 
 module _ {V C R S F A : Type 0} where

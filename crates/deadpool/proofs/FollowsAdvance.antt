@@ -1,42 +1,11 @@
 -- What follows an advance of a party, and its cancelling.
-use Rattle.std.proofs.Common.{◌≡◌, ℕ, ◌+◌, ◌-◌, ◌<◌, ◌≤◌, max, List, [], ◌∷◌, ◌++◌, Bool, true, false, not, ◌&&◌, length, refl, sym, ap, ◌∙◌, arith, Option, Some, None, Result, Ok, Err, append_assoc}
-use Rattle.std.specs.Prelude.{nat_lt, slice_get, unwrap_or, is_none}
-use Rattle.std.proofs.lemmas.Bool.{cond_both, ltb-true, ltb-false}
-use Rattle.std.proofs.lemmas.Option.{slice_get-get_or}
-use Rattle.futures.specs.declared.task.Poll.{Poll}
+use Rattle.deadpool.proofs.Basics.{◌≡◌, ℕ, ◌+◌, ◌-◌, ◌<◌, ◌≤◌, max, List, [], ◌∷◌, ◌++◌, Bool, true, false, not, ◌&&◌, length, refl, sym, ap, ◌∙◌, arith, Option, Some, None, Result, Ok, Err, append_assoc, nat_lt, slice_get, unwrap_or, is_none, cond_both, ltb-true, ltb-false, slice_get-get_or, has_number, without_number, largest_usize, Return, Always, Always-bind, IsOnce-push, one_if, length-with_numbered}
+use Rattle.deadpool.proofs.Words.{Poll, deadline_after, is_reached, is_positive, lacks_runtime, Moment, Timeouts, QueueMode, Fifo, Lifo, Asking, next_idle, other_idle, create, prepare, check, with_value, Pool, Party, Standing, unpolled, queued, going, creating, recycling, checking, finished, goes, creates, prepared_at, creating_count, places, size, to, unqueued, ended, serve_from, with_slot, slot_number, joined, enter, inquire, hand_out, reviewed, checked, created, go_on_creating, advance_at, advance, cancel_with, cancel, queue, waits_at, is_queued, Slot, Position, Verdict, Preparation, PreRecycle, start, new_metrics, Prepared, Reply, other_idle-shorter}
 use Rattle.futures.specs.declared.task.Poll.TheVariants as poll
-use Rattle.deadpool_parts.specs.Moments.{deadline_after, is_reached, is_positive, lacks_runtime}
-use Rattle.deadpool_parts.specs.Numbers.{has_number, without_number, largest_usize}
-use Rattle.deadpool_parts.specs.Program.{Return, Always}
-use Rattle.deadpool_parts.specs.declared.moment.Moment.{Moment}
-use Rattle.deadpool_parts.specs.declared.config.Timeouts.{Timeouts}
-use Rattle.deadpool_parts.specs.declared.config.QueueMode.{QueueMode}
-use Rattle.deadpool_parts.specs.declared.config.QueueMode.TheVariants.{Fifo, Lifo}
-use Rattle.deadpool_parts.proofs.Programs.{Always-bind}
-use Rattle.deadpool_parts.proofs.Orders.{IsOnce-push}
-use Rattle.deadpool_managed.specs.Outside.{Asking}
-use Rattle.deadpool_managed.specs.DeskState.{next_idle, other_idle}
-use Rattle.deadpool_managed.specs.Prepare.{create, prepare, check, with_value}
-use Rattle.deadpool.specs.Pool.{Pool, Party, Standing, unpolled, queued, going, creating, recycling, checking, finished, goes, creates, prepared_at, creating_count, places, size}
-use Rattle.deadpool.specs.Steps.{to, unqueued, ended, serve_from, with_slot, slot_number}
-use Rattle.deadpool.specs.Party.{joined, enter, inquire, hand_out, reviewed, checked, created, go_on_creating, advance_at, advance, cancel_with, cancel}
-use Rattle.deadpool.specs.Laws.{queue, waits_at, is_queued}
-use Rattle.deadpool_managed.specs.declared.slot.Slot.{Slot}
-use Rattle.deadpool_managed.specs.declared.prepare.Position.{Position}
-use Rattle.deadpool_managed.specs.declared.prepare.Verdict.{Verdict}
 use Rattle.deadpool_managed.specs.declared.prepare.Verdict.TheVariants as verdict
-use Rattle.deadpool_managed.specs.declared.prepare.Preparation.{Preparation}
-use Rattle.deadpool_managed.specs.declared.prepare.Preparation.TheVariants.{PreRecycle}
-use Rattle.deadpool_managed.specs.Calls.{start}
-use Rattle.deadpool_managed.specs.Metrics.{new_metrics}
-use Rattle.deadpool_managed.specs.declared.prepare.Prepared.{Prepared}
 use Rattle.deadpool_managed.specs.declared.prepare.Prepared.TheVariants as prepared
-use Rattle.deadpool.specs.declared.replay.moves.Reply.{Reply}
-use Rattle.deadpool_parts.proofs.Counts.{one_if}
 use Rattle.deadpool.proofs.NumberLists.{has_number-push, has_number-last, without_number-once, IsOnce-left}
 use Rattle.deadpool.proofs.Follows.{MarksOthers, IsOrderly, Follows, unqueued_gone, unqueued_orderly, unqueued_marks, not_queued, set_marks, counts, standing_at, holds, makes, left_follows, same_places_follow}
-use Rattle.deadpool_managed.proofs.IdleLists.{other_idle-shorter}
-use Rattle.deadpool_parts.proofs.Numbered.{length-with_numbered}
 
 -- where no object is served, none is idle
 pub next_idle-none : {V : Type 0} (mode : QueueMode) (idle : List (Slot V)) → next_idle mode idle ≡ None → length idle ≡ 0

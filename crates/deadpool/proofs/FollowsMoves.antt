@@ -1,28 +1,12 @@
 -- What follows each step of a pool's owner, and each move.
-use Rattle.std.proofs.Common.{◌≡◌, ℕ, zero, suc, ◌+◌, ◌-◌, ◌≤◌, max, min, List, [], ◌∷◌, ◌++◌, Bool, true, false, not, length, drop, refl, sym, ◌∙◌, arith, Option, Some, None, length-append, length-drop}
-use Rattle.std.specs.Prelude.{nat_lt, nat_le, slice_get, unwrap_or, ◌==◌, if◌then◌else◌}
-use Rattle.std.proofs.lemmas.Bool.{cond_both}
-use Rattle.deadpool_parts.specs.Numbers.{most_handles}
-use Rattle.deadpool_parts.specs.Program.{Return, Always}
-use Rattle.deadpool_parts.specs.declared.config.Timeouts.{Timeouts}
-use Rattle.deadpool_parts.proofs.Programs.{Always-bind}
-use Rattle.deadpool_managed.specs.Outside.{Asking}
-use Rattle.deadpool.specs.Pool.{Pool, Party, unpolled, is_going, is_creating, prepared_by, size, least_idle, reach, status_of}
-use Rattle.deadpool.specs.Steps.{find_slot, without_slot, with_put, given_up, resized, closed, cloned, handle_dropped, slot_number}
-use Rattle.deadpool.specs.Party.{advance, cancel}
-use Rattle.deadpool.specs.Moves.{by_handle, started, put_at, back_at, take_at, resize, staying, give_up, retain_with, retain, upgrade, by_party, moved}
-use Rattle.deadpool.specs.Laws.{IsLawful, is_queued}
-use Rattle.deadpool_managed.specs.declared.slot.Slot.{Slot}
-use Rattle.deadpool.specs.declared.replay.moves.Move.{Move}
+use Rattle.deadpool.proofs.Basics.{◌≡◌, ℕ, zero, suc, ◌+◌, ◌-◌, ◌≤◌, max, min, List, [], ◌∷◌, ◌++◌, Bool, true, false, not, length, drop, refl, sym, ◌∙◌, arith, Option, Some, None, length-append, length-drop, nat_lt, nat_le, slice_get, unwrap_or, ◌==◌, if◌then◌else◌, cond_both, most_handles, Return, Always, Always-bind, count-push, held-push, length-without_numbered}
+use Rattle.deadpool.proofs.Words.{Timeouts, Asking, Pool, Party, unpolled, is_going, is_creating, prepared_by, size, least_idle, reach, status_of, find_slot, without_slot, with_put, given_up, resized, closed, cloned, handle_dropped, slot_number, advance, cancel, by_handle, started, put_at, back_at, take_at, resize, staying, give_up, retain_with, retain, upgrade, by_party, moved, IsLawful, is_queued, Slot, Move, Reply}
 use Rattle.deadpool.specs.declared.replay.moves.Move.TheVariants as move
-use Rattle.deadpool.specs.declared.replay.moves.Reply.{Reply}
 use Rattle.deadpool.specs.declared.replay.moves.Reply.TheVariants as reply
-use Rattle.deadpool_parts.proofs.Counts.{count-push, held-push}
 use Rattle.deadpool.proofs.Staying.{staying-shorter}
 use Rattle.deadpool.proofs.SlotLists.{length-with_put}
 use Rattle.deadpool.proofs.Follows.{IsOrderly, Follows, Follows-self, standing_at, settle_follows}
 use Rattle.deadpool.proofs.FollowsAdvance.{After, advance_follows, cancel_follows}
-use Rattle.deadpool_parts.proofs.Numbered.{length-without_numbered}
 
 module _ {V C R S : Type 0} where
   -- where a party starts that is not queued, the same are queued

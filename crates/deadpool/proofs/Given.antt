@@ -1,34 +1,12 @@
 -- An object that a reply gives is out, and one that it keeps is idle.
-use Rattle.std.proofs.Common.{◌≡◌, ℕ, ◌+◌, List, [], ◌∷◌, ◌++◌, Bool, true, false, not, ◌&&◌, length, refl, ap, arith, Option, Some, None, Result, Ok, Err}
-use Rattle.std.specs.Prelude.{nat_lt, nat_le, slice_get, unwrap_or, is_none, ◌==◌}
-use Rattle.std.proofs.lemmas.Bool.{cond_both, eq-eqb}
-use Rattle.futures.specs.declared.task.Poll.{Poll}
+use Rattle.deadpool.proofs.Basics.{◌≡◌, ℕ, ◌+◌, List, [], ◌∷◌, ◌++◌, Bool, true, false, not, ◌&&◌, length, refl, ap, arith, Option, Some, None, Result, Ok, Err, nat_lt, nat_le, slice_get, unwrap_or, is_none, ◌==◌, cond_both, eq-eqb, has_number, largest_usize, Program, Return, Ask, Always, Always-bind, one_if, count-cons, count-append, count-with}
+use Rattle.deadpool.proofs.Words.{Poll, deadline_after, is_reached, is_positive, lacks_runtime, Moment, Asking, next_idle, create, prepare, check, with_value, Pool, Party, Standing, unpolled, queued, going, creating, recycling, checking, finished, prepared_at, creating_count, places, size, least_idle, status_of, find_slot, with_slot, closed, cloned, handle_dropped, serve_from, unqueued, slot_number, joined, enter, inquire, hand_out, reviewed, checked, created, go_on_creating, advance_at, advance, cancel_with, cancel, by_handle, started, put_at, back_at, take_at, resize, staying, give_up, retain_with, retain, by_party, moved, IsOutIfGiven, IsIdleIfKept, Slot, Verdict, Prepared, Move, Reply}
 use Rattle.futures.specs.declared.task.Poll.TheVariants as poll
-use Rattle.deadpool_parts.specs.Moments.{deadline_after, is_reached, is_positive, lacks_runtime}
-use Rattle.deadpool_parts.specs.Numbers.{has_number, largest_usize}
-use Rattle.deadpool_parts.specs.Program.{Program, Return, Ask, Always}
-use Rattle.deadpool_parts.specs.declared.moment.Moment.{Moment}
-use Rattle.deadpool_parts.proofs.Programs.{Always-bind}
-use Rattle.deadpool_managed.specs.Outside.{Asking}
-use Rattle.deadpool_managed.specs.DeskState.{next_idle}
-use Rattle.deadpool_managed.specs.Prepare.{create, prepare, check, with_value}
-use Rattle.deadpool.specs.Pool.{Pool, Party, Standing, unpolled, queued, going, creating, recycling, checking, finished, prepared_at, creating_count, places, size, least_idle, status_of}
-use Rattle.deadpool.specs.Steps.{find_slot, with_slot, closed, cloned, handle_dropped, serve_from, unqueued, slot_number}
-use Rattle.deadpool.specs.Party.{joined, enter, inquire, hand_out, reviewed, checked, created, go_on_creating, advance_at, advance, cancel_with, cancel}
-use Rattle.deadpool.specs.Moves.{by_handle, started, put_at, back_at, take_at, resize, staying, give_up, retain_with, retain, by_party, moved}
-use Rattle.deadpool.specs.RunLaws.{IsOutIfGiven, IsIdleIfKept}
-use Rattle.deadpool_managed.specs.declared.slot.Slot.{Slot}
-use Rattle.deadpool_managed.specs.declared.prepare.Verdict.{Verdict}
 use Rattle.deadpool_managed.specs.declared.prepare.Verdict.TheVariants as verdict
-use Rattle.deadpool_managed.specs.declared.prepare.Prepared.{Prepared}
 use Rattle.deadpool_managed.specs.declared.prepare.Prepared.TheVariants as prepared
-use Rattle.deadpool.specs.declared.replay.moves.Move.{Move}
 use Rattle.deadpool.specs.declared.replay.moves.Move.TheVariants as move
-use Rattle.deadpool.specs.declared.replay.moves.Reply.{Reply}
 use Rattle.deadpool.specs.declared.replay.moves.Reply.TheVariants as reply
-use Rattle.deadpool_parts.proofs.Counts.{one_if}
 use Rattle.deadpool.proofs.NumberCounts.{has_number-held, find_slot-number}
-use Rattle.deadpool_parts.proofs.NumberedCounts.{count-cons, count-append, count-with}
 
 -- what holds of anything always holds
 Always-all : {Q : Type 0} {Answer : Q → Type 0} {A : Type 0} (P : A → Type 0) → ((a : A) → P a) → (p : Program Q Answer A) → Always P p

@@ -1,15 +1,6 @@
 -- Each move leads from a lawful pool to a lawful one, whatever the outside answers.
-use Rattle.std.proofs.Common.{ℕ, Option, refl}
-use Rattle.deadpool_parts.specs.Program.{Program, Return, Ask, Always}
-use Rattle.deadpool_parts.specs.declared.config.QueueMode.{QueueMode}
-use Rattle.deadpool_parts.specs.declared.config.Timeouts.{Timeouts}
-use Rattle.deadpool_parts.specs.declared.moment.Runtime.{Runtime}
-use Rattle.deadpool_managed.specs.HookLists.{HookLists}
-use Rattle.deadpool.specs.Pool.{Pool, opened, reach}
-use Rattle.deadpool.specs.Moves.{moved}
-use Rattle.deadpool.specs.Laws.{IsLawful}
-use Rattle.deadpool.specs.declared.replay.moves.Move.{Move}
-use Rattle.deadpool.specs.declared.replay.moves.Reply.{Reply}
+use Rattle.deadpool.proofs.Basics.{ℕ, Option, refl, Program, Return, Ask, Always}
+use Rattle.deadpool.proofs.Words.{QueueMode, Timeouts, Runtime, HookLists, Pool, opened, reach, moved, IsLawful, Move, Reply}
 use Rattle.deadpool.proofs.Follows.{Follows-lawful}
 use Rattle.deadpool.proofs.FollowsAdvance.{After}
 use Rattle.deadpool.proofs.FollowsMoves.{moved_follows}

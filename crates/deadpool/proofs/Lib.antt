@@ -1,5 +1,6 @@
 pub mod Advances
 pub mod Backs
+pub mod Basics
 pub mod Cancels
 pub mod Ends
 pub mod EnoughIdle
@@ -41,3 +42,4 @@ pub mod TrialRetains
 pub mod TrialSteps
 pub mod Turns
 pub mod Well
+pub mod Words

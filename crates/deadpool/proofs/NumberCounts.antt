@@ -1,20 +1,6 @@
 -- How often a number stands in a list, among objects, and among what parties prepare.
-use Rattle.std.proofs.Common.{◌≡◌, ℕ, ◌+◌, ◌-◌, ◌≤◌, suc, List, [], ◌∷◌, ◌++◌, Bool, true, false, not, length, map, take, drop, get_or, refl, sym, ap, ◌∙◌, subst, arith, inl, inr, Option, Some, length-append}
-use Rattle.std.specs.Prelude.{◌==◌, filter, filter_map}
-use Rattle.std.proofs.lemmas.Bool.{cases_Bool, cond_both, eqb-true, eq-eqb}
-use Rattle.std.proofs.lemmas.List.{take_more, take_all, take-append-drop}
-use Rattle.std.proofs.lemmas.Option.{slice_get_within, get_or_from_slice_get}
-use Rattle.std.proofs.lemmas.List.Elements.{filter-append}
-use Rattle.deadpool_parts.specs.Numbers.{has_number}
-use Rattle.deadpool_parts.specs.declared.config.QueueMode.{QueueMode}
-use Rattle.deadpool_parts.specs.declared.config.QueueMode.TheVariants.{Fifo, Lifo}
-use Rattle.deadpool_parts.specs.Orders.{IsOnce}
-use Rattle.deadpool_managed.specs.DeskState.{next_idle, other_idle}
-use Rattle.deadpool.specs.Steps.{find_slot, with_put, slot_number}
-use Rattle.deadpool_managed.specs.declared.slot.Slot.{Slot}
-use Rattle.deadpool_parts.proofs.Counts.{one_if, length-cond}
-use Rattle.deadpool_parts.specs.Numbered.{count_numbered}
-use Rattle.deadpool_parts.proofs.NumberedCounts.{count-cons_option, count-cons, count-append, is_at}
+use Rattle.deadpool.proofs.Basics.{◌≡◌, ℕ, ◌+◌, ◌-◌, ◌≤◌, suc, List, [], ◌∷◌, ◌++◌, Bool, true, false, not, length, map, take, drop, get_or, refl, sym, ap, ◌∙◌, subst, arith, inl, inr, Option, Some, length-append, ◌==◌, filter, filter_map, cases_Bool, cond_both, eqb-true, eq-eqb, take_more, take_all, take-append-drop, slice_get_within, get_or_from_slice_get, filter-append, has_number, IsOnce, one_if, length-cond, count_numbered, count-cons_option, count-cons, count-append, is_at}
+use Rattle.deadpool.proofs.Words.{QueueMode, Fifo, Lifo, next_idle, other_idle, find_slot, with_put, slot_number, Slot}
 
 -- how often the number stands in the list
 abbrev pub times : ℕ → List ℕ → ℕ

@@ -1,11 +1,5 @@
 -- Further of lists of numbers: who is there where one is taken out or stands at the back, and lists whose numbers stand once.
-use Rattle.std.proofs.Common.{◌≡◌, ◌≢◌, ℕ, ◌+◌, List, [], ◌∷◌, ◌++◌, true, false, not, ◌||◌, ◌&&◌, length, refl, sym, ap, ◌∙◌, subst, arith, inl, inr}
-use Rattle.std.specs.Prelude.{◌==◌}
-use Rattle.std.proofs.Math.Bool.{and-true, and-false, or-true, or-false}
-use Rattle.std.proofs.lemmas.Bool.{eq-eqb, eqb-true, ne_eqb, cases_Bool, or_parts}
-use Rattle.deadpool_parts.specs.Numbers.{has_number, without_number}
-use Rattle.deadpool_parts.specs.Orders.{IsOnce}
-use Rattle.deadpool_parts.proofs.Numbers.{has_number-append, has_number-without, without_number-same}
+use Rattle.deadpool.proofs.Basics.{◌≡◌, ◌≢◌, ℕ, ◌+◌, List, [], ◌∷◌, ◌++◌, true, false, not, ◌||◌, ◌&&◌, length, refl, sym, ap, ◌∙◌, subst, arith, inl, inr, ◌==◌, and-true, and-false, or-true, or-false, eq-eqb, eqb-true, ne_eqb, cases_Bool, or_parts, has_number, without_number, IsOnce, has_number-append, has_number-without, without_number-same}
 
 -- where one is taken out, any other is there as before
 pub has_number-other : (n m : ℕ) (xs : List ℕ) → n ≢ m → has_number n (without_number m xs) ≡ has_number n xs

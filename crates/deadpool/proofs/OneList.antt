@@ -1,12 +1,6 @@
 -- In a lawful pool no party stands in two lists.
-use Rattle.std.proofs.Common.{◌≡◌, ℕ, ◌+◌, ◌<◌, ◌≤◌, suc, zero, List, [], ◌∷◌, ◌++◌, Bool, true, false, refl, sym, ap, ◌∙◌, arith, inl, inr, Option, Some, None}
-use Rattle.std.specs.Prelude.{slice_get, is_some, ◌==◌}
-use Rattle.std.proofs.lemmas.Bool.{cases_Bool, ne_eqb}
-use Rattle.deadpool_parts.specs.Numbers.{has_number}
-use Rattle.deadpool.specs.Pool.{Pool, Party, Standing, unpolled, queued, going, creating, recycling, checking, finished, goes, creates, prepared_at, is_going, is_creating}
-use Rattle.deadpool.specs.Laws.{IsLawful, queue, waits_at, is_queued}
-use Rattle.deadpool.specs.RunLaws.{places_from, is_preparing, listed, IsListedOnce}
-use Rattle.deadpool_parts.proofs.Counts.{one_if}
+use Rattle.deadpool.proofs.Basics.{◌≡◌, ℕ, ◌+◌, ◌<◌, ◌≤◌, suc, zero, List, [], ◌∷◌, ◌++◌, Bool, true, false, refl, sym, ap, ◌∙◌, arith, inl, inr, Option, Some, None, slice_get, is_some, ◌==◌, cases_Bool, ne_eqb, has_number, one_if}
+use Rattle.deadpool.proofs.Words.{Pool, Party, Standing, unpolled, queued, going, creating, recycling, checking, finished, goes, creates, prepared_at, is_going, is_creating, IsLawful, queue, waits_at, is_queued, places_from, is_preparing, listed, IsListedOnce}
 use Rattle.deadpool.proofs.NumberCounts.{times, times-cons, times-append, times-none, times-once, once-times}
 
 module _ {X : Type 0} (f : X → Bool) where

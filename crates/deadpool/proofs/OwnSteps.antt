@@ -1,18 +1,7 @@
 -- The steps of a pool's owner: another limit, a close, and handles.
-use Rattle.std.proofs.Common.{◌≡◌, ℕ, ◌+◌, ◌-◌, List, [], Bool, true, false, ◌==◌, length, drop, min, max, refl, ap, ◌∙◌, arith, Option, if◌then◌else◌, append-nil}
-use Rattle.std.proofs.lemmas.List.{drop_all}
-use Rattle.deadpool_parts.specs.declared.moment.Runtime.{Runtime}
-use Rattle.deadpool_parts.specs.declared.config.Timeouts.{Timeouts}
-use Rattle.deadpool_managed.specs.HookLists.{HookLists}
-use Rattle.deadpool_managed.specs.DeskState.{DeskState, size, settled}
-use Rattle.deadpool_managed.specs.DeskSteps.{given_up as given_up_core}
-use Rattle.deadpool_managed.specs.Stages.{Getting}
-use Rattle.deadpool.specs.Pool.{Pool, places, size as pool_size, settle}
-use Rattle.deadpool.specs.Steps.{given_up, resized, closed, cloned, handle_dropped}
-use Rattle.deadpool.specs.Image.{image, IsCounted}
-use Rattle.deadpool_managed.specs.declared.slot.Slot.{Slot}
+use Rattle.deadpool.proofs.Basics.{◌≡◌, ℕ, ◌+◌, ◌-◌, List, [], Bool, true, false, ◌==◌, length, drop, min, max, refl, ap, ◌∙◌, arith, Option, if◌then◌else◌, append-nil, drop_all, most_handles}
+use Rattle.deadpool.proofs.Words.{Runtime, Timeouts, HookLists, DeskState, desk_size as size, settled, desk_given_up as given_up_core, Getting, Pool, places, size as pool_size, settle, given_up, resized, closed, cloned, handle_dropped, image, IsCounted, Slot}
 use Rattle.deadpool.proofs.Settles.{settles, counts_of, same_counted, counted_settled}
-use Rattle.deadpool_parts.specs.Numbers.{most_handles}
 
 -- below a limit of 0 no place is free
 none_free : (b : Bool) (n m : ℕ) → (if b then min n (0 - m) else 0) ≡ 0

@@ -1,21 +1,7 @@
 -- What each step of a pool has: the limits, the numbers of its objects, the order of its queue, and what stays.
-use Rattle.std.proofs.Common.{◌≡◌, ◌≢◌, ℕ, ◌+◌, ◌≤◌, List, [], ◌∷◌, ◌++◌, Bool, false, not, ◌&&◌, length, set, take, drop, refl, sym, ap, ◌∙◌, arith, Option, Some, None, append_assoc, cond, inl, inr}
-use Rattle.std.specs.Prelude.{slice_get, filter, ◌==◌}
-use Rattle.std.proofs.lemmas.Bool.{cases_Bool, and_parts}
-use Rattle.std.proofs.lemmas.List.{take-append-drop}
-use Rattle.deadpool_parts.specs.Numbers.{has_number, without_number}
-use Rattle.deadpool_parts.specs.Orders.{KeepsOrder}
-use Rattle.deadpool_parts.proofs.Lists.{get-set_other}
-use Rattle.deadpool_parts.proofs.Numbers.{without_number-append, without_number-shorter, has_number-without}
-use Rattle.deadpool_parts.proofs.Orders.{order_same, order_joined}
-use Rattle.deadpool.specs.Pool.{Pool, Party, prepared_by, preparing, grants, settle}
-use Rattle.deadpool.specs.Laws.{queue}
-use Rattle.deadpool.specs.RunLaws.{HasFewIdle, numbers}
-use Rattle.deadpool_managed.specs.declared.slot.Slot.{Slot}
-use Rattle.deadpool_parts.proofs.Counts.{one_if, count-set}
+use Rattle.deadpool.proofs.Basics.{◌≡◌, ◌≢◌, ℕ, ◌+◌, ◌≤◌, List, [], ◌∷◌, ◌++◌, Bool, false, not, ◌&&◌, length, set, take, drop, refl, sym, ap, ◌∙◌, arith, Option, Some, None, append_assoc, cond, inl, inr, slice_get, filter, ◌==◌, cases_Bool, and_parts, take-append-drop, has_number, without_number, KeepsOrder, get-set_other, without_number-append, without_number-shorter, has_number-without, order_same, order_joined, one_if, count-set, count-append, is_at}
+use Rattle.deadpool.proofs.Words.{Pool, Party, prepared_by, preparing, grants, settle, queue, HasFewIdle, numbers, Slot, slot_number}
 use Rattle.deadpool.proofs.NumberCounts.{times, held, times-map, held-filter_map}
-use Rattle.deadpool_parts.proofs.NumberedCounts.{count-append, is_at}
-use Rattle.deadpool.specs.Steps.{slot_number}
 
 -- two tests, one after the other
 filter-both : (f g : ℕ → Bool) (xs : List ℕ) → filter f (filter g xs) ≡ filter (λ n. g n && f n) xs

@@ -1,40 +1,13 @@
 -- What an advance of a party has, and its cancelling.
-use Rattle.std.proofs.Common.{◌≡◌, ℕ, ◌+◌, ◌-◌, ◌≤◌, List, [], ◌∷◌, ◌++◌, Bool, true, false, not, ◌&&◌, length, refl, ap, ◌∙◌, arith, Option, Some, None, Result, Ok, Err}
-use Rattle.std.specs.Prelude.{nat_lt, slice_get, unwrap_or, is_none, ◌==◌}
-use Rattle.std.proofs.lemmas.Bool.{cond_both}
-use Rattle.futures.specs.declared.task.Poll.{Poll}
+use Rattle.deadpool.proofs.Basics.{◌≡◌, ℕ, ◌+◌, ◌-◌, ◌≤◌, List, [], ◌∷◌, ◌++◌, Bool, true, false, not, ◌&&◌, length, refl, ap, ◌∙◌, arith, Option, Some, None, Result, Ok, Err, nat_lt, slice_get, unwrap_or, is_none, ◌==◌, cond_both, has_number, without_number, largest_usize, Return, Always, KeepsOrder, Always-bind, order_same, one_if, count-cons_option, count-with, is_at}
+use Rattle.deadpool.proofs.Words.{Poll, deadline_after, is_reached, is_positive, lacks_runtime, Moment, Asking, next_idle, other_idle, create, prepare, check, with_value, object_of, Pool, Party, Standing, unpolled, queued, going, creating, recycling, checking, finished, prepared_at, creating_count, places, to, ended, removed, serve_from, with_slot, slot_number, joined, enter, inquire, hand_out, reviewed, checked, created, go_on_creating, advance_at, advance, cancel_with, cancel, MarksQueued, queue, waits_at, prepared_in, Slot, Verdict, PreRecycle, start, new_metrics, Prepared, Reply, other_idle-shorter}
 use Rattle.futures.specs.declared.task.Poll.TheVariants as poll
-use Rattle.deadpool_parts.specs.Moments.{deadline_after, is_reached, is_positive, lacks_runtime}
-use Rattle.deadpool_parts.specs.Numbers.{has_number, without_number, largest_usize}
-use Rattle.deadpool_parts.specs.Program.{Return, Always}
-use Rattle.deadpool_parts.specs.declared.moment.Moment.{Moment}
-use Rattle.deadpool_parts.specs.Orders.{KeepsOrder}
-use Rattle.deadpool_parts.proofs.Programs.{Always-bind}
-use Rattle.deadpool_parts.proofs.Orders.{order_same}
-use Rattle.deadpool_managed.specs.Outside.{Asking}
-use Rattle.deadpool_managed.specs.DeskState.{next_idle, other_idle}
-use Rattle.deadpool_managed.specs.Prepare.{create, prepare, check, with_value, object_of}
-use Rattle.deadpool.specs.Pool.{Pool, Party, Standing, unpolled, queued, going, creating, recycling, checking, finished, prepared_at, creating_count, places}
-use Rattle.deadpool.specs.Steps.{to, ended, removed, serve_from, with_slot, slot_number}
-use Rattle.deadpool.specs.Party.{joined, enter, inquire, hand_out, reviewed, checked, created, go_on_creating, advance_at, advance, cancel_with, cancel}
-use Rattle.deadpool.specs.Laws.{MarksQueued, queue, waits_at}
-use Rattle.deadpool.specs.RunLaws.{prepared_in}
-use Rattle.deadpool_managed.specs.declared.slot.Slot.{Slot}
-use Rattle.deadpool_managed.specs.declared.prepare.Verdict.{Verdict}
 use Rattle.deadpool_managed.specs.declared.prepare.Verdict.TheVariants as verdict
-use Rattle.deadpool_managed.specs.declared.prepare.Preparation.TheVariants.{PreRecycle}
-use Rattle.deadpool_managed.specs.Calls.{start}
-use Rattle.deadpool_managed.specs.Metrics.{new_metrics}
-use Rattle.deadpool_managed.specs.declared.prepare.Prepared.{Prepared}
 use Rattle.deadpool_managed.specs.declared.prepare.Prepared.TheVariants as prepared
-use Rattle.deadpool.specs.declared.replay.moves.Reply.{Reply}
-use Rattle.deadpool_parts.proofs.Counts.{one_if}
 use Rattle.deadpool.proofs.Follows.{not_queued}
 use Rattle.deadpool.proofs.NumberCounts.{held, held-served}
 use Rattle.deadpool.proofs.PreparedNumbers.{Always-then, IsNumber, prepare_number}
 use Rattle.deadpool.proofs.Passes.{Passes, prepares, order_left, order_pushed, passes_self, settle_passes, party_passes}
-use Rattle.deadpool_managed.proofs.IdleLists.{other_idle-shorter}
-use Rattle.deadpool_parts.proofs.NumberedCounts.{count-cons_option, count-with, is_at}
 
 module _ {V E C R S F A : Type 0} where
   -- a step from p, with its answer

@@ -1,32 +1,12 @@
 -- What each move has, and each step of a pool's owner.
-use Rattle.std.proofs.Common.{◌≡◌, ◌≢◌, ℕ, zero, suc, ◌+◌, ◌-◌, ◌≤◌, max, min, List, [], ◌∷◌, ◌++◌, Bool, true, false, not, length, take, drop, refl, arith, Option, Some, None, inl, inr, length-append, length-drop}
-use Rattle.std.specs.Prelude.{nat_lt, nat_le, slice_get, filter, unwrap_or, ◌==◌, if◌then◌else◌}
-use Rattle.std.proofs.lemmas.Bool.{cases_Bool, cond_both, eqb-false, ne_eqb, leb-true}
-use Rattle.deadpool_parts.specs.Numbers.{has_number, most_handles}
-use Rattle.deadpool_parts.specs.Program.{Return, Always}
-use Rattle.deadpool_parts.specs.declared.config.Timeouts.{Timeouts}
-use Rattle.deadpool_parts.proofs.Programs.{Always-bind}
-use Rattle.deadpool_parts.proofs.Lists.{get-append}
-use Rattle.deadpool_parts.proofs.Orders.{order_same}
-use Rattle.deadpool_managed.specs.Outside.{Asking}
-use Rattle.deadpool.specs.Pool.{Pool, Party, unpolled, size, least_idle, status_of}
-use Rattle.deadpool.specs.Steps.{find_slot, without_slot, with_put, given_up, resized, closed, cloned, handle_dropped, slot_number}
-use Rattle.deadpool.specs.Party.{advance, cancel}
-use Rattle.deadpool.specs.Moves.{by_handle, started, put_at, back_at, take_at, resize, staying, give_up, retain_with, retain, upgrade, by_party, moved}
-use Rattle.deadpool.specs.Laws.{MarksQueued, queue}
-use Rattle.deadpool.specs.RunLaws.{sets_limit, named, prepared_in, may_leave}
-use Rattle.deadpool_managed.specs.declared.slot.Slot.{Slot}
-use Rattle.deadpool.specs.declared.replay.moves.Move.{Move}
+use Rattle.deadpool.proofs.Basics.{◌≡◌, ◌≢◌, ℕ, zero, suc, ◌+◌, ◌-◌, ◌≤◌, max, min, List, [], ◌∷◌, ◌++◌, Bool, true, false, not, length, take, drop, refl, arith, Option, Some, None, inl, inr, length-append, length-drop, nat_lt, nat_le, slice_get, filter, unwrap_or, ◌==◌, if◌then◌else◌, cases_Bool, cond_both, eqb-false, ne_eqb, leb-true, has_number, most_handles, Return, Always, Always-bind, get-append, order_same, count-push, length-without_numbered, count-cons, count-append, count-without, count-found}
+use Rattle.deadpool.proofs.Words.{Timeouts, Asking, Pool, Party, unpolled, size, least_idle, status_of, find_slot, without_slot, with_put, given_up, resized, closed, cloned, handle_dropped, slot_number, advance, cancel, by_handle, started, put_at, back_at, take_at, resize, staying, give_up, retain_with, retain, upgrade, by_party, moved, MarksQueued, queue, sets_limit, named, prepared_in, may_leave, Slot, Move, Reply}
 use Rattle.deadpool.specs.declared.replay.moves.Move.TheVariants as move
-use Rattle.deadpool.specs.declared.replay.moves.Reply.{Reply}
 use Rattle.deadpool.specs.declared.replay.moves.Reply.TheVariants as reply
-use Rattle.deadpool_parts.proofs.Counts.{count-push}
 use Rattle.deadpool.proofs.NumberCounts.{held, held-with_put, held-drop, held-split}
 use Rattle.deadpool.proofs.Staying.{staying-shorter, held-staying, held-going}
 use Rattle.deadpool.proofs.Passes.{Passes, prepares, passes_self, settle_passes, objects_pass}
 use Rattle.deadpool.proofs.PassesAdvance.{Passed, advance_passes, cancel_passes}
-use Rattle.deadpool_parts.proofs.Numbered.{length-without_numbered}
-use Rattle.deadpool_parts.proofs.NumberedCounts.{count-cons, count-append, count-without, count-found}
 
 module _ {V : Type 0} where
   -- the objects with the number

@@ -1,10 +1,6 @@
 -- An object that is out gets another value.
-use Rattle.std.proofs.Common.{ℕ, List, arith, Option}
-use Rattle.deadpool_managed.specs.DeskState.{DeskState}
-use Rattle.deadpool_managed.specs.Stages.{Getting}
-use Rattle.deadpool.specs.Steps.{with_put}
-use Rattle.deadpool.specs.Image.{IsCounted}
-use Rattle.deadpool_managed.specs.declared.slot.Slot.{Slot}
+use Rattle.deadpool.proofs.Basics.{ℕ, List, arith, Option}
+use Rattle.deadpool.proofs.Words.{DeskState, Getting, with_put, IsCounted, Slot}
 use Rattle.deadpool.proofs.SlotLists.{length-with_put}
 
 module _ {V C R S : Type 0} where

@@ -1,10 +1,6 @@
 -- Each move raises the reach of a lawful pool only as far as its limit.
-use Rattle.deadpool_parts.specs.Program.{Always}
-use Rattle.deadpool.specs.Pool.{Pool, reach}
-use Rattle.deadpool.specs.Moves.{moved, WithinReach}
-use Rattle.deadpool.specs.Laws.{IsLawful}
-use Rattle.deadpool.specs.declared.replay.moves.Move.{Move}
-use Rattle.deadpool.specs.declared.replay.moves.Reply.{Reply}
+use Rattle.deadpool.proofs.Basics.{Always}
+use Rattle.deadpool.proofs.Words.{Pool, reach, moved, WithinReach, IsLawful, Move, Reply}
 use Rattle.deadpool.proofs.Follows.{Follows-reach}
 use Rattle.deadpool.proofs.FollowsAdvance.{After}
 use Rattle.deadpool.proofs.FollowsMoves.{moved_follows}

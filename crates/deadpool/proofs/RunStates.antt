@@ -1,6 +1,5 @@
 -- All the states of a run, put together from those that each of its moves passed.
-use Rattle.std.proofs.Common.{◌≡◌, List, [], ◌∷◌, ◌++◌, refl, ap}
-use Rattle.deadpool_parts.specs.Runs.{last_of, all_states, Each, Neighbours}
+use Rattle.deadpool.proofs.Basics.{◌≡◌, List, [], ◌∷◌, ◌++◌, refl, ap, last_of, all_states, Each, Neighbours}
 
 module _ {X : Type 0} where
   -- the lists, one after another

@@ -1,11 +1,6 @@
 -- One move more.
-use Rattle.std.proofs.Common.{◌≡◌, ◌∷◌, [], List, subst, sym, refl}
-use Rattle.deadpool_parts.specs.Runs.{last_of}
-use Rattle.deadpool_managed.specs.Outside.{May}
-use Rattle.deadpool.specs.Pool.{Pool}
-use Rattle.deadpool.specs.Moves.{Makes, PoolRuns}
-use Rattle.deadpool.specs.declared.replay.moves.Move.{Move}
-use Rattle.deadpool.specs.declared.replay.moves.Reply.{Reply}
+use Rattle.deadpool.proofs.Basics.{◌≡◌, ◌∷◌, [], List, subst, sym, refl, last_of}
+use Rattle.deadpool.proofs.Words.{May, Pool, Makes, PoolRuns, Move, Reply}
 
 module _ {V E C R S F A : Type 0} (may : May V E C R S F A) where
   -- one move, before the others of a run

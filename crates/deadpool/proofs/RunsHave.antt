@@ -1,16 +1,7 @@
 -- What each move keeps holds of every state of every run, and of each two neighbours.
-use Rattle.std.proofs.Common.{◌≡◌, ℕ, List, [], ◌∷◌, sym, subst}
-use Rattle.deadpool_parts.specs.Program.{Gives, Always}
-use Rattle.deadpool_parts.specs.Runs.{last_of, all_states, Each, Neighbours, Later}
-use Rattle.deadpool_parts.specs.declared.moment.Moment.{Moment}
-use Rattle.deadpool_parts.proofs.Programs.{Always-Gives}
-use Rattle.deadpool_managed.specs.Outside.{May}
-use Rattle.deadpool.specs.Pool.{Pool}
-use Rattle.deadpool.specs.Moves.{moved, Polls, Makes, PoolRuns}
-use Rattle.deadpool.specs.RunLaws.{EachReply}
-use Rattle.deadpool.specs.declared.replay.moves.Move.{Move}
+use Rattle.deadpool.proofs.Basics.{◌≡◌, ℕ, List, [], ◌∷◌, sym, subst, Gives, Always, last_of, all_states, Each, Neighbours, Later, Always-Gives}
+use Rattle.deadpool.proofs.Words.{Moment, May, Pool, moved, Polls, Makes, PoolRuns, EachReply, Move, Reply}
 use Rattle.deadpool.specs.declared.replay.moves.Move.TheVariants as move
-use Rattle.deadpool.specs.declared.replay.moves.Reply.{Reply}
 use Rattle.deadpool.specs.declared.replay.moves.Reply.TheVariants as reply
 use Rattle.deadpool.proofs.RunStates.{flat, all_states-flat, Each-more, Each-append, Neighbours-append}
 

@@ -1,12 +1,6 @@
 -- What is true of every state of every run of a managed pool that begins lawful.
-use Rattle.std.proofs.Common.{List}
-use Rattle.deadpool_parts.specs.Runs.{all_states, Each, Neighbours}
-use Rattle.deadpool_managed.specs.Outside.{May}
-use Rattle.deadpool.specs.Pool.{Pool}
-use Rattle.deadpool.specs.Moves.{moved, PoolRuns, NobodyWaits, WithinReach}
-use Rattle.deadpool.specs.Laws.{IsLawful}
-use Rattle.deadpool.specs.declared.replay.moves.Move.{Move}
-use Rattle.deadpool.specs.declared.replay.moves.Reply.{Reply}
+use Rattle.deadpool.proofs.Basics.{List, all_states, Each, Neighbours}
+use Rattle.deadpool.proofs.Words.{May, Pool, moved, PoolRuns, NobodyWaits, WithinReach, IsLawful, Move, Reply}
 use Rattle.deadpool.proofs.Lawful.{Always-both, LawfulAfter, moved_lawful}
 use Rattle.deadpool.proofs.Reach.{ReachAfter, moved_reach}
 use Rattle.deadpool.proofs.RunStates.{Each-more}

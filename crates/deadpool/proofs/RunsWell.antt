@@ -1,18 +1,7 @@
 -- What is true of every state of every run of a managed pool that begins well, and of each two neighbours.
-use Rattle.std.proofs.Common.{◌≡◌, ℕ, ◌≤◌, List, false, max, arith, inl, inr, refl}
-use Rattle.std.proofs.lemmas.Bool.{cases_Bool}
-use Rattle.deadpool_parts.specs.Numbers.{has_number}
-use Rattle.deadpool_parts.specs.Program.{Always}
-use Rattle.deadpool_parts.specs.declared.moment.Moment.{Moment}
-use Rattle.deadpool_parts.specs.Runs.{all_states, Each, Neighbours}
-use Rattle.deadpool_managed.specs.Outside.{May}
-use Rattle.deadpool.specs.Pool.{Pool, size, reach}
-use Rattle.deadpool.specs.Moves.{moved, PoolRuns}
-use Rattle.deadpool.specs.Laws.{IsLawful}
-use Rattle.deadpool.specs.RunLaws.{numbers, IsWell, Succeeds, sets_limit, NoneReturns, EachState, EachStep, EachLater, EachMove, EndsWell, StaysWithin}
-use Rattle.deadpool.specs.declared.replay.moves.Move.{Move}
+use Rattle.deadpool.proofs.Basics.{◌≡◌, ℕ, ◌≤◌, List, false, max, arith, inl, inr, refl, cases_Bool, has_number, Always, all_states, Each, Neighbours}
+use Rattle.deadpool.proofs.Words.{Moment, May, Pool, size, reach, moved, PoolRuns, IsLawful, numbers, IsWell, Succeeds, sets_limit, NoneReturns, EachState, EachStep, EachLater, EachMove, EndsWell, StaysWithin, Move, Reply}
 use Rattle.deadpool.specs.declared.replay.moves.Move.TheVariants as move
-use Rattle.deadpool.specs.declared.replay.moves.Reply.{Reply}
 use Rattle.deadpool.proofs.Lawful.{Always-more, Always-both, LawfulAfter, moved_lawful}
 use Rattle.deadpool.proofs.Reach.{ReachAfter, moved_reach}
 use Rattle.deadpool.proofs.RunStates.{Each-more}

@@ -1,31 +1,8 @@
 -- A get that holds a place is served at the desk as its party is in the pool.
-use Rattle.std.proofs.Common.{◌≡◌, ◌≢◌, ℕ, ◌+◌, ◌-◌, ◌<◌, ◌≤◌, List, [], ◌∷◌, true, length, set, refl, sym, ap, ◌∙◌, subst, arith, Option, Some, None, nat_lt, if◌then◌else◌, unwrap_or, lt-ltb, le-ltb}
-use Rattle.std.specs.List.{slice_get}
-use Rattle.std.proofs.lemmas.Option.{slice_get-get_or}
-use Rattle.deadpool_parts.specs.Numbers.{largest_usize}
-use Rattle.deadpool_parts.specs.declared.config.QueueMode.{QueueMode}
-use Rattle.deadpool_parts.specs.declared.config.QueueMode.TheVariants.{Fifo, Lifo}
-use Rattle.deadpool_parts.specs.declared.config.Timeouts.{Timeouts}
-use Rattle.deadpool_parts.specs.declared.errors.PoolError.TheVariants.{NumbersExhausted}
-use Rattle.deadpool_parts.specs.declared.moment.Runtime.{Runtime}
-use Rattle.deadpool_managed.specs.Calls.{start}
-use Rattle.deadpool_managed.specs.HookLists.{HookLists}
-use Rattle.deadpool_managed.specs.DeskState.{DeskState, next_idle, other_idle, settled}
-use Rattle.deadpool_managed.specs.DeskSteps.{Serves}
-use Rattle.deadpool_managed.specs.Stages.{Getting}
-use Rattle.deadpool_managed.specs.Get.{AfterServing}
-use Rattle.deadpool.specs.Pool.{Pool, Party, Standing, going, creating, recycling, creating_count, settle}
-use Rattle.deadpool.specs.Steps.{unqueued as pool_unqueued, fail, rest, go_on, serve_from, serve}
-use Rattle.deadpool.specs.Image.{party_of, image, IsCounted}
-use Rattle.deadpool.specs.TrialFields.{given, reply_to}
-use Rattle.deadpool_managed.specs.declared.slot.Slot.{Slot}
-use Rattle.deadpool_managed.specs.declared.prepare.Preparation.TheVariants.{PreRecycle}
-use Rattle.deadpool_managed.specs.declared.get.Stage.{Stage}
+use Rattle.deadpool.proofs.Basics.{◌≡◌, ◌≢◌, ℕ, ◌+◌, ◌-◌, ◌<◌, ◌≤◌, List, [], ◌∷◌, true, length, set, refl, sym, ap, ◌∙◌, subst, arith, Option, Some, None, nat_lt, if◌then◌else◌, unwrap_or, lt-ltb, le-ltb, slice_get, slice_get-get_or, largest_usize}
+use Rattle.deadpool.proofs.Words.{QueueMode, Fifo, Lifo, Timeouts, NumbersExhausted, Runtime, start, HookLists, DeskState, next_idle, other_idle, settled, Serves, Getting, AfterServing, Pool, Party, Standing, going, creating, recycling, creating_count, settle, unqueued as pool_unqueued, fail, rest, go_on, serve_from, serve, party_of, image, IsCounted, given, reply_to, Slot, PreRecycle, Stage, Turn, Serving, Reply}
 use Rattle.deadpool_managed.specs.declared.get.Stage.TheVariants as stage
-use Rattle.deadpool_managed.specs.declared.get.Turn.{Turn}
-use Rattle.deadpool_managed.specs.declared.desk.Serving.{Serving}
 use Rattle.deadpool_managed.specs.declared.desk.Serving.TheVariants as serving
-use Rattle.deadpool.specs.declared.replay.moves.Reply.{Reply}
 use Rattle.deadpool.specs.declared.replay.moves.Reply.TheVariants as reply
 use Rattle.deadpool.proofs.Tickets.{Owns, NoTicket}
 use Rattle.deadpool.proofs.Settles.{settles, counts_of, counted_settled}

@@ -1,17 +1,6 @@
 -- The desk settles as the pool does.
-use Rattle.std.proofs.Common.{◌≡◌, ℕ, ◌+◌, List, ◌++◌, length, map, take, drop, refl, ◌∙◌, arith, Option}
-use Rattle.std.specs.List.{filter, filter_map}
-use Rattle.std.proofs.lemmas.List.{take-map, drop-map, map-append, length-map}
-use Rattle.deadpool_parts.specs.declared.moment.Runtime.{Runtime}
-use Rattle.deadpool_parts.specs.declared.config.Timeouts.{Timeouts}
-use Rattle.deadpool_parts.specs.Owners.{owner}
-use Rattle.deadpool_parts.proofs.Owners.{owned-granting}
-use Rattle.deadpool_managed.specs.HookLists.{HookLists}
-use Rattle.deadpool_managed.specs.DeskState.{DeskState, places, grants, settled}
-use Rattle.deadpool_managed.specs.Stages.{Getting}
-use Rattle.deadpool.specs.Pool.{Pool, Party, is_going, is_creating, prepared_by, places as pool_places, grants as pool_grants, settle}
-use Rattle.deadpool.specs.Image.{party_of, has_ticket, queue_of, image, IsCounted}
-use Rattle.deadpool_managed.specs.declared.slot.Slot.{Slot}
+use Rattle.deadpool.proofs.Basics.{◌≡◌, ℕ, ◌+◌, List, ◌++◌, length, map, take, drop, refl, ◌∙◌, arith, Option, filter, filter_map, take-map, drop-map, map-append, length-map, owner, owned-granting}
+use Rattle.deadpool.proofs.Words.{Runtime, Timeouts, HookLists, DeskState, desk_places as places, desk_grants as grants, settled, Getting, Pool, Party, is_going, is_creating, prepared_by, places as pool_places, grants as pool_grants, settle, party_of, has_ticket, queue_of, image, IsCounted, Slot}
 use Rattle.deadpool.proofs.Tickets.{owned-same}
 
 module _ {V : Type 0} where

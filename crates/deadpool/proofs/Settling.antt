@@ -1,24 +1,6 @@
 -- The pool that a desk and its gets stand for, as one get changes and as the desk settles.
-use Rattle.std.proofs.Common.{◌≡◌, ℕ, ◌+◌, ◌-◌, ◌≤◌, List, [], ◌∷◌, ◌++◌, false, cond, length, set, take, drop, map, min, refl, sym, ap, ◌∙◌, arith, inl, inr, Option, Some, append-nil, if◌then◌else◌, is_some}
-use Rattle.std.specs.List.{slice_get}
-use Rattle.std.proofs.lemmas.Bool.{cases_Bool, cases_lt}
-use Rattle.std.proofs.lemmas.List.{map-set, length-map, length-set}
-use Rattle.std.proofs.lemmas.Option.{slice_get-map}
-use Rattle.deadpool_parts.specs.declared.moment.Runtime.{Runtime}
-use Rattle.deadpool_parts.specs.declared.config.Timeouts.{Timeouts}
-use Rattle.deadpool_parts.specs.Owners.{owner}
-use Rattle.deadpool_parts.specs.Queue.{Queue}
-use Rattle.deadpool_parts.proofs.Owners.{absent, renamed-set, renamed-leaves, renamed-joins}
-use Rattle.deadpool_managed.specs.HookLists.{HookLists}
-use Rattle.deadpool_managed.specs.DeskState.{DeskState, places}
-use Rattle.deadpool_managed.specs.DeskSteps.{is_listed, unqueued}
-use Rattle.deadpool_managed.specs.Stages.{Getting}
-use Rattle.deadpool.specs.Pool.{Pool, Party, is_going, is_creating, prepared_by, places as pool_places, grants as pool_grants, settle}
-use Rattle.deadpool.specs.Steps.{unqueued as pool_unqueued}
-use Rattle.deadpool.specs.Moves.{NobodyWaits}
-use Rattle.deadpool.specs.Image.{party_of, has_ticket, queue_of, is_under_way, image, IsCounted}
-use Rattle.deadpool_managed.specs.declared.slot.Slot.{Slot}
-use Rattle.deadpool_parts.proofs.Counts.{one_if, count-set, held-set}
+use Rattle.deadpool.proofs.Basics.{◌≡◌, ℕ, ◌+◌, ◌-◌, ◌≤◌, List, [], ◌∷◌, ◌++◌, false, cond, length, set, take, drop, map, min, refl, sym, ap, ◌∙◌, arith, inl, inr, Option, Some, append-nil, if◌then◌else◌, is_some, slice_get, cases_Bool, cases_lt, map-set, length-map, length-set, slice_get-map, owner, Queue, absent, renamed-set, renamed-leaves, renamed-joins, one_if, count-set, held-set}
+use Rattle.deadpool.proofs.Words.{Runtime, Timeouts, HookLists, DeskState, desk_places as places, is_listed, desk_unqueued as unqueued, Getting, Pool, Party, is_going, is_creating, prepared_by, places as pool_places, grants as pool_grants, settle, unqueued as pool_unqueued, NobodyWaits, party_of, has_ticket, queue_of, is_under_way, image, IsCounted, Slot}
 use Rattle.deadpool.proofs.Tickets.{Owns, NoTicket, OneTicket, queueing}
 
 module _ {V C R S F A : Type 0} where

@@ -1,29 +1,8 @@
 -- Each advance of a get over the desk is an advance of its party in the pool.
-use Rattle.std.proofs.Common.{◌≡◌, ℕ, List, Bool, set, ap, ◌∙◌, subst, Option, Some, slice_set, option_map}
-use Rattle.std.specs.List.{slice_get}
-use Rattle.std.proofs.lemmas.Option.{slice_get-map}
-use Rattle.deadpool_parts.specs.Program.{Gives}
-use Rattle.deadpool_parts.specs.declared.moment.Moment.{Moment}
-use Rattle.deadpool_parts.specs.declared.moment.Runtime.{Runtime}
-use Rattle.deadpool_parts.specs.declared.config.Timeouts.{Timeouts}
-use Rattle.deadpool_managed.specs.HookLists.{HookLists}
-use Rattle.deadpool_managed.specs.DeskState.{DeskState}
-use Rattle.deadpool_managed.specs.DeskSteps.{Asks, GoesOn}
-use Rattle.deadpool_managed.specs.Stages.{Getting}
-use Rattle.deadpool_managed.specs.Outside.{May, Reserve}
-use Rattle.deadpool_managed.specs.Get.{Made, no_step, entering, asking, going_on, Makes, AdvancesFrom}
-use Rattle.deadpool.specs.Pool.{Pool}
-use Rattle.deadpool.specs.Party.{advance, advance_at}
-use Rattle.deadpool.specs.Moves.{NobodyWaits, by_party, moved}
-use Rattle.deadpool.specs.Laws.{IsLawful}
-use Rattle.deadpool.specs.Image.{party_of, standing_of, image, IsCounted}
-use Rattle.deadpool.specs.TrialFields.{given, reply_to}
-use Rattle.deadpool_managed.specs.declared.slot.Slot.{Slot}
-use Rattle.deadpool_managed.specs.declared.get.Stage.{Stage}
+use Rattle.deadpool.proofs.Basics.{◌≡◌, ℕ, List, Bool, set, ap, ◌∙◌, subst, Option, Some, slice_set, option_map, slice_get, slice_get-map, Gives}
+use Rattle.deadpool.proofs.Words.{Moment, Runtime, Timeouts, HookLists, DeskState, Asks, GoesOn, Getting, May, Reserve, Made, no_step, entering, asking, going_on, DeskMakes as Makes, AdvancesFrom, Pool, advance, advance_at, NobodyWaits, by_party, moved, IsLawful, party_of, standing_of, image, IsCounted, given, reply_to, Slot, Stage, Turn, core_desk}
 use Rattle.deadpool_managed.specs.declared.get.Stage.TheVariants as stage
-use Rattle.deadpool_managed.specs.declared.get.Turn.{Turn}
 use Rattle.deadpool.specs.declared.replay.moves.Move.TheVariants as move
-use Rattle.deadpool_managed.proofs.CoreDesk.{core_desk}
 use Rattle.deadpool.proofs.Ends.{Gives-same}
 use Rattle.deadpool.proofs.Entries.{from_entered, from_unrun, from_going, from_queued}
 use Rattle.deadpool.proofs.Advances.{from_creating, from_recycling, from_checking, from_finished}

@@ -1,11 +1,6 @@
 -- Values put into a list of objects, by number and by place.
-use Rattle.std.proofs.Common.{◌≡◌, ℕ, suc, List, [], ◌∷◌, ◌==◌, length, set, refl, ap, inl, inr, Some, get_or}
-use Rattle.std.specs.List.{position, position_or_len}
-use Rattle.std.proofs.Math.Numerals.{one-add}
-use Rattle.std.proofs.lemmas.Bool.{cases_Bool}
-use Rattle.deadpool_parts.proofs.Places.{place_is, found_at_place}
-use Rattle.deadpool.specs.Steps.{find_slot, with_put}
-use Rattle.deadpool_managed.specs.declared.slot.Slot.{Slot}
+use Rattle.deadpool.proofs.Basics.{◌≡◌, ℕ, suc, List, [], ◌∷◌, ◌==◌, length, set, refl, ap, inl, inr, Some, get_or, position, position_or_len, one-add, cases_Bool, place_is, found_at_place}
+use Rattle.deadpool.proofs.Words.{find_slot, with_put, Slot}
 
 module _ {V : Type 0} where
   -- a value put at the first place with the number

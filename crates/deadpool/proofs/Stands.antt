@@ -1,17 +1,6 @@
 -- The desk and the pool stand alike.
-use Rattle.std.proofs.Common.{◌≡◌, ℕ, ◌-◌, List, length, min, ap, ◌∙◌, arith, Option}
-use Rattle.std.proofs.lemmas.List.{length-map}
-use Rattle.deadpool_parts.specs.Numbers.{largest_usize}
-use Rattle.deadpool_parts.specs.declared.status.Status.{Status}
-use Rattle.deadpool_parts.specs.declared.moment.Runtime.{Runtime}
-use Rattle.deadpool_parts.specs.declared.config.Timeouts.{Timeouts}
-use Rattle.deadpool_parts.specs.Owners.{owner}
-use Rattle.deadpool_managed.specs.HookLists.{HookLists}
-use Rattle.deadpool_managed.specs.DeskState.{DeskState, size, pending, status_of}
-use Rattle.deadpool_managed.specs.Stages.{Getting}
-use Rattle.deadpool.specs.Pool.{Pool, size as pool_size, pending as pool_pending, status_of as pool_status}
-use Rattle.deadpool.specs.Image.{has_ticket, image, IsCounted}
-use Rattle.deadpool_managed.specs.declared.slot.Slot.{Slot}
+use Rattle.deadpool.proofs.Basics.{◌≡◌, ℕ, ◌-◌, List, length, min, ap, ◌∙◌, arith, Option, length-map, largest_usize, owner}
+use Rattle.deadpool.proofs.Words.{Status, Runtime, Timeouts, HookLists, DeskState, desk_size as size, desk_pending as pending, desk_status_of as status_of, Getting, Pool, size as pool_size, pending as pool_pending, status_of as pool_status, has_ticket, image, IsCounted, Slot}
 
 module _ {V C R S F A : Type 0} (runtime : Option Runtime) (hooks : HookLists F A) (timeouts : Timeouts) (first most : ℕ) where
   -- a desk's status is that of its image

@@ -1,17 +1,7 @@
 -- A party starts.
-use Rattle.std.proofs.Common.{◌≡◌, ℕ, List, [], ◌∷◌, ◌++◌, map, refl, ap, arith, Option, Some, length-append}
-use Rattle.std.proofs.lemmas.List.{map-append}
-use Rattle.deadpool_parts.specs.declared.moment.Runtime.{Runtime}
-use Rattle.deadpool_parts.specs.declared.config.Timeouts.{Timeouts}
-use Rattle.deadpool_parts.proofs.Owners.{owned-push, renamed-push}
-use Rattle.deadpool_managed.specs.HookLists.{HookLists}
-use Rattle.deadpool_managed.specs.DeskState.{DeskState}
-use Rattle.deadpool_managed.specs.Stages.{Getting}
-use Rattle.deadpool.specs.Pool.{Party, unpolled, is_going, is_creating, prepared_by}
-use Rattle.deadpool.specs.Image.{party_of, has_ticket, queue_of, is_under_way, image, IsCounted}
-use Rattle.deadpool_managed.specs.declared.slot.Slot.{Slot}
+use Rattle.deadpool.proofs.Basics.{◌≡◌, ℕ, List, [], ◌∷◌, ◌++◌, map, refl, ap, arith, Option, Some, length-append, map-append, owned-push, renamed-push, count-push, held-push}
+use Rattle.deadpool.proofs.Words.{Runtime, Timeouts, HookLists, DeskState, Getting, Party, unpolled, is_going, is_creating, prepared_by, party_of, has_ticket, queue_of, is_under_way, image, IsCounted, Slot}
 use Rattle.deadpool_managed.specs.declared.get.Stage.TheVariants as stage
-use Rattle.deadpool_parts.proofs.Counts.{count-push, held-push}
 
 module _ {V C R S : Type 0} where
   -- a get that is not yet polled

@@ -1,15 +1,6 @@
 -- The pool says of itself what its desk does.
-use Rattle.std.proofs.Common.{◌≡◌, ℕ, List, length, map, refl, arith, Option}
-use Rattle.std.proofs.lemmas.List.{length-map}
-use Rattle.deadpool_parts.specs.declared.moment.Runtime.{Runtime}
-use Rattle.deadpool_parts.specs.declared.config.Timeouts.{Timeouts}
-use Rattle.deadpool_parts.specs.Owners.{owner}
-use Rattle.deadpool_managed.specs.HookLists.{HookLists}
-use Rattle.deadpool_managed.specs.DeskState.{DeskState, size, pending, status_of}
-use Rattle.deadpool_managed.specs.Stages.{Getting}
-use Rattle.deadpool_managed.specs.declared.slot.Slot.{Slot}
-use Rattle.deadpool.specs.Pool.{Pool, size as pool_size, pending as pool_pending, status_of as pool_status_of}
-use Rattle.deadpool.specs.Image.{party_of, has_ticket, image}
+use Rattle.deadpool.proofs.Basics.{◌≡◌, ℕ, List, length, map, refl, arith, Option, length-map, owner}
+use Rattle.deadpool.proofs.Words.{Runtime, Timeouts, HookLists, DeskState, desk_size as size, desk_pending as pending, desk_status_of as status_of, Getting, Slot, Pool, size as pool_size, pending as pool_pending, status_of as pool_status_of, party_of, has_ticket, image}
 use Rattle.deadpool.proofs.Settles.{HasCounts}
 
 module _ {V C R S F A : Type 0} (runtime : Option Runtime) (hooks : HookLists F A) (timeouts : Timeouts) (first most : ℕ) where

@@ -1,13 +1,6 @@
 -- The idle objects that stay in a retain.
-use Rattle.std.proofs.Common.{◌≡◌, ℕ, ◌+◌, ◌-◌, ◌<◌, ◌≤◌, min, List, [], ◌∷◌, Bool, true, false, not, length, refl, arith, inl, inr}
-use Rattle.std.specs.Prelude.{filter, nat_le, ◌||◌}
-use Rattle.std.proofs.lemmas.Bool.{cases_Bool, cond_both}
-use Rattle.std.proofs.lemmas.Bool.Decides.{nat_tests}
-use Rattle.deadpool_parts.specs.Numbers.{has_number}
-use Rattle.deadpool.specs.Moves.{stays, staying}
-use Rattle.deadpool.specs.Steps.{slot_number}
-use Rattle.deadpool_managed.specs.declared.slot.Slot.{Slot}
-use Rattle.deadpool_parts.proofs.NumberedCounts.{count-cons}
+use Rattle.deadpool.proofs.Basics.{◌≡◌, ℕ, ◌+◌, ◌-◌, ◌<◌, ◌≤◌, min, List, [], ◌∷◌, Bool, true, false, not, length, refl, arith, inl, inr, filter, nat_le, ◌||◌, cases_Bool, cond_both, nat_tests, has_number, count-cons}
+use Rattle.deadpool.proofs.Words.{stays, staying, slot_number, Slot}
 use Rattle.deadpool.proofs.NumberCounts.{held}
 
 -- an object goes only where more are idle than have to be

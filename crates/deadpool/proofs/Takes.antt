@@ -1,16 +1,7 @@
 -- An object leaves those that are out.
-use Rattle.std.proofs.Common.{◌≡◌, ℕ, ◌+◌, ◌-◌, List, arith, Option, Some}
-use Rattle.deadpool_parts.specs.declared.moment.Runtime.{Runtime}
-use Rattle.deadpool_parts.specs.declared.config.Timeouts.{Timeouts}
-use Rattle.deadpool_managed.specs.HookLists.{HookLists}
-use Rattle.deadpool_managed.specs.DeskState.{DeskState, settled}
-use Rattle.deadpool_managed.specs.Stages.{Getting}
-use Rattle.deadpool.specs.Pool.{settle}
-use Rattle.deadpool.specs.Steps.{find_slot, without_slot, slot_number}
-use Rattle.deadpool.specs.Image.{image, IsCounted}
-use Rattle.deadpool_managed.specs.declared.slot.Slot.{Slot}
+use Rattle.deadpool.proofs.Basics.{◌≡◌, ℕ, ◌+◌, ◌-◌, List, arith, Option, Some, length-without_numbered}
+use Rattle.deadpool.proofs.Words.{Runtime, Timeouts, HookLists, DeskState, settled, Getting, settle, find_slot, without_slot, slot_number, image, IsCounted, Slot}
 use Rattle.deadpool.proofs.Settles.{settles, counts_of, counted_settled}
-use Rattle.deadpool_parts.proofs.Numbered.{length-without_numbered}
 
 module _ {V C R S : Type 0} (core : DeskState (Slot V)) (gets : List (Option (Getting V C R S))) (out : List (Slot V)) (n : ℕ) (slot : Slot V) (k : IsCounted core gets out) (h : find_slot n out ≡ Some slot) where
   -- an object that is out has a place

@@ -1,10 +1,6 @@
 -- The gets that a queue's tickets stand for, where the queue is a desk's.
-use Rattle.std.proofs.Common.{◌≡◌, ℕ, List, ◌∷◌, [], ◌++◌, false, eqb, Option}
-use Rattle.deadpool_parts.specs.Owners.{IsOwned}
-use Rattle.deadpool_managed.specs.declared.slot.Slot.{Slot}
-use Rattle.deadpool_managed.specs.DeskState.{DeskState}
-use Rattle.deadpool_managed.specs.Stages.{Getting}
-use Rattle.deadpool.specs.Image.{has_ticket, queue_of}
+use Rattle.deadpool.proofs.Basics.{◌≡◌, ℕ, List, ◌∷◌, [], ◌++◌, false, eqb, Option, IsOwned}
+use Rattle.deadpool.proofs.Words.{Slot, DeskState, Getting, has_ticket, queue_of}
 
 module _ {V : Type 0} where
   -- the queue with one more ticket

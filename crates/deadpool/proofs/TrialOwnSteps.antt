@@ -1,33 +1,14 @@
 -- The owner's steps of a trial: what they make in the pool, by what they did at the desk.
-use Rattle.std.proofs.Common.{◌≡◌, ◌≢◌, ℕ, ◌-◌, ◌<◌, List, Bool, true, false, cond, not, nat_lt, ◌==◌, Option, Some, Ok, Err, refl, sym, ap, ◌∙◌, subst, arith, inl, inr}
-use Rattle.std.proofs.lemmas.Bool.Decides.{nat_tests}
-use Rattle.std.proofs.lemmas.Bool.{cases_Bool}
-use Rattle.deadpool_parts.specs.Program.{Gives, Return, ask, ◌>>=◌}
-use Rattle.deadpool_parts.specs.declared.moment.Runtime.{Runtime}
-use Rattle.deadpool_parts.specs.declared.config.Timeouts.{Timeouts}
-use Rattle.deadpool_managed.specs.HookLists.{HookLists}
-use Rattle.deadpool_managed.specs.Outside.{Asking, May, Reserve}
-use Rattle.deadpool_managed.specs.DeskState.{DeskState}
-use Rattle.deadpool_managed.specs.DeskSteps.{Takes, Resizes, Closes, Clones, DropsHandle, Upgrades, resized as resized_core}
-use Rattle.deadpool_managed.specs.Stages.{Getting}
-use Rattle.deadpool.specs.Pool.{Pool}
-use Rattle.deadpool.specs.Steps.{find_slot, without_slot, resized, closed, cloned, handle_dropped}
-use Rattle.deadpool.specs.Moves.{moved, by_handle}
-use Rattle.deadpool.specs.Image.{image, IsCounted}
-use Rattle.deadpool.specs.TrialFields.{reply_to_take, reply_to_handle}
-use Rattle.deadpool_managed.specs.declared.slot.Slot.{Slot}
-use Rattle.deadpool_managed.specs.declared.desk.TakeReply.{TakeReply}
+use Rattle.deadpool.proofs.Basics.{◌≡◌, ◌≢◌, ℕ, ◌-◌, ◌<◌, List, Bool, true, false, cond, not, nat_lt, ◌==◌, Option, Some, Ok, Err, refl, sym, ap, ◌∙◌, subst, arith, inl, inr, nat_tests, cases_Bool, Gives, Return, ask, ◌>>=◌, most_handles}
+use Rattle.deadpool.proofs.Words.{Runtime, Timeouts, HookLists, Asking, May, Reserve, DeskState, Takes, Resizes, Closes, Clones, DropsHandle, Upgrades, desk_resized as resized_core, Getting, Pool, find_slot, without_slot, resized, closed, cloned, handle_dropped, moved, by_handle, image, IsCounted, reply_to_take, reply_to_handle, Slot, TakeReply, HandleReply, Reply}
 use Rattle.deadpool_managed.specs.declared.desk.TakeReply.TheVariants as taking
-use Rattle.deadpool_parts.specs.declared.replies.HandleReply.{HandleReply}
 use Rattle.deadpool_parts.specs.declared.replies.HandleReply.TheVariants as handle
 use Rattle.deadpool.specs.declared.replay.moves.Move.TheVariants as move
-use Rattle.deadpool.specs.declared.replay.moves.Reply.{Reply}
 use Rattle.deadpool.specs.declared.replay.moves.Reply.TheVariants as reply
 use Rattle.deadpool.proofs.Ends.{Gives-same}
 use Rattle.deadpool.proofs.Takes.{takes, one_outside}
 use Rattle.deadpool.proofs.OwnSteps.{resizes, closes, clones, drops_handle}
 use Rattle.deadpool.proofs.TrialSteps.{no_handle, some_handle}
-use Rattle.deadpool_parts.specs.Numbers.{most_handles}
 
 -- a number above zero is not zero, and zero is
 above_zero : (n : ℕ) → 0 < n → (n == 0) ≡ false

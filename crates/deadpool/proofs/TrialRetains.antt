@@ -1,25 +1,6 @@
 -- A retain of a trial: the objects with some numbers are kept, and the manager is told of the others.
-use Rattle.std.proofs.Common.{◌≡◌, ◌≢◌, ℕ, ◌-◌, List, [], ◌∷◌, Bool, true, false, cond, length, ◌==◌, arith, Option, Ok, Err, refl, sym, ap, ◌∙◌, subst, inl, inr}
-use Rattle.std.specs.Prelude.{nat_le}
-use Rattle.std.specs.declared.alloc.AllocError.{AllocError}
-use Rattle.std.proofs.lemmas.Bool.Decides.{nat_tests}
-use Rattle.deadpool_parts.specs.Numbers.{has_number}
-use Rattle.deadpool_parts.specs.Program.{Gives, Return, ask, ◌>>=◌}
-use Rattle.deadpool_parts.proofs.Programs.{Gives-bind}
-use Rattle.deadpool_parts.specs.declared.moment.Runtime.{Runtime}
-use Rattle.deadpool_parts.specs.declared.config.Timeouts.{Timeouts}
-use Rattle.deadpool_managed.specs.HookLists.{HookLists}
-use Rattle.deadpool_managed.specs.Outside.{May, Asking, Detach, Reserve}
-use Rattle.deadpool_managed.specs.DeskState.{DeskState, least_idle as least_idle_core}
-use Rattle.deadpool_managed.specs.Retained.{Retained}
-use Rattle.deadpool_managed.specs.Retains.{Reviews, Retains}
-use Rattle.deadpool_managed.specs.Stages.{Getting}
-use Rattle.deadpool.specs.Pool.{Pool}
-use Rattle.deadpool.specs.Moves.{staying, give_up, retain, retain_with}
-use Rattle.deadpool.specs.Image.{image, IsCounted}
-use Rattle.deadpool_managed.specs.declared.retain.Retainer.{Ghosts as RetainerOf}
-use Rattle.deadpool_managed.specs.declared.slot.Slot.{Slot}
-use Rattle.deadpool.specs.declared.replay.moves.Reply.{Reply}
+use Rattle.deadpool.proofs.Basics.{◌≡◌, ◌≢◌, ℕ, ◌-◌, List, [], ◌∷◌, Bool, true, false, cond, length, ◌==◌, arith, Option, Ok, Err, refl, sym, ap, ◌∙◌, subst, inl, inr, nat_le, AllocError, nat_tests, has_number, Gives, Return, ask, ◌>>=◌, Gives-bind}
+use Rattle.deadpool.proofs.Words.{Runtime, Timeouts, HookLists, May, Asking, Detach, Reserve, DeskState, desk_least_idle as least_idle_core, Retained, Reviews, Retains, Getting, Pool, staying, give_up, retain, retain_with, image, IsCounted, RetainerOf, Slot, Reply}
 use Rattle.deadpool.specs.declared.replay.moves.Reply.TheVariants as reply
 use Rattle.deadpool.proofs.Ends.{Gives-same}
 use Rattle.deadpool.proofs.Settles.{same_counted}

@@ -1,39 +1,8 @@
 -- What a step of a trial keeps: the counts, and the laws that each move keeps.
-use Rattle.std.proofs.Common.{◌≡◌, ℕ, ◌≤◌, List, Bool, true, false, nat_lt, ◌==◌, length, set, Option, Some, None, refl, sym, ap, ◌∙◌, arith}
-use Rattle.std.specs.List.{slice_get}
-use Rattle.std.proofs.lemmas.Bool.Decides.{nat_tests}
-use Rattle.std.proofs.Math.ListN.{length-set}
-use Rattle.deadpool_parts.specs.Program.{Gives}
-use Rattle.deadpool_parts.specs.declared.moment.Moment.{Moment}
-use Rattle.deadpool_parts.specs.declared.moment.Runtime.{Runtime}
-use Rattle.deadpool_parts.specs.declared.config.Timeouts.{Timeouts}
-use Rattle.deadpool_parts.proofs.Programs.{Always-Gives}
-use Rattle.deadpool_parts.proofs.Lists.{set-same}
-use Rattle.deadpool_managed.specs.HookLists.{HookLists}
-use Rattle.deadpool_managed.specs.Outside.{May, may}
-use Rattle.deadpool_managed.specs.DeskState.{DeskState}
-use Rattle.deadpool_managed.specs.DeskSteps.{TakesBack}
-use Rattle.deadpool_managed.specs.Stages.{Getting}
-use Rattle.deadpool_managed.specs.Get.{Made, Makes, AdvancesFrom, CancelsFrom}
-use Rattle.deadpool.specs.Pool.{Pool}
-use Rattle.deadpool.specs.Steps.{find_slot, without_slot}
-use Rattle.deadpool.specs.Moves.{moved}
-use Rattle.deadpool.specs.RunLaws.{IsWell}
-use Rattle.deadpool.specs.Image.{image, IsCounted}
-use Rattle.deadpool.specs.TrialFields.{AdvancedGet, AdvancesGet, given, reply_to, reply_to_back}
-use Rattle.deadpool_managed.specs.declared.slot.Slot.{Slot}
-use Rattle.deadpool_managed.specs.declared.manager.Manager.{Ghosts as ManagerOf}
-use Rattle.deadpool_managed.specs.declared.hooks.SyncHook.{Ghosts as SyncHookOf}
-use Rattle.deadpool_managed.specs.declared.hooks.AsyncHook.{Ghosts as AsyncHookOf}
-use Rattle.deadpool_managed.specs.declared.get.Turn.{Turn}
-use Rattle.deadpool_managed.specs.declared.desk.Desk.{Ghosts as DeskOf}
-use Rattle.deadpool_managed.specs.declared.desk.BackReply.{BackReply}
-use Rattle.deadpool.specs.declared.replay.moves.Move.{Move}
+use Rattle.deadpool.proofs.Basics.{◌≡◌, ℕ, ◌≤◌, List, Bool, true, false, nat_lt, ◌==◌, length, set, Option, Some, None, refl, sym, ap, ◌∙◌, arith, slice_get, nat_tests, length-set_n as length-set, Gives, Always-Gives, set-same}
+use Rattle.deadpool.proofs.Words.{Moment, Runtime, Timeouts, HookLists, May, may, DeskState, TakesBack, Getting, Made, DeskMakes as Makes, AdvancesFrom, CancelsFrom, Pool, find_slot, without_slot, moved, IsWell, image, IsCounted, AdvancedGet, AdvancesGet, given, reply_to, reply_to_back, Slot, ManagerOf, SyncHookOf, AsyncHookOf, Turn, DeskOf, BackReply, Move, Reply, CoreState, core_desk, own_desk, makes_at_desk}
 use Rattle.deadpool.specs.declared.replay.moves.Move.TheVariants as move
-use Rattle.deadpool.specs.declared.replay.moves.Reply.{Reply}
 use Rattle.deadpool.specs.declared.replay.moves.Reply.TheVariants as reply
-use Rattle.deadpool_managed.specs.CoreState.{CoreState}
-use Rattle.deadpool_managed.proofs.CoreDesk.{core_desk, own_desk, makes_at_desk}
 use Rattle.deadpool.proofs.Simulation.{simulates}
 use Rattle.deadpool.proofs.Cancels.{cancels}
 use Rattle.deadpool.proofs.Backs.{backs}

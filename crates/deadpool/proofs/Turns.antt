@@ -1,12 +1,7 @@
 -- Advances of one party, one after another.
-use Rattle.std.proofs.Common.{◌≡◌, ℕ, ◌∷◌, [], List, false, subst, refl}
-use Rattle.deadpool_parts.specs.Program.{Gives}
-use Rattle.deadpool_parts.specs.declared.moment.Moment.{Moment}
-use Rattle.deadpool_managed.specs.Outside.{May}
-use Rattle.deadpool.specs.Pool.{Pool}
-use Rattle.deadpool.specs.Moves.{moved, Polls, is_more}
+use Rattle.deadpool.proofs.Basics.{◌≡◌, ℕ, ◌∷◌, [], List, false, subst, refl, Gives}
+use Rattle.deadpool.proofs.Words.{Moment, May, Pool, moved, Polls, is_more, Reply}
 use Rattle.deadpool.specs.declared.replay.moves.Move.TheVariants as move
-use Rattle.deadpool.specs.declared.replay.moves.Reply.{Reply}
 use Rattle.deadpool.specs.declared.replay.moves.Reply.TheVariants as reply
 
 module _ {V E : Type 0} where

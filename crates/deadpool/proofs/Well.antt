@@ -1,24 +1,7 @@
 -- Each move leads from a pool that is well to one that is well and succeeds it, and leaves the others as they were, whatever the
 -- outside answers.
-use Rattle.std.proofs.Common.{◌≡◌, ◌≢◌, ◌⊎◌, ℕ, ◌+◌, ◌<◌, ◌≤◌, List, map, Bool, true, false, ◌&&◌, refl, sym, ap, ◌∙◌, arith, inl, inr}
-use Rattle.std.specs.Prelude.{◌==◌, Option, Some, None, slice_get}
-use Rattle.std.proofs.lemmas.Bool.{cases_Bool, and_parts, eqb-true}
-use Rattle.std.proofs.lemmas.Bool.Decides.{eqb_tells}
-use Rattle.std.proofs.lemmas.List.{nil_from_length}
-use Rattle.deadpool_parts.specs.Numbers.{has_number}
-use Rattle.deadpool_parts.specs.Program.{Always}
-use Rattle.deadpool_parts.specs.declared.config.QueueMode.{QueueMode}
-use Rattle.deadpool_parts.specs.declared.config.Timeouts.{Timeouts}
-use Rattle.deadpool_parts.specs.declared.moment.Runtime.{Runtime}
-use Rattle.deadpool_managed.specs.HookLists.{HookLists}
-use Rattle.deadpool.specs.Pool.{Pool, Party, opened}
-use Rattle.deadpool.specs.Moves.{moved}
-use Rattle.deadpool.specs.Laws.{IsLawful, is_queued}
-use Rattle.deadpool.specs.RunLaws.{numbers, IsNumbered, IsWell, CountsOn, Succeeds, sets_limit, named, may_leave, OthersStayInPool, OthersStayQueued, OthersStand, KeepsFloor}
-use Rattle.deadpool_managed.specs.declared.slot.Slot.{Slot}
-use Rattle.deadpool.specs.declared.replay.moves.Move.{Move}
-use Rattle.deadpool.specs.declared.replay.moves.Reply.{Reply}
-use Rattle.deadpool_parts.proofs.Counts.{one_if}
+use Rattle.deadpool.proofs.Basics.{◌≡◌, ◌≢◌, ◌⊎◌, ℕ, ◌+◌, ◌<◌, ◌≤◌, List, map, Bool, true, false, ◌&&◌, refl, sym, ap, ◌∙◌, arith, inl, inr, ◌==◌, Option, Some, None, slice_get, cases_Bool, and_parts, eqb-true, eqb_tells, nil_from_length, has_number, Always, one_if}
+use Rattle.deadpool.proofs.Words.{QueueMode, Timeouts, Runtime, HookLists, Pool, Party, opened, moved, IsLawful, is_queued, numbers, IsNumbered, IsWell, CountsOn, Succeeds, sets_limit, named, may_leave, OthersStayInPool, OthersStayQueued, OthersStand, KeepsFloor, Slot, Move, Reply}
 use Rattle.deadpool.proofs.NumberCounts.{times, times-none, times-some, times-once, once-times, held, has_number-held}
 use Rattle.deadpool.proofs.Lawful.{Always-more, Always-both, LawfulAfter, opened_lawful, moved_lawful}
 use Rattle.deadpool.proofs.Passes.{Passes, count, times-numbers}

@@ -1,5 +1,4 @@
-use Rattle.deadpool_managed.specs.Outside.{may}
-use Rattle.deadpool.specs.RunLaws.{KeepsFloor, LeavesEnough}
+use Rattle.deadpool.proofs.Words.{may, KeepsFloor, LeavesEnough}
 use Rattle.deadpool.proofs.EnoughIdle.{moved_leaves}
 use Rattle.deadpool.proofs.RunsWell.{each_move}
 use Rattle.deadpool.proofs.Well.{moved_floor}

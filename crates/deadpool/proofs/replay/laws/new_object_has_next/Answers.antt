@@ -1,5 +1,4 @@
-use Rattle.deadpool_managed.specs.Outside.{may}
-use Rattle.deadpool.specs.RunLaws.{CountsOn}
+use Rattle.deadpool.proofs.Words.{may, CountsOn}
 use Rattle.deadpool.proofs.RunsWell.{each_step, none_returns}
 use Rattle.deadpool.proofs.replay.laws.new_object_has_next.Goals as goal
 

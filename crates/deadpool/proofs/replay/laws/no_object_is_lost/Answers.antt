@@ -1,5 +1,4 @@
-use Rattle.deadpool_managed.specs.Outside.{may}
-use Rattle.deadpool.specs.RunLaws.{OthersStayInPool}
+use Rattle.deadpool.proofs.Words.{may, OthersStayInPool}
 use Rattle.deadpool.proofs.RunsWell.{each_move}
 use Rattle.deadpool.proofs.Well.{moved_numbers}
 use Rattle.deadpool.proofs.replay.laws.no_object_is_lost.Goals as goal

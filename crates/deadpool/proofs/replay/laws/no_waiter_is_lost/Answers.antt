@@ -1,5 +1,4 @@
-use Rattle.deadpool_managed.specs.Outside.{may}
-use Rattle.deadpool.specs.RunLaws.{OthersStayQueued, OthersStand}
+use Rattle.deadpool.proofs.Words.{may, OthersStayQueued, OthersStand}
 use Rattle.deadpool.proofs.RunsWell.{each_move}
 use Rattle.deadpool.proofs.Well.{moved_queue, moved_others}
 use Rattle.deadpool.proofs.replay.laws.no_waiter_is_lost.Goals as goal

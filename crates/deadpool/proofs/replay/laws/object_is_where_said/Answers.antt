@@ -1,5 +1,4 @@
-use Rattle.deadpool_managed.specs.Outside.{may}
-use Rattle.deadpool.specs.RunLaws.{IsOutIfGiven, IsIdleIfKept}
+use Rattle.deadpool.proofs.Words.{may, IsOutIfGiven, IsIdleIfKept}
 use Rattle.deadpool.proofs.RunsHave.{each_reply}
 use Rattle.deadpool.proofs.Given.{moved_gives, moved_keeps}
 use Rattle.deadpool.proofs.replay.laws.object_is_where_said.Goals as goal

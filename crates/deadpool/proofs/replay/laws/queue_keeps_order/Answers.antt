@@ -1,5 +1,4 @@
-use Rattle.deadpool_managed.specs.Outside.{may}
-use Rattle.deadpool.specs.RunLaws.{KeepsQueue}
+use Rattle.deadpool.proofs.Words.{may, KeepsQueue}
 use Rattle.deadpool.proofs.RunsWell.{each_step}
 use Rattle.deadpool.proofs.replay.laws.queue_keeps_order.Goals as goal
 

@@ -1,10 +1,5 @@
-use Rattle.std.proofs.Common.{◌≡◌, ◌∙◌, Some, None, length, vec_len, vec_capacity, arith, rules, map, refl, ap, sym}
-use Rattle.std.specs.List.{slice_get}
-use Rattle.std.proofs.lemmas.List.{length-map}
-use Rattle.std.proofs.lemmas.Option.{slice_get_read, slice_get_past, slice_get-map}
-use Rattle.std.specs.Option.{option_map}
-use Rattle.deadpool.specs.Image.{party_of}
-use Rattle.deadpool_managed.specs.Outside.{may}
+use Rattle.deadpool.proofs.Basics.{◌≡◌, ◌∙◌, Some, None, length, vec_len, vec_capacity, arith, rules, map, refl, ap, sym, slice_get, length-map, slice_get_read, slice_get_past, slice_get-map, option_map}
+use Rattle.deadpool.proofs.Words.{party_of, may}
 use Rattle.deadpool.proofs.Falls.{advance_falls}
 use Rattle.deadpool.proofs.TrialSteps.{out_fits, turned, not_turned, advances_at_desk}
 use Rattle.deadpool.proofs.replay.trial.Trial.advance.Goals as goal

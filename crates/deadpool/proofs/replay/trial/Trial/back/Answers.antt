@@ -1,8 +1,7 @@
-use Rattle.std.proofs.Common.{◌≡◌, ◌∙◌, Some, None, refl, sym}
-use Rattle.deadpool.specs.Steps.{find_slot, slot_number}
+use Rattle.deadpool.proofs.Basics.{◌≡◌, ◌∙◌, Some, None, refl, sym, none_there}
+use Rattle.deadpool.proofs.Words.{find_slot, slot_number}
 use Rattle.deadpool.proofs.Backs.{back_counted}
 use Rattle.deadpool.proofs.TrialSteps.{came_back}
-use Rattle.deadpool_parts.proofs.Numbered.{none_there}
 use Rattle.deadpool.proofs.replay.trial.Trial.back.Goals as goal
 
 pub invariant_of-self : goal.invariant_of-self

@@ -1,11 +1,5 @@
-use Rattle.std.proofs.Common.{◌≡◌, ◌∙◌, Some, None, length, vec_len, arith, rules, map, refl, ap, sym}
-use Rattle.std.specs.List.{slice_get}
-use Rattle.std.proofs.lemmas.List.{length-map}
-use Rattle.std.proofs.lemmas.Option.{slice_get_read, slice_get_past, slice_get-map}
-use Rattle.std.specs.Option.{option_map}
-use Rattle.deadpool_parts.proofs.Lists.{set-same}
-use Rattle.deadpool.specs.Image.{party_of}
-use Rattle.deadpool_managed.proofs.CoreDesk.{makes_at_desk}
+use Rattle.deadpool.proofs.Basics.{◌≡◌, ◌∙◌, Some, None, length, vec_len, arith, rules, map, refl, ap, sym, slice_get, length-map, slice_get_read, slice_get_past, slice_get-map, option_map, set-same}
+use Rattle.deadpool.proofs.Words.{party_of, makes_at_desk}
 use Rattle.deadpool.proofs.TrialSteps.{cancelled}
 use Rattle.deadpool.proofs.replay.trial.Trial.cancel.Goals as goal
 

@@ -1,8 +1,5 @@
-use Rattle.std.proofs.Common.{rules, ◌≡◌, ◌==◌, Some, None, length, vec_len, arith, refl}
-use Rattle.std.specs.List.{position}
-use Rattle.deadpool_parts.proofs.Places.{place_within, found_at_place, nothing_found}
-use Rattle.deadpool.specs.Steps.{with_put}
-use Rattle.deadpool.specs.Image.{image}
+use Rattle.deadpool.proofs.Basics.{rules, ◌≡◌, ◌==◌, Some, None, length, vec_len, arith, refl, position, place_within, found_at_place, nothing_found}
+use Rattle.deadpool.proofs.Words.{with_put, image}
 use Rattle.deadpool.specs.declared.replay.moves.Move.TheVariants as move
 use Rattle.deadpool.specs.declared.replay.moves.Reply.TheVariants as reply
 use Rattle.deadpool.proofs.SlotLists.{put_at_place}

@@ -1,10 +1,10 @@
-use Rattle.std.proofs.Common.{refl}
-use Rattle.deadpool_managed.specs.Outside.{may}
+use Rattle.deadpool.proofs.Basics.{refl}
+use Rattle.deadpool.proofs.Words.{may}
 use Rattle.deadpool.specs.declared.replay.moves.Move.TheVariants as move
 use Rattle.deadpool.proofs.TrialSteps.{leads_to_well, some_handle, no_handle}
 use Rattle.deadpool.proofs.TrialOwnSteps.{resized_ok, resized_err}
-use Rattle.deadpool.proofs.replay.trial.Trial.resize.Goals as goal
 use Rattle.deadpool.proofs.replay.trial.Trial.resize.Goals.{in-Ok, in-Err}
+use Rattle.deadpool.proofs.replay.trial.Trial.resize.Goals as goal
 
 pub returns-then-not-has_handle-clause-made : goal.returns-then-not-has_handle-clause-made
 returns-then-not-has_handle-clause-made g c =

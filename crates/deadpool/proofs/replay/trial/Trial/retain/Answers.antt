@@ -1,15 +1,10 @@
-use Rattle.std.proofs.Common.{◌≡◌, ◌∙◌, refl}
-use Rattle.std.specs.Prelude.{⊤}
-use Rattle.deadpool_parts.specs.Numbers.{has_number}
-use Rattle.deadpool_managed.specs.Answers.{LeavesOrKeeps}
-use Rattle.deadpool_managed.specs.Outside.{may}
-use Rattle.deadpool_managed.specs.declared.retain.Retainer.{Ghosts as RetainerOf}
-use Rattle.deadpool.specs.declared.replay.trial.Keeping.{Keeping}
+use Rattle.deadpool.proofs.Basics.{◌≡◌, ◌∙◌, refl, ⊤, has_number}
+use Rattle.deadpool.proofs.Words.{LeavesOrKeeps, may, RetainerOf, Keeping}
 use Rattle.deadpool.specs.declared.replay.moves.Move.TheVariants as move
 use Rattle.deadpool.proofs.TrialSteps.{leads_to_well, some_handle}
 use Rattle.deadpool.proofs.TrialRetains.{retained_ok, retained_err}
-use Rattle.deadpool.proofs.replay.trial.Trial.retain.Goals as goal
 use Rattle.deadpool.proofs.replay.trial.Trial.retain.Goals.{in-Ok, in-Err}
+use Rattle.deadpool.proofs.replay.trial.Trial.retain.Goals as goal
 
 pub invariant_of-self : goal.invariant_of-self
 invariant_of-self g c =

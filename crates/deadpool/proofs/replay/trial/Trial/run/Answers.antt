@@ -1,9 +1,5 @@
-use Rattle.std.proofs.Common.{rules, ◌≡◌, [], ◌∷◌, length, vec_len, arith, refl, subst, ◌∙◌, append_assoc, append-nil}
-use Rattle.std.specs.Vec.Iter.{into_iter_items, into_iter_len}
-use Rattle.deadpool_parts.proofs.Lists.{none_left, one_less}
-use Rattle.deadpool.specs.Laws.{IsLawful}
-use Rattle.deadpool_managed.specs.Outside.{may}
-use Rattle.deadpool.specs.Moves.{Makes}
+use Rattle.deadpool.proofs.Basics.{rules, ◌≡◌, [], ◌∷◌, length, vec_len, arith, refl, subst, ◌∙◌, append_assoc, append-nil, into_iter_items, into_iter_len, none_left, one_less}
+use Rattle.deadpool.proofs.Words.{IsLawful, may, Makes}
 use Rattle.deadpool.proofs.Runs.{runs_more, runs_end}
 use Rattle.deadpool.proofs.RunsLawful.{runs_lawful}
 use Rattle.deadpool.proofs.replay.trial.Trial.run.Goals as goal

@@ -1,9 +1,5 @@
-use Rattle.std.proofs.Common.{◌≡◌, nat_lt, true, false, rules, ◌∷◌, [], ◌++◌, Some, length, vec_len, arith, refl, map}
-use Rattle.std.proofs.lemmas.Bool.{lt-ltb, le-ltb}
-use Rattle.std.proofs.lemmas.List.{length-map}
-use Rattle.std.specs.Option.{unwrap_or}
-use Rattle.deadpool.specs.Image.{image, party_of}
-use Rattle.deadpool.specs.Pool.{unpolled}
+use Rattle.deadpool.proofs.Basics.{◌≡◌, nat_lt, true, false, rules, ◌∷◌, [], ◌++◌, Some, length, vec_len, arith, refl, map, lt-ltb, le-ltb, length-map, unwrap_or}
+use Rattle.deadpool.proofs.Words.{image, party_of, unpolled}
 use Rattle.deadpool.specs.declared.replay.moves.Reply.TheVariants as reply
 use Rattle.deadpool.specs.declared.replay.moves.Move.TheVariants as move
 use Rattle.deadpool.proofs.Starts.{starts, newcomer}

@@ -1,4 +1,4 @@
-use Rattle.std.proofs.Common.{refl}
+use Rattle.deadpool.proofs.Basics.{refl}
 use Rattle.deadpool.proofs.Settles.{counts_of}
 use Rattle.deadpool.proofs.Statuses.{pool_status}
 use Rattle.deadpool.proofs.TrialSteps.{some_handle}

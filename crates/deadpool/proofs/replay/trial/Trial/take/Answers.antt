@@ -1,10 +1,8 @@
-use Rattle.std.proofs.Common.{◌≡◌, ◌∙◌, Some, None, refl, sym}
-use Rattle.deadpool.specs.Steps.{find_slot, slot_number}
-use Rattle.deadpool_managed.specs.Outside.{may}
+use Rattle.deadpool.proofs.Basics.{◌≡◌, ◌∙◌, Some, None, refl, sym, none_there}
+use Rattle.deadpool.proofs.Words.{find_slot, slot_number, may}
 use Rattle.deadpool.specs.declared.replay.moves.Move.TheVariants as move
 use Rattle.deadpool.proofs.TrialSteps.{leads_to_well}
 use Rattle.deadpool.proofs.TrialOwnSteps.{taken_known, taken}
-use Rattle.deadpool_parts.proofs.Numbered.{none_there}
 use Rattle.deadpool.proofs.replay.trial.Trial.take.Goals as goal
 
 pub invariant_of-self : goal.invariant_of-self

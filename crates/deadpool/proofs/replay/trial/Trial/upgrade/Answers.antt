@@ -1,4 +1,4 @@
-use Rattle.deadpool_managed.specs.Outside.{may}
+use Rattle.deadpool.proofs.Words.{may}
 use Rattle.deadpool.specs.declared.replay.moves.Move.TheVariants as move
 use Rattle.deadpool.proofs.TrialSteps.{leads_to_well}
 use Rattle.deadpool.proofs.TrialOwnSteps.{upgraded}
