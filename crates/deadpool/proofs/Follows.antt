@@ -37,10 +37,6 @@ module _ {V C R S F A : Type 0} where
   pub Follows-reach : (most : ℕ) (p : Pool V C R S F A) → Follows most p → reach p ≤ max p.limit most
   Follows-reach most p f = let places_few = f.orderly.few_places in let objects_few = f.orderly.few_objects in omega (arith, places_few, objects_few)
 
-  -- the reach is the greater of the places and of the objects with those under way
-  pub reach-max : (p : Pool V C R S F A) → reach p ≡ max (size p + creating_count p) (places p)
-  reach-max p = omega arith
-
   -- so many of those that wait are granted a place
   abbrev granting : ℕ → Pool V C R S F A → Pool V C R S F A
   granting n p = record p { granted = p.granted ++ take n p.waiting; waiting = drop n p.waiting }
@@ -51,16 +47,14 @@ module _ {V C R S F A : Type 0} where
   granting_follows most n p k marks few all =
       let same : queue (granting n p) ≡ queue p = rw append_assoc (ap (λ ys. p.granted ++ ys) (take-append-drop n p.waiting)) in
       let longer = length-append p.granted (take n p.waiting) in
-      let taken = length-take n p.waiting in
-      let places_few = k.few_places in
       record {
         orderly = record {
           once = rw same k.once;
-          few_places = omega (arith, few, longer, taken, places_few);
+          few_places = omega (arith, few, longer, length-take n p.waiting, k.few_places);
           few_objects = k.few_objects;
         };
         marks = λ m. ap (has_number m) same ∙ marks m;
-        nobody_waits = λ opens free. let is = all opens in drop_all n p.waiting (omega (arith, is, free, longer, taken));
+        nobody_waits = λ opens free. let is = all opens in drop_all n p.waiting (omega (arith, is, free, longer, length-take n p.waiting));
       }
 
   -- the free places are given to those that wait
@@ -78,11 +72,9 @@ module _ {V C R S F A : Type 0} where
   pub unqueued_orderly : (most n : ℕ) (p : Pool V C R S F A) → IsOrderly most p → IsOrderly most (unqueued n p)
   unqueued_orderly most n p k =
       let left = without_number-append n p.granted p.waiting in
-      let fewer = without_number-shorter n p.granted in
-      let places_few = k.few_places in
       record {
         once = rw (← left) (IsOnce-without n (queue p) k.once);
-        few_places = omega (arith, fewer, places_few);
+        few_places = omega (arith, without_number-shorter n p.granted, k.few_places);
         few_objects = k.few_objects;
       }
 
@@ -136,12 +128,10 @@ module _ {V C R S F A : Type 0} where
   left_follows most n party new p k marks h w f0 f1 f2 =
       let u = unqueued_orderly most n p k in
       let c = rw (f0, f1, f2) at (counts p.parties n (Some party) new h) in
-      let places_few = u.few_places in
-      let objects_few = u.few_objects in
       settle_follows most (record (unqueued n p) { parties = set p.parties n new }) record {
         once = u.once;
-        few_places = omega (arith, c, places_few);
-        few_objects = omega (arith, c, objects_few);
+        few_places = omega (arith, c, u.few_places);
+        few_objects = omega (arith, c, u.few_objects);
       }
       (set_marks n (Some party) new (unqueued n p) h (unqueued_marks n p marks) (unqueued_gone n p ∙ sym w))
 
@@ -153,13 +143,11 @@ module _ {V C R S F A : Type 0} where
   same_places_follow most n timeouts old new next idle out p f h waits same few =
       let k = f.orderly in
       let c = counts p.parties n (Some (standing_at timeouts old)) (Some (standing_at timeouts new)) h in
-      let places_few = k.few_places in
-      let objects_few = k.few_objects in
       record {
         orderly = record {
           once = k.once;
-          few_places = omega (arith, c, same, places_few);
-          few_objects = omega (arith, c, few, objects_few);
+          few_places = omega (arith, c, same, k.few_places);
+          few_objects = omega (arith, c, few, k.few_objects);
         };
         marks = set_marks n (Some (standing_at timeouts old)) (Some (standing_at timeouts new)) p h (λ m other. f.marks m) (f.marks n ∙ ap is_queued h ∙ waits);
         nobody_waits = λ opens free. f.nobody_waits opens (omega (arith, c, same, free));

@@ -28,8 +28,7 @@ without_number-once n (x ∷ xs) once h =
           rw (here, without_number-same n xs gone) (omega arith)
       | inr other ↦
           let there : has_number n xs ≡ true = sym (ap (λ b. b || has_number n xs) other) ∙ h in
-          let rest = without_number-once n xs once.1 there in
-          rw other (omega (arith, rest))
+          rw other (omega (arith, without_number-once n xs once.1 there))
     ]
 
 -- each part of a list whose numbers stand once

@@ -18,19 +18,16 @@ module _ {V : Type 0} (kept : List ℕ) (least : ℕ) where
   pub staying-shorter : (idle : ℕ) (xs : List (Slot V)) → length (staying kept least idle xs) ≤ length xs
   staying-shorter idle [] = omega arith
   staying-shorter idle (x ∷ xs) =
-      let stay = staying-shorter idle xs in
       let go = staying-shorter (idle - 1) xs in
-      cond_both (stays kept least idle x) _ _ (λ ys. length ys ≤ length (x ∷ xs)) (λ here. omega (arith, stay)) (λ gone. omega (arith, go))
+      cond_both (stays kept least idle x) _ _ (λ ys. length ys ≤ length (x ∷ xs)) (λ here. omega (arith, staying-shorter idle xs)) (λ gone. omega (arith, go))
 
   -- as many stay idle as have to, if as many were
   pub staying-least : (idle : ℕ) (xs : List (Slot V)) → min idle least + length xs ≤ idle + length (staying kept least idle xs)
   staying-least idle [] = omega arith
   staying-least idle (x ∷ xs) =
-      let stay = staying-least idle xs in
-      let go = staying-least (idle - 1) xs in
       elim (cases_Bool (stays kept least idle x)) [
-        | inl stay_on ↦ rw stay_on (omega (arith, stay))
-        | inr leave ↦ let more = more_than_least (has_number x.number kept) least idle leave in rw leave (omega (arith, go, more))
+        | inl stay_on ↦ rw stay_on (omega (arith, staying-least idle xs))
+        | inr leave ↦ let more = more_than_least (has_number x.number kept) least idle leave in rw leave (omega (arith, staying-least (idle - 1) xs, more))
       ]
 
   -- none of them is new

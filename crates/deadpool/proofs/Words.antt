@@ -1,13 +1,13 @@
 -- The words of a pool, its desk and its gets that the proofs cite, passed on from one place.
-pub use Rattle.deadpool.specs.Image.{party_of, standing_of, image, IsCounted, has_ticket, queue_of, is_under_way}
-pub use Rattle.deadpool.specs.Laws.{IsLawful, MarksQueued, queue, waits_at, is_queued}
-pub use Rattle.deadpool.specs.Moves.{moved, NobodyWaits, by_party, resize, staying, give_up, retain_with, retain, by_handle, started, put_at, back_at, take_at, upgrade, WithinReach, Makes, PoolRuns, Polls, stays, is_more}
-pub use Rattle.deadpool.specs.Party.{created, reviewed, checked, hand_out, advance_at, cancel, enter, inquire, joined, go_on_creating, advance, cancel_with}
-pub use Rattle.deadpool.specs.Pool.{Pool, Party, size, prepared_at, is_going, is_creating, prepared_by, places, settle, least_idle, unpolled, queued, going, Standing, creating, recycling, checking, finished, creating_count, goes, creates, reach, grants, status_of, opened, preparing, pending}
-pub use Rattle.deadpool.specs.Rank.{rank, rank_of, rank_at}
-pub use Rattle.deadpool.specs.RunLaws.{LeavesEnough, IsOutIfGiven, IsIdleIfKept, places_from, is_preparing, listed, IsListedOnce, HasFewIdle, numbers, prepared_in, sets_limit, named, may_leave, EachReply, IsWell, Succeeds, NoneReturns, EachState, EachStep, EachLater, EachMove, EndsWell, StaysWithin, IsNumbered, CountsOn, OthersStayInPool, OthersStayQueued, OthersStand, KeepsFloor, IsEmptyIfClosed, KeepsQueue}
-pub use Rattle.deadpool.specs.Steps.{fail, rest, go_on, with_slot, slot_number, find_slot, without_slot, removed, given_up, resized, unqueued, serve, serve_from, to, ended, with_put, closed, cloned, handle_dropped}
-pub use Rattle.deadpool.specs.TrialFields.{given, reply_to, IsTaken, reply_to_back, reply_to_take, reply_to_handle, AdvancedGet, AdvancesGet}
+pub use Rattle.deadpool.specs.Image.{party_of, standing_of, IsCounted, has_ticket, queue_of, is_under_way, image}
+pub use Rattle.deadpool.specs.Laws.{IsLawful, queue, is_queued, MarksQueued, waits_at}
+pub use Rattle.deadpool.specs.Moves.{moved, by_party, resize, staying, give_up, retain_with, retain, by_handle, started, put_at, back_at, take_at, NobodyWaits, Polls, is_more, Makes, PoolRuns, WithinReach, stays}
+pub use Rattle.deadpool.specs.Party.{created, reviewed, checked, hand_out, advance_at, cancel, advance, enter, inquire, joined, go_on_creating, cancel_with}
+pub use Rattle.deadpool.specs.Pool.{Pool, Party, size, prepared_at, is_going, is_creating, prepared_by, settle, least_idle, unpolled, reach, status_of, grants, places, pending, Standing, queued, going, goes, creates, creating_count, creating, recycling, checking, finished, preparing, opened}
+pub use Rattle.deadpool.specs.Rank.{rank_of, rank_at, rank}
+pub use Rattle.deadpool.specs.RunLaws.{LeavesEnough, IsOutIfGiven, IsIdleIfKept, HasFewIdle, prepared_in, sets_limit, named, may_leave, places_from, is_preparing, listed, IsListedOnce, numbers, EachReply, IsWell, Succeeds, NoneReturns, EachState, EachStep, EachLater, EachMove, EndsWell, StaysWithin, IsNumbered, CountsOn, OthersStayQueued, OthersStand, IsEmptyIfClosed, KeepsFloor, OthersStayInPool, KeepsQueue}
+pub use Rattle.deadpool.specs.Steps.{fail, rest, go_on, with_slot, slot_number, find_slot, without_slot, given_up, resized, with_put, closed, cloned, handle_dropped, removed, unqueued, to, serve_from, serve}
+pub use Rattle.deadpool.specs.TrialFields.{given, reply_to, IsTaken, reply_to_back, reply_to_take, reply_to_handle, AdvancesGet}
 pub use Rattle.deadpool.specs.declared.replay.moves.Move.{Move}
 pub use Rattle.deadpool.specs.declared.replay.moves.Reply.{Reply}
 pub use Rattle.deadpool.specs.declared.replay.trial.Keeping.{Keeping}
@@ -16,12 +16,12 @@ pub use Rattle.deadpool_managed.proofs.IdleLists.{other_idle-shorter}
 pub use Rattle.deadpool_managed.specs.Answers.{LeavesOrKeeps}
 pub use Rattle.deadpool_managed.specs.Calls.{start, pass}
 pub use Rattle.deadpool_managed.specs.CoreState.{CoreState}
-pub use Rattle.deadpool_managed.specs.DeskState.{DeskState, settled, places as desk_places, next_idle, other_idle, size as desk_size, grants as desk_grants, pending as desk_pending, status_of as desk_status_of, least_idle as desk_least_idle}
-pub use Rattle.deadpool_managed.specs.DeskSteps.{Fails, TakesBack, is_listed, unqueued as desk_unqueued, Refuses, Cancels as DeskCancels, Enters, Asks, GoesOn, given_up as desk_given_up, Serves, Takes, Resizes, Closes, Clones, DropsHandle, Upgrades, resized as desk_resized}
+pub use Rattle.deadpool_managed.specs.DeskState.{DeskState, settled, places as desk_places, grants as desk_grants, size as desk_size, pending as desk_pending, status_of as desk_status_of, next_idle, other_idle, least_idle as desk_least_idle}
+pub use Rattle.deadpool_managed.specs.DeskSteps.{Fails, is_listed, unqueued as desk_unqueued, Refuses, Cancels as DeskCancels, Enters, Asks, GoesOn, TakesBack, given_up as desk_given_up, Takes, Resizes, Closes, Clones, DropsHandle, Upgrades, resized as desk_resized, Serves}
 pub use Rattle.deadpool_managed.specs.Get.{Made, no_step, discarding, creating as by_creation, failing, refusing, Makes as DeskMakes, AfterCreation, AfterPrepared, AfterChecked, AdvancesCreation, ended_by, cancelling, CancelsFrom, GivesUp, AfterEntered, AfterAsked, AfterGoingOn, AfterServing, entering, asking, going_on, AdvancesFrom}
 pub use Rattle.deadpool_managed.specs.HookLists.{HookLists}
 pub use Rattle.deadpool_managed.specs.Metrics.{new_metrics}
-pub use Rattle.deadpool_managed.specs.Outside.{May, Asking, Reserve, Detach, may}
+pub use Rattle.deadpool_managed.specs.Outside.{May, Asking, may, Reserve, Detach}
 pub use Rattle.deadpool_managed.specs.Prepare.{create, prepare, check, with_value, object_of, approved, approve, recycled, poll_recycling, begin_recycling, reviewed as prepare_reviewed}
 pub use Rattle.deadpool_managed.specs.Retained.{Retained}
 pub use Rattle.deadpool_managed.specs.Retains.{Reviews, Retains}
@@ -29,7 +29,6 @@ pub use Rattle.deadpool_managed.specs.Stages.{Getting}
 pub use Rattle.deadpool_managed.specs.declared.desk.AgainReply.{AgainReply}
 pub use Rattle.deadpool_managed.specs.declared.desk.AskReply.{AskReply}
 pub use Rattle.deadpool_managed.specs.declared.desk.BackReply.{BackReply}
-pub use Rattle.deadpool_managed.specs.declared.desk.Desk.{Ghosts as DeskOf}
 pub use Rattle.deadpool_managed.specs.declared.desk.EnterReply.{EnterReply}
 pub use Rattle.deadpool_managed.specs.declared.desk.Held.{Held}
 pub use Rattle.deadpool_managed.specs.declared.desk.Serving.{Serving}
@@ -58,6 +57,5 @@ pub use Rattle.deadpool_parts.specs.declared.moment.Moment.{Moment}
 pub use Rattle.deadpool_parts.specs.declared.moment.Runtime.{Runtime}
 pub use Rattle.deadpool_parts.specs.declared.replies.HandleReply.{HandleReply}
 pub use Rattle.deadpool_parts.specs.declared.replies.StepReply.{StepReply}
-pub use Rattle.deadpool_parts.specs.declared.status.Status.{Status}
 pub use Rattle.futures.specs.Task.{Keeps}
 pub use Rattle.futures.specs.declared.task.Poll.{Poll}

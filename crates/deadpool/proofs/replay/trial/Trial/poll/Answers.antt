@@ -1,7 +1,7 @@
 use Rattle.deadpool.proofs.Basics.{◌∙◌, [], ◌∷◌, sym, subst, refl, Gives}
 use Rattle.deadpool.proofs.Words.{may, moved}
 use Rattle.deadpool.specs.declared.replay.moves.Move.TheVariants as move
-use Rattle.deadpool.proofs.Turns.{polls_more, polls_last}
+use Rattle.deadpool.proofs.Runs.{polls_more, polls_last}
 use Rattle.deadpool.proofs.replay.trial.Trial.poll.Goals as goal
 
 pub loop-reply-init : goal.loop-reply-init

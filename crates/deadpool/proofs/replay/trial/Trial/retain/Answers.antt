@@ -3,13 +3,14 @@ use Rattle.deadpool.proofs.Words.{LeavesOrKeeps, may, RetainerOf, Keeping}
 use Rattle.deadpool.specs.declared.replay.moves.Move.TheVariants as move
 use Rattle.deadpool.proofs.TrialSteps.{leads_to_well, some_handle}
 use Rattle.deadpool.proofs.TrialRetains.{retained_ok, retained_err}
+use Rattle.deadpool.proofs.Fixed.{fixed_as}
 use Rattle.deadpool.proofs.replay.trial.Trial.retain.Goals.{in-Ok, in-Err}
 use Rattle.deadpool.proofs.replay.trial.Trial.retain.Goals as goal
 
 pub invariant_of-self : goal.invariant_of-self
 invariant_of-self g c =
     let f = c.self.inside in
-    let e = f.environment in
+    let fixed = fixed_as f.environment.runtime f.environment.hooks f.timeouts f.first f.most_parties in
     let asks : RetainerOf (Keeping g.row.M.Denot) g.row.M-Type.Denot = record {
       can_call = λ q. ⊤;
       may_keep = λ q number value metrics answer left. (answer ≡ has_number number q.kept.now) × (left ≡ q);
@@ -18,17 +19,17 @@ invariant_of-self g c =
     let some = some_handle c.has_handle.result f.core.desk.handles c.has_handle.ensures c.if-not-has_handle.false in
     elim c.match-retain.branch [
       | in-Ok w ↦
-          let all = retained_ok (may g.M.Manager g.F.SyncHook g.A.AsyncHook e.manager) (λ found. tt) asks c.args.kept.now.items (λ q. q ≡ _) (λ q slot answer left is a. (rw (is, c.as_slice.ensures.value) at a.0, a.1 ∙ is)) (λ q value left after is a. (rw is at a.0, a.1 ∙ is)) e.runtime e.hooks f.timeouts f.first f.most_parties f.core.desk c.retain.new.self.desk f.parties.items f.out.items c.self.invariant.counted some _ c.retain.new.retainer refl w.in-Ok.retained (rw w.in-Ok.is at c.retain.ensures.retained).0 in
-          record { counted = all.1; well = leads_to_well g.M.Manager g.F.SyncHook g.A.AsyncHook e.manager e.runtime e.hooks f.timeouts f.first f.most_parties (move.Retain c.args.kept.now) _ _ _ c.self.invariant.well all.0; parties = c.self.invariant.parties; seats = c.self.invariant.seats; hands = c.self.invariant.hands }
+          let all = retained_ok (may g.M.Manager g.F.SyncHook g.A.AsyncHook f.environment.manager) (λ found. tt) asks c.args.kept.now.items (λ q. q ≡ _) (λ q slot answer left is a. (rw (is, c.as_slice.ensures.value) at a.0, a.1 ∙ is)) (λ q value left after is a. (rw is at a.0, a.1 ∙ is)) fixed f.core.desk c.retain.new.self.desk f.parties.items f.out.items c.self.invariant.counted some _ c.retain.new.retainer refl w.in-Ok.retained (rw w.in-Ok.is at c.retain.ensures.retained).0 in
+          record { counted = all.1; well = leads_to_well g.M.Manager g.F.SyncHook g.A.AsyncHook f.environment.manager (move.Retain c.args.kept.now) _ _ _ c.self.invariant.well all.0; parties = c.self.invariant.parties; seats = c.self.invariant.seats; hands = c.self.invariant.hands }
       | in-Err w ↦
-          let all = retained_err (may g.M.Manager g.F.SyncHook g.A.AsyncHook e.manager) (λ found. tt) asks c.args.kept.now.items (λ q. q ≡ _) (λ q slot answer left is a. (rw (is, c.as_slice.ensures.value) at a.0, a.1 ∙ is)) (λ q value left after is a. (rw is at a.0, a.1 ∙ is)) e.runtime e.hooks f.timeouts f.first f.most_parties f.core.desk c.retain.new.self.desk f.parties.items f.out.items c.self.invariant.counted some _ c.retain.new.retainer refl w.in-Err.field-0 (rw w.in-Err.is at c.retain.ensures.retained).0 in
-          record { counted = all.1; well = leads_to_well g.M.Manager g.F.SyncHook g.A.AsyncHook e.manager e.runtime e.hooks f.timeouts f.first f.most_parties (move.Retain c.args.kept.now) _ _ _ c.self.invariant.well all.0; parties = c.self.invariant.parties; seats = c.self.invariant.seats; hands = c.self.invariant.hands }
+          let all = retained_err (may g.M.Manager g.F.SyncHook g.A.AsyncHook f.environment.manager) (λ found. tt) asks c.args.kept.now.items (λ q. q ≡ _) (λ q slot answer left is a. (rw (is, c.as_slice.ensures.value) at a.0, a.1 ∙ is)) (λ q value left after is a. (rw is at a.0, a.1 ∙ is)) fixed f.core.desk c.retain.new.self.desk f.parties.items f.out.items c.self.invariant.counted some _ c.retain.new.retainer refl w.in-Err.field-0 (rw w.in-Err.is at c.retain.ensures.retained).0 in
+          record { counted = all.1; well = leads_to_well g.M.Manager g.F.SyncHook g.A.AsyncHook f.environment.manager (move.Retain c.args.kept.now) _ _ _ c.self.invariant.well all.0; parties = c.self.invariant.parties; seats = c.self.invariant.seats; hands = c.self.invariant.hands }
     ]
 
 pub returns-clause-made : goal.returns-clause-made
 returns-clause-made g c =
     let f = c.self.inside in
-    let e = f.environment in
+    let fixed = fixed_as f.environment.runtime f.environment.hooks f.timeouts f.first f.most_parties in
     let asks : RetainerOf (Keeping g.row.M.Denot) g.row.M-Type.Denot = record {
       can_call = λ q. ⊤;
       may_keep = λ q number value metrics answer left. (answer ≡ has_number number q.kept.now) × (left ≡ q);
@@ -37,9 +38,9 @@ returns-clause-made g c =
     let some = some_handle c.has_handle.result f.core.desk.handles c.has_handle.ensures c.if-not-has_handle.false in
     elim c.match-retain.branch [
       | in-Ok w ↦
-          let all = retained_ok (may g.M.Manager g.F.SyncHook g.A.AsyncHook e.manager) (λ found. tt) asks c.args.kept.now.items (λ q. q ≡ _) (λ q slot answer left is a. (rw (is, c.as_slice.ensures.value) at a.0, a.1 ∙ is)) (λ q value left after is a. (rw is at a.0, a.1 ∙ is)) e.runtime e.hooks f.timeouts f.first f.most_parties f.core.desk c.retain.new.self.desk f.parties.items f.out.items c.self.invariant.counted some _ c.retain.new.retainer refl w.in-Ok.retained (rw w.in-Ok.is at c.retain.ensures.retained).0 in
+          let all = retained_ok (may g.M.Manager g.F.SyncHook g.A.AsyncHook f.environment.manager) (λ found. tt) asks c.args.kept.now.items (λ q. q ≡ _) (λ q slot answer left is a. (rw (is, c.as_slice.ensures.value) at a.0, a.1 ∙ is)) (λ q value left after is a. (rw is at a.0, a.1 ∙ is)) fixed f.core.desk c.retain.new.self.desk f.parties.items f.out.items c.self.invariant.counted some _ c.retain.new.retainer refl w.in-Ok.retained (rw w.in-Ok.is at c.retain.ensures.retained).0 in
           rw (← c.self.view_is, w.result-is) all.0
       | in-Err w ↦
-          let all = retained_err (may g.M.Manager g.F.SyncHook g.A.AsyncHook e.manager) (λ found. tt) asks c.args.kept.now.items (λ q. q ≡ _) (λ q slot answer left is a. (rw (is, c.as_slice.ensures.value) at a.0, a.1 ∙ is)) (λ q value left after is a. (rw is at a.0, a.1 ∙ is)) e.runtime e.hooks f.timeouts f.first f.most_parties f.core.desk c.retain.new.self.desk f.parties.items f.out.items c.self.invariant.counted some _ c.retain.new.retainer refl w.in-Err.field-0 (rw w.in-Err.is at c.retain.ensures.retained).0 in
+          let all = retained_err (may g.M.Manager g.F.SyncHook g.A.AsyncHook f.environment.manager) (λ found. tt) asks c.args.kept.now.items (λ q. q ≡ _) (λ q slot answer left is a. (rw (is, c.as_slice.ensures.value) at a.0, a.1 ∙ is)) (λ q value left after is a. (rw is at a.0, a.1 ∙ is)) fixed f.core.desk c.retain.new.self.desk f.parties.items f.out.items c.self.invariant.counted some _ c.retain.new.retainer refl w.in-Err.field-0 (rw w.in-Err.is at c.retain.ensures.retained).0 in
           rw (← c.self.view_is, w.result-is) all.0
     ]
