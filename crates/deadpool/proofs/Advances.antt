@@ -10,7 +10,7 @@ use Rattle.deadpool_managed.specs.declared.get.Turn.TheVariants as turn
 use Rattle.deadpool_parts.specs.declared.replies.StepReply.TheVariants as step
 use Rattle.deadpool_managed.specs.declared.desk.CreatedReply.TheVariants as numbered
 use Rattle.deadpool.specs.declared.replay.moves.Reply.TheVariants as reply
-use Rattle.deadpool.proofs.DeskImage.{NoTicket, owned-same, counted_settled, goes, creates, prepares, lasts, Shifts, put, put_off, IsCounted-set, put-image, put_off-image, Gives-same, holds_creation, holds_object, ends_free}
+use Rattle.deadpool.proofs.DeskImage.{NoTicket, owned-same, goes, creates, prepares, lasts, Shifts, put, put_off, IsCounted-set, put-image, put_off-image, Gives-same, holds_creation, holds_object, ends_free}
 use Rattle.deadpool.proofs.Fixed.{Fixed, image_of, get_at, party_at}
 
 module _ {V E C R S F A : Type 0} (may : May V E C R S F A) (fixed : Fixed F A) (n : ℕ) (now : Moment)
@@ -57,20 +57,13 @@ module _ {V E C R S F A : Type 0} (may : May V E C R S F A) (fixed : Fixed F A) 
     one_creation = holds_creation core gets out k n (get_at own creator) h
 
     -- a creation that ends without an object frees its place
-    creation_fails : (cause : PoolError E) → Pairs (settled without_creation) stage.Finished (turn.Done (Err cause)) (fail n (party_at own creator) cause pool)
-    creation_fails cause =
-        let counted : IsCounted without_creation (set gets n (get_at own stage.Finished)) out =
-        moves_on creator h (λ u. refl) without_creation stage.Finished out refl refl (λ u. refl)
-        record { going = refl; creations = let one = one_creation in omega arith; outside = refl; room = omega arith } in (
-          ap (λ (q : Pool V C R S F A). (reply.Failed cause, q))
-              (ends_free fixed core gets out n (get_at own stage.Finished) without_creation (put_off_as creator h (λ u. refl) stage.Finished (λ u. refl)) counted),
-          counted_settled without_creation (set gets n (get_at own stage.Finished)) out counted,
-        )
-
-    -- so does one that is told to the desk
     creation_failed : (cause : PoolError E) (reply : StepReply) (s : Stage V C R S) (t : Turn V E) → Fails core reply core' → s ≡ stage.Finished → t ≡ ended_by cause reply
         → Pairs core' s t (fail n (party_at own creator) cause pool)
-    creation_failed cause step.Done s t e is_s is_t = rw (is_s, is_t, e.1) (creation_fails cause)
+    creation_failed cause step.Done s t e is_s is_t =
+        let all = ends_free fixed core gets out n (get_at own stage.Finished) without_creation (put_off_as creator h (λ u. refl) stage.Finished (λ u. refl))
+        (moves_on creator h (λ u. refl) without_creation stage.Finished out refl refl (λ u. refl)
+        record { going = refl; creations = let one = one_creation in omega arith; outside = refl; room = omega arith }) in
+        rw (is_s, is_t, e.1) (ap (λ (q : Pool V C R S F A). (reply.Failed cause, q)) all.0, all.1)
     creation_failed cause step.Unknown s t e is_s is_t = absurd (let one = one_creation in omega (arith, one, e.0))
 
     -- one that ends well is an object with the next number
@@ -181,11 +174,9 @@ module _ {V E C R S F A : Type 0} (may : May V E C R S F A) (fixed : Fixed F A) 
     object_refused : (cause : PoolError E) → Pairs (settled (record core { outside = core.outside - 1 })) stage.Finished (turn.Done (Err cause)) (fail n (party_at own old) cause pool)
     object_refused cause =
         let left : DeskState (Slot V) = record core { outside = core.outside - 1 } in
-        let counted = object_moves left stage.Finished out refl refl (λ u. refl) (omega arith) (omega arith) (omega (arith, one_object)) (omega arith) in (
-          ap (λ (q : Pool V C R S F A). (reply.Failed cause, q))
-              (ends_free fixed core gets out n (get_at own stage.Finished) left (put_off_as old h none stage.Finished (λ u. refl)) counted),
-          counted_settled left (set gets n (get_at own stage.Finished)) out counted,
-        )
+        let all = ends_free fixed core gets out n (get_at own stage.Finished) left (put_off_as old h none stage.Finished (λ u. refl))
+        (object_moves left stage.Finished out refl refl (λ u. refl) (omega arith) (omega arith) (omega (arith, one_object)) (omega arith)) in
+        (ap (λ (q : Pool V C R S F A). (reply.Failed cause, q)) all.0, all.1)
 
   -- what a preparation came to
   prepared_answered : (preparation : Preparation V R S) (allowance : Option ℕ) (x : Prepared V R S) (made : Made V) (s : Stage V C R S) (t : Turn V E)

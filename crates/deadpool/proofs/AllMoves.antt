@@ -8,8 +8,8 @@ use Rattle.deadpool.proofs.NumberCounts.{held, held-with_put, held-drop, held-sp
 use Rattle.deadpool.proofs.OutObjects.{length-with_put}
 use Rattle.deadpool.proofs.Staying.{staying-shorter, staying-least, held-staying, held-going}
 use Rattle.deadpool.proofs.Computations.{Always-more}
-use Rattle.deadpool.proofs.Follows.{Follows, Follows-self, standing_at, settle_follows}
-use Rattle.deadpool.proofs.Passes.{Passes, prepares, passes_self, granting_passes, settle_passes, objects_pass}
+use Rattle.deadpool.proofs.QueuesAndPlaces.{Follows, Follows-self, standing_at, settle_follows}
+use Rattle.deadpool.proofs.NumbersAndOrder.{Passes, prepares, passes_self, granting_passes, settle_passes, objects_pass}
 use Rattle.deadpool.proofs.PartyMoves.{Advanced, advanced, cancelled}
 
 module _ {V : Type 0} where
@@ -215,10 +215,9 @@ module _ {V C R S F A : Type 0} (E : Type 0) (p : Pool V C R S F A) (l : IsLawfu
   by_party_moved : (m : Move V) (n : ℕ) (step : Party V C R S → Pool V C R S F A → Asking V E C R S F A (Reply V E × Pool V C R S F A)) (found : Option (Option (Party V C R S)))
       → slice_get p.parties n ≡ found → ((party : Party V C R S) → slice_get p.parties n ≡ Some (Some party) → Always (Advanced E m n party.timeouts p party.standing) (step party p))
       → Always (λ (x : Reply V E × Pool V C R S F A). Follows (reach p) x.1 × Passes false (Some n) (prepared_in found) p x.1 × IsOutIfGiven m x.0 x.1 × Unit {0} × Unit {0}) (by_party found step p)
-  by_party_moved m n step None e has = (Follows-self p l, passes_self false (Some n) [] p, tt, tt, tt)
-  by_party_moved m n step (Some None) e has = (Follows-self p l, passes_self false (Some n) [] p, tt, tt, tt)
   by_party_moved m n step (Some (Some party)) e has =
       Always-more (Advanced E m n party.timeouts p party.standing) _ (λ x h. (h.0, h.1, h.2, tt, tt)) (step party p) (has party e)
+  by_party_moved m n step _ e has = (Follows-self p l, passes_self false (Some n) [] p, tt, tt, tt)
 
   pub moved_has : (m : Move V) → Always (Moved {E = E} p m) (moved m p)
   moved_has (move.Start timeouts) = by_handle_moved (move.Start timeouts) (started timeouts) tt tt (λ some. started_moved timeouts)
@@ -241,10 +240,9 @@ module _ {V C R S F A : Type 0} (E : Type 0) (p : Pool V C R S F A) (l : IsLawfu
   -- an advance after which there is more to do takes its party nearer to its end
   by_party_falls : (n : ℕ) (now : Moment) (found : Option (Option (Party V C R S))) → slice_get p.parties n ≡ found
       → Always (λ (x : Reply V E × Pool V C R S F A). x.0 ≡ reply.More → rank_at n x.1 < rank_of found + (length p.idle + length p.idle)) (by_party found (advance n now) p)
-  by_party_falls n now None e = λ clash. cc
-  by_party_falls n now (Some None) e = λ clash. cc
   by_party_falls n now (Some (Some party)) e =
       Always-more (Advanced E (move.Advance n now) n party.timeouts p party.standing) _ (λ x h. h.3) (advance n now party p) (advanced E (move.Advance n now) n party.timeouts p l now party.standing e)
+  by_party_falls n now _ e = λ clash. cc
 
   pub advance_falls : (may : May V E C R S F A) (after : Pool V C R S F A) (n : ℕ) (now : Moment) (answer : Reply V E)
       → Gives may (moved (move.Advance n now) p) (answer, after) → answer ≡ reply.More → rank_at n after < rank_at n p

@@ -5,7 +5,7 @@ use Rattle.deadpool_managed.specs.declared.get.Stage.TheVariants as stage
 use Rattle.deadpool_parts.specs.declared.replies.StepReply.TheVariants as step
 use Rattle.deadpool_managed.specs.declared.desk.Held.TheVariants as held
 use Rattle.deadpool.specs.declared.replay.moves.Reply.TheVariants as reply
-use Rattle.deadpool.proofs.DeskImage.{NoTicket, counted_settled, goes, creates, prepares, Shifts, IsCounted-set, put_off-unqueued, put_off-image, holds_place, holds_creation, holds_object, ends_free, ends_empty}
+use Rattle.deadpool.proofs.DeskImage.{NoTicket, goes, creates, prepares, Shifts, IsCounted-set, put_off-unqueued, put_off-image, holds_place, holds_creation, holds_object, ends_free, ends_empty}
 use Rattle.deadpool.proofs.Fixed.{Fixed, image_of, get_at}
 
 module _ {V E C R S F A : Type 0} (may : May V E C R S F A) (fixed : Fixed F A) (n : ℕ)
@@ -27,26 +27,14 @@ module _ {V E C R S F A : Type 0} (may : May V E C R S F A) (fixed : Fixed F A) 
       Gives may (cancel n (record { timeouts = own; standing = standing_of old }) pool) (reply.Cancelled, image_of fixed d gone out)
       × IsCounted d gone out
 
-  -- a get that held nothing
-  removes_empty : (old : Stage V C R S) → slice_get gets n ≡ Some (get_at own old) → NoTicket (get_at own old) → Shifts core core (get_at own old) None out out → Removes core
-  removes_empty old h none shifts =
-      let counted : IsCounted core gone out =
-      IsCounted-set core core gets n (get_at own old) None out out h k (owned-set has_ticket (queue_of core) gets k.tickets n (get_at own old) None h none (λ u. refl)) shifts in
-      (ends_empty fixed core gets out n None k nobody (get_at own old) h none (λ u. refl) counted, counted)
-
   -- a get that held a place, and is counted no more
   removes_counted : (old : Stage V C R S) (going creations outside : ℕ) → slice_get gets n ≡ Some (get_at own old) → NoTicket (get_at own old)
       → Shifts core (record core { going = going; creations = creations; outside = outside }) (get_at own old) None out out
       → Removes (settled (record core { going = going; creations = creations; outside = outside }))
   removes_counted old going creations outside h none shifts =
       let left : DeskState (Slot V) = record core { going = going; creations = creations; outside = outside } in
-      let counted : IsCounted left gone out =
-      IsCounted-set core left gets n (get_at own old) None out out h k
-      (owned-set has_ticket (queue_of core) gets k.tickets n (get_at own old) None h none (λ u. refl)) shifts in (
-        ends_free fixed core gets out n None left
-            (put_off-image fixed core gets out k.tickets n (get_at own old) None h none (λ u. refl)) counted,
-        counted_settled left gone out counted,
-      )
+      ends_free fixed core gets out n None left (put_off-image fixed core gets out k.tickets n (get_at own old) None h none (λ u. refl))
+      (IsCounted-set core left gets n (get_at own old) None out out h k (owned-set has_ticket (queue_of core) gets k.tickets n (get_at own old) None h none (λ u. refl)) shifts)
 
   module _ (ticket : ℕ) (deadline : Option Moment) (h : slice_get gets n ≡ Some (get_at own (stage.Queued ticket deadline))) where
     -- the ticket is in the queue, and is its own
@@ -58,14 +46,9 @@ module _ {V E C R S F A : Type 0} (may : May V E C R S F A) (fixed : Fixed F A) 
     removes_queued =
         let left : DeskState (Slot V) = unqueued ticket core in
         let old : Option (Getting V C R S) = get_at own (stage.Queued ticket deadline) in
-        let counted : IsCounted left gone out =
-        IsCounted-set core left gets n old None out out h k
-        (owned-leaves has_ticket (queue_of core) gets k.tickets n old None h ticket is_ours.1 (λ u. refl) (λ u. refl))
-        record { going = refl; creations = refl; outside = refl; room = omega arith } in (
-          ends_free fixed core gets out n None left
-              (put_off-unqueued fixed core gets out k.tickets n old None h ticket is_ours.1 (λ u. refl) (λ u. refl)) counted,
-          counted_settled left gone out counted,
-        )
+        ends_free fixed core gets out n None left (put_off-unqueued fixed core gets out k.tickets n old None h ticket is_ours.1 (λ u. refl) (λ u. refl))
+        (IsCounted-set core left gets n old None out out h k (owned-leaves has_ticket (queue_of core) gets k.tickets n old None h ticket is_ours.1 (λ u. refl) (λ u. refl))
+        record { going = refl; creations = refl; outside = refl; room = omega arith })
 
     -- so it is at the desk
     cancels_queued : (reply : StepReply) → DeskCancels core (held.Ticket ticket) reply core' → Goal (stage.Queued ticket deadline) core'
@@ -106,8 +89,9 @@ module _ {V E C R S F A : Type 0} (may : May V E C R S F A) (fixed : Fixed F A) 
   cancels_empty : (old : Stage V C R S) → slice_get gets n ≡ Some (get_at own old) → NoTicket (get_at own old) → Shifts core core (get_at own old) None out out
       → ◌≡◌ {A = Option (Slot V)} (prepared_at (standing_of old)) None → core' ≡ core → Goal old core'
   cancels_empty old h none shifts holds e =
-      let all = removes_empty old h none shifts in
-      rw (e, holds) (ap (λ (q : Pool V C R S F A). (reply.Cancelled, q)) all.0, all.1)
+      let counted : IsCounted core gone out =
+      IsCounted-set core core gets n (get_at own old) None out out h k (owned-set has_ticket (queue_of core) gets k.tickets n (get_at own old) None h none (λ u. refl)) shifts in
+      rw (e, holds) (ap (λ (q : Pool V C R S F A). (reply.Cancelled, q)) (ends_empty fixed core gets out n None k nobody (get_at own old) h none (λ u. refl) counted), counted)
 
   -- the step of what the get holds
   as_held : (what given : Held) (reply : StepReply) → DeskCancels core given reply core' → given ≡ what → DeskCancels core what reply core'

@@ -191,8 +191,9 @@ module _ {V C R S F A : Type 0} (fixed : Fixed F A)
   after d = image_of fixed d (set gets n new) out
 
   -- what a get held is free
-  pub ends_free : (d : DeskState (Slot V)) → put_off n (party_of new) pool ≡ after d → IsCounted d (set gets n new) out → settle (put_off n (party_of new) pool) ≡ after (settled d)
-  ends_free d e k = ap settle e ∙ sym (settles fixed d (set gets n new) out k)
+  pub ends_free : (d : DeskState (Slot V)) → put_off n (party_of new) pool ≡ after d → IsCounted d (set gets n new) out
+      → (settle (put_off n (party_of new) pool) ≡ after (settled d)) × IsCounted (settled d) (set gets n new) out
+  ends_free d e k = (ap settle e ∙ sym (settles fixed d (set gets n new) out k), counted_settled d (set gets n new) out k)
 
   -- it held no place, or none can be granted
   pub ends_quietly : (d : DeskState (Slot V)) → put_off n (party_of new) pool ≡ after d → NobodyWaits (after d) → settle (put_off n (party_of new) pool) ≡ after d
@@ -232,16 +233,12 @@ module _ {V C R S : Type 0} where
   abbrev pub newcomer : Timeouts → Getting V C R S
   newcomer t = record { timeouts = t; stage = stage.Unpolled }
 
-  -- the gets, with one more
-  abbrev with_newcomer : Timeouts → List (Option (Getting V C R S)) → List (Option (Getting V C R S))
-  with_newcomer t gets = gets ++ Some (newcomer t) ∷ []
-
   -- a get that is not yet polled is in no count
-  start_counted : (core : DeskState (Slot V)) (gets : List (Option (Getting V C R S))) (out : List (Slot V)) → IsCounted core gets out → (t : Timeouts) → IsCounted core (with_newcomer t gets) out
+  start_counted : (core : DeskState (Slot V)) (gets : List (Option (Getting V C R S))) (out : List (Slot V)) → IsCounted core gets out → (t : Timeouts) → IsCounted core (gets ++ Some (newcomer t) ∷ []) out
   start_counted core gets out k t =
       let ps = map party_of gets in
       let new : Option (Party V C R S) = Some record { timeouts = t; standing = unpolled } in
-      let e : map party_of (with_newcomer t gets) ≡ ps ++ new ∷ [] = map-append party_of gets (Some (newcomer t) ∷ []) in
+      let e : map party_of (gets ++ Some (newcomer t) ∷ []) ≡ ps ++ new ∷ [] = map-append party_of gets (Some (newcomer t) ∷ []) in
       let longer = length-append gets (Some (newcomer t) ∷ []) in
       record {
         tickets = owned-push has_ticket (queue_of core) gets k.tickets (Some (newcomer t)) (λ u. refl);

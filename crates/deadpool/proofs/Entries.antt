@@ -9,7 +9,7 @@ use Rattle.deadpool_managed.specs.declared.desk.AskReply.TheVariants as asked
 use Rattle.deadpool_managed.specs.declared.desk.AgainReply.TheVariants as again
 use Rattle.deadpool.specs.declared.replay.moves.Reply.TheVariants as reply
 use Rattle.deadpool.proofs.NumberLists.{without-twice}
-use Rattle.deadpool.proofs.DeskImage.{Owns, NoTicket, OneTicket, queueing, put_off, IsCounted-set, put_off-unqueued, put-queueing, unqueued-none, places-image, put-image, Gives-same, holds_place, ends_quietly, ends_empty, nobody_waits-closed, nobody_waits-unqueued, goes, creates, prepares, lasts}
+use Rattle.deadpool.proofs.DeskImage.{Owns, NoTicket, queueing, put_off, IsCounted-set, put_off-unqueued, put-queueing, unqueued-none, places-image, put-image, Gives-same, holds_place, ends_quietly, ends_empty, nobody_waits-closed, nobody_waits-unqueued, goes, creates, prepares, lasts}
 use Rattle.deadpool.proofs.Serving.{HasLeft, serves}
 use Rattle.deadpool.proofs.Fixed.{Fixed, image_of, get_at, party_at}
 
@@ -88,14 +88,8 @@ module _ {V E C R S F A : Type 0} (may : May V E C R S F A) (fixed : Fixed F A) 
             → Goal stage.Unpolled (queueing t core) (stage.Queued t (deadline_after now own.wait)) turn.Pending
         entry_waits t is_open full waits fresh =
             let new : Stage V C R S = stage.Queued t (deadline_after now own.wait) in (
-              Gives-same may _ _ _ (cond-false (is_positive own.wait && is_none fixed.runtime) _ _ runs ∙ cond-false (not core.is_open) _ _ (ap not is_open) ∙ cond-false (nat_lt (pool_places pool) core.limit) _ _ (full_as full) ∙ cond-false (is_reached (deadline_after now own.wait) now) _ _ waits) (
-                true,
-                (
-                  memory true,
-                  ap (λ (q : Pool V C R S F A). (reply.Pending, q))
-                      (put-queueing fixed core gets out k.tickets n (get_at own stage.Unpolled) (get_at own new) h t fresh (λ u. refl) (λ u. refl)),
-                ),
-              ),
+              Gives-same may _ _ _ (cond-false _ _ _ runs ∙ cond-false _ _ _ (ap not is_open) ∙ cond-false _ _ _ (full_as full) ∙ cond-false _ _ _ waits)
+                  (true, (memory true, ap (λ (q : Pool V C R S F A). (reply.Pending, q)) (put-queueing fixed core gets out k.tickets n (get_at own stage.Unpolled) (get_at own new) h t fresh (λ u. refl) (λ u. refl)))),
               IsCounted-set core (queueing t core) gets n (get_at own stage.Unpolled) (get_at own new) out out h k
                   (owned-joins has_ticket (queue_of core) gets k.tickets n (get_at own stage.Unpolled) (get_at own new) h t fresh (λ u. refl) (λ u. refl))
                   record { going = refl; creations = refl; outside = refl; room = omega arith },
@@ -105,7 +99,7 @@ module _ {V E C R S F A : Type 0} (may : May V E C R S F A) (fixed : Fixed F A) 
         entry_finds_none : core.is_open ≡ true → core.limit ≤ places core → is_reached (deadline_after now own.wait) now ≡ false
             → Goal stage.Unpolled core stage.Finished (turn.Done (Err OutOfMemory))
         entry_finds_none is_open full waits = (
-          Gives-same may _ _ _ (cond-false (is_positive own.wait && is_none fixed.runtime) _ _ runs ∙ cond-false (not core.is_open) _ _ (ap not is_open) ∙ cond-false (nat_lt (pool_places pool) core.limit) _ _ (full_as full) ∙ cond-false (is_reached (deadline_after now own.wait) now) _ _ waits) (false, (memory false, entry_refused OutOfMemory)),
+          Gives-same may _ _ _ (cond-false _ _ _ runs ∙ cond-false _ _ _ (ap not is_open) ∙ cond-false _ _ _ (full_as full) ∙ cond-false _ _ _ waits) (false, (memory false, entry_refused OutOfMemory)),
           entry_counted,
         )
 
@@ -115,12 +109,12 @@ module _ {V E C R S F A : Type 0} (may : May V E C R S F A) (fixed : Fixed F A) 
             let all = serves fixed n core core gets out own stage.Unpolled unpolled (map (owner has_ticket gets) core.granted) (map (owner has_ticket gets) core.waiting) h k
             (place_left stage.Unpolled unpolled core.going h (λ u. refl) (omega arith) refl refl refl)
             core' None served s t e.2 a in
-            (Gives-same may _ _ _ (cond-false (is_positive own.wait && is_none fixed.runtime) _ _ runs ∙ cond-false (not core.is_open) _ _ (ap not e.0) ∙ cond-true (nat_lt (pool_places pool) core.limit) _ _ (free_as e.1)) all.0, all.1)
+            (Gives-same may _ _ _ (cond-false _ _ _ runs ∙ cond-false _ _ _ (ap not e.0) ∙ cond-true _ _ _ (free_as e.1)) all.0, all.1)
         from_entered wait entered.Closed s t w e a =
-            rw (a.0, a.1, e.1) (Gives-same may _ _ _ (cond-false (is_positive own.wait && is_none fixed.runtime) _ _ runs ∙ cond-true (not core.is_open) _ _ (ap not e.0)) (entry_refused Closed), entry_counted)
+            rw (a.0, a.1, e.1) (Gives-same may _ _ _ (cond-false _ _ _ runs ∙ cond-true _ _ _ (ap not e.0)) (entry_refused Closed), entry_counted)
         from_entered wait entered.Full s t w e a =
             rw (a.0, a.1, e.3)
-            (Gives-same may _ _ _ (cond-false (is_positive own.wait && is_none fixed.runtime) _ _ runs ∙ cond-false (not core.is_open) _ _ (ap not e.0) ∙ cond-false (nat_lt (pool_places pool) core.limit) _ _ (full_as e.1) ∙ cond-true (is_reached (deadline_after now own.wait) now) _ _ (not_as wait _ w e.2)) (entry_refused (Timeout phase.Wait)), entry_counted)
+            (Gives-same may _ _ _ (cond-false _ _ _ runs ∙ cond-false _ _ _ (ap not e.0) ∙ cond-false _ _ _ (full_as e.1) ∙ cond-true _ _ _ (not_as wait _ w e.2)) (entry_refused (Timeout phase.Wait)), entry_counted)
         from_entered wait (entered.Waiting ticket) s t w e a =
             rw (a.0, a.1, e.4) (entry_waits ticket e.0 e.1 (not_as_false wait _ w e.2) e.3)
         from_entered wait entered.OutOfMemory s t w e a =
@@ -130,16 +124,13 @@ module _ {V E C R S F A : Type 0} (may : May V E C R S F A) (fixed : Fixed F A) 
     pub from_unrun : (s : Stage V C R S) (t : Turn V E) → core' ≡ core → (is_positive own.wait && is_none fixed.runtime) ≡ true → s ≡ stage.Finished → t ≡ turn.Done (Err NoRuntimeSpecified)
         → Goal stage.Unpolled core' s t
     from_unrun s t e lacks is_s is_t =
-        rw (is_s, is_t, e) (Gives-same may _ _ _ (cond-true (is_positive own.wait && is_none fixed.runtime) _ _ lacks) (entry_refused NoRuntimeSpecified), entry_counted)
+        rw (is_s, is_t, e) (Gives-same may _ _ _ (cond-true _ _ _ lacks) (entry_refused NoRuntimeSpecified), entry_counted)
 
   module _ (allowance : Option ℕ) (h : slice_get gets n ≡ Some (get_at own (stage.Going allowance))) where
-    abbrev without_place : DeskState (Slot V)
-    without_place = record core { going = core.going - 1 }
-
     -- a get that holds a place and nothing else
     pub from_going : (reply : AgainReply (Slot V)) (s : Stage V C R S) (t : Turn V E) → GoesOn core allowance reply core' → AfterGoingOn reply s t → Goal (stage.Going allowance) core' s t
     from_going (again.Served served) s t e a =
-        serves fixed n core without_place gets out own (stage.Going allowance) (going allowance) (map (owner has_ticket gets) core.granted) (map (owner has_ticket gets) core.waiting) h k
+        serves fixed n core (record core { going = core.going - 1 }) gets out own (stage.Going allowance) (going allowance) (map (owner has_ticket gets) core.granted) (map (owner has_ticket gets) core.waiting) h k
         (place_left (stage.Going allowance) (going allowance) (core.going - 1) h (λ u. refl) (omega (arith, e.0)) refl refl refl) core' allowance served s t e.1 a
     from_going again.Unknown s t e a =
         absurd (let one : 1 ≤ core.going = holds_place core gets out k n (get_at own (stage.Going allowance)) h in omega (arith, one, e.0))
@@ -151,26 +142,22 @@ module _ {V E C R S F A : Type 0} (may : May V E C R S F A) (fixed : Fixed F A) 
     abbrev without_ticket : DeskState (Slot V)
     without_ticket = unqueued ticket core
 
-    -- it has this ticket alone
-    one_ticket : OneTicket ticket waiter
-    one_ticket u = refl
-
     -- the ticket is in the queue, and is its own
     is_ours : (is_listed ticket core ≡ true) × (owner has_ticket gets ticket ≡ n)
     is_ours = k.tickets.listed n ticket waiter h (eq-eqb ticket ticket refl)
 
     -- its party was granted a place where its ticket was
     tells_granted : has_number n (map (owner has_ticket gets) core.granted) ≡ has_number ticket core.granted
-    tells_granted = granted-renamed has_ticket (queue_of core) gets k.tickets n waiter None h ticket is_ours.1 one_ticket
+    tells_granted = granted-renamed has_ticket (queue_of core) gets k.tickets n waiter None h ticket is_ours.1 (λ u. refl)
 
     -- the pool where it has left the queue
     left_named : (new : Option (Getting V C R S)) → NoTicket new
         → put_off n (party_of new) pool ≡ image_of fixed without_ticket (set gets n new) out
-    left_named new none = put_off-unqueued fixed core gets out k.tickets n waiter new h ticket is_ours.1 one_ticket none
+    left_named new none = put_off-unqueued fixed core gets out k.tickets n waiter new h ticket is_ours.1 (λ u. refl) none
 
     -- the owners of the other tickets
     left_owned : (new : Option (Getting V C R S)) → NoTicket new → Owns without_ticket (set gets n new)
-    left_owned new none = owned-leaves has_ticket (queue_of core) gets k.tickets n waiter new h ticket is_ours.1 one_ticket none
+    left_owned new none = owned-leaves has_ticket (queue_of core) gets k.tickets n waiter new h ticket is_ours.1 (λ u. refl) none
 
     -- the counts where it ends without a place
     left_counted : Counted without_ticket stage.Finished
@@ -213,23 +200,23 @@ module _ {V E C R S F A : Type 0} (may : May V E C R S F A) (fixed : Fixed F A) 
     from_queued expired (asked.Served served) s t x e a =
         let all = serves fixed n core without_ticket gets out own (stage.Queued ticket deadline) (queued deadline)
         (pool_unqueued n pool).granted (pool_unqueued n pool).waiting h k queued_left core' None served s t e.2 a in
-        (cond-false (not core.is_open) _ _ (ap not e.0) ∙ cond-true (has_number n (map (owner has_ticket gets) core.granted)) _ _ (tells_granted ∙ e.1) ∙ all.0, all.1)
+        (cond-false _ _ _ (ap not e.0) ∙ cond-true _ _ _ (tells_granted ∙ e.1) ∙ all.0, all.1)
     from_queued expired asked.Closed s t x e a =
         rw (a.0, a.1, e.2) (
-          cond-true (not core.is_open) _ _ (ap not e.0)
+          cond-true _ _ _ (ap not e.0)
               ∙ left_refused Closed (nobody_waits-closed fixed core gets out n (get_at own stage.Finished) without_ticket e.0),
           left_counted,
         )
     from_queued expired asked.Expired s t x e a =
         rw (a.0, a.1, e.4) (
-          cond-false (not core.is_open) _ _ (ap not e.0) ∙ cond-false (has_number n (map (owner has_ticket gets) core.granted)) _ _ (tells_granted ∙ e.1) ∙ cond-true (is_reached deadline now) _ _ (sym x ∙ e.3)
+          cond-false _ _ _ (ap not e.0) ∙ cond-false _ _ _ (tells_granted ∙ e.1) ∙ cond-true _ _ _ (sym x ∙ e.3)
               ∙ left_refused (Timeout phase.Wait)
               (nobody_waits-unqueued fixed core gets out n (get_at own stage.Finished) k nobody waiter h ticket e.1 e.2 left_counted),
           left_counted,
         )
     from_queued expired asked.Waiting s t x e a =
         rw (a.0, a.1, e.4, set-same gets n waiter h) (
-          cond-false (not core.is_open) _ _ (ap not e.0) ∙ cond-false (has_number n (map (owner has_ticket gets) core.granted)) _ _ (tells_granted ∙ e.1) ∙ cond-false (is_reached deadline now) _ _ (sym x ∙ e.3)
+          cond-false _ _ _ (ap not e.0) ∙ cond-false _ _ _ (tells_granted ∙ e.1) ∙ cond-false _ _ _ (sym x ∙ e.3)
               ∙ ap (λ ps. (reply.Pending, record pool { parties = ps }))
               (set-same (map party_of gets) n (party_of waiter) (slice_get-map party_of gets n ∙ ap (option_map party_of) h)),
           k,

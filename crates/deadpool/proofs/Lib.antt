@@ -6,15 +6,15 @@ pub mod Computations
 pub mod DeskImage
 pub mod Entries
 pub mod Fixed
-pub mod Follows
 pub mod NumberCounts
 pub mod NumberLists
+pub mod NumbersAndOrder
 pub mod OneList
 pub mod OutObjects
 pub mod OwnerSteps
 pub mod PartyMoves
-pub mod Passes
 pub mod PreparedNumbers
+pub mod QueuesAndPlaces
 pub mod Runs
 pub mod RunsWell
 pub mod Serving

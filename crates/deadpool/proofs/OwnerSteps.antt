@@ -1,6 +1,6 @@
 -- The steps of a pool's owner: another limit, a close and handles, and a take, at the desk and in the pool.
-use Rattle.deadpool.proofs.Basics.{◌≡◌, ℕ, ◌+◌, ◌-◌, List, [], Bool, true, false, ◌==◌, length, drop, min, max, refl, ap, ◌∙◌, arith, Option, if◌then◌else◌, append-nil, drop_all, most_handles, ◌≢◌, ◌<◌, cond, not, nat_lt, Some, Ok, Err, sym, subst, inl, inr, nat_tests, cases_Bool, Gives, Return, ask, ◌>>=◌}
-use Rattle.deadpool.proofs.Words.{DeskState, desk_size as size, settled, desk_given_up as given_up_core, Getting, Pool, places, size as pool_size, settle, given_up, resized, closed, cloned, handle_dropped, IsCounted, Slot, given, Asking, May, Reserve, Takes, Resizes, Closes, Clones, DropsHandle, Upgrades, desk_resized as resized_core, find_slot, without_slot, moved, by_handle, reply_to_take, reply_to_handle, TakeReply, HandleReply, Reply}
+use Rattle.deadpool.proofs.Basics.{eq-eqb, ne_eqb, ◌≡◌, ℕ, ◌+◌, ◌-◌, List, [], Bool, true, false, ◌==◌, length, drop, min, max, refl, ap, ◌∙◌, arith, Option, if◌then◌else◌, append-nil, drop_all, most_handles, ◌≢◌, cond, not, nat_lt, Some, Ok, Err, sym, subst, inl, inr, nat_tests, cases_Bool, Gives, Return, ask, ◌>>=◌}
+use Rattle.deadpool.proofs.Words.{may, DeskState, desk_size as size, settled, desk_given_up as given_up_core, Getting, Pool, places, size as pool_size, settle, given_up, resized, closed, cloned, handle_dropped, IsCounted, Slot, given, Asking, May, Reserve, Takes, Resizes, Closes, Clones, DropsHandle, Upgrades, desk_resized as resized_core, find_slot, without_slot, moved, by_handle, reply_to_take, reply_to_handle, TakeReply, HandleReply, Reply}
 use Rattle.deadpool_managed.specs.declared.desk.TakeReply.TheVariants as taking
 use Rattle.deadpool_parts.specs.declared.replies.HandleReply.TheVariants as handle
 use Rattle.deadpool.specs.declared.replay.moves.Move.TheVariants as move
@@ -51,13 +51,6 @@ module _ {V C R S F A : Type 0} (fixed : Fixed F A)
   drops_handle left l e =
       let left' : ℕ = if core.handles == most_handles then most_handles else core.handles - 1 in
       rw (e, l) (refl, same_counted core (record core { handles = left'; idle = if left' == 0 then [] else core.idle }) gets out k refl refl refl refl refl)
-
--- a number above zero is not zero, and zero is
-above_zero : (n : ℕ) → 0 < n → (n == 0) ≡ false
-above_zero n h = grind (arith, nat_tests)
-
-zero_is : (n : ℕ) → n ≡ 0 → (n == 0) ≡ true
-zero_is n h = grind (arith, nat_tests)
 
 module _ {V E C R S F A : Type 0} (may : May V E C R S F A) (memory : (found : Bool) → may Reserve found) (fixed : Fixed F A)
     (core core' : DeskState (Slot V)) (gets : List (Option (Getting V C R S))) (out : List (Slot V)) (counted : IsCounted core gets out) where
@@ -133,7 +126,7 @@ module _ {V E C R S F A : Type 0} (may : May V E C R S F A) (memory : (found : B
   unchanged : (step : Pool V C R S F A → Pool V C R S F A) → core.handles ≡ 0 → core' ≡ core
       → Gives may (Return (by_handle {E = E} (λ q. (reply.Done, step q)) before)) (reply.NoHandle, after) × IsCounted core' gets out
   unchanged step none same = (
-    ap (λ b. cond b (reply.NoHandle, before) (reply.Done, step before)) (zero_is core.handles none) ∙ ap (λ (d : DeskState (Slot V)). (reply.NoHandle, image_of fixed d gets out)) (sym same),
+    ap (λ b. cond b (reply.NoHandle, before) (reply.Done, step before)) (eq-eqb core.handles 0 none) ∙ ap (λ (d : DeskState (Slot V)). (reply.NoHandle, image_of fixed d gets out)) (sym same),
     subst (λ (d : DeskState (Slot V)). IsCounted d gets out) (sym same) counted,
   )
 
@@ -141,18 +134,18 @@ module _ {V E C R S F A : Type 0} (may : May V E C R S F A) (memory : (found : B
   closed_all some c = by_owner closed some (closes fixed core core' gets out counted c)
 
   pub cloned_handle : (r : HandleReply) (answer : Reply V E) → Clones core r core' → answer ≡ reply_to_handle r → Gives may (moved move.Clone before) (answer, after) × IsCounted core' gets out
-  cloned_handle handle.Done answer c is = rw is (by_owner cloned (above_zero core.handles c.0) (clones fixed core core' gets out counted c.1))
+  cloned_handle handle.Done answer c is = rw is (by_owner cloned (ne_eqb core.handles 0 (omega (arith, c.0))) (clones fixed core core' gets out counted c.1))
   cloned_handle handle.NoHandle answer c is = rw is (unchanged cloned c.0 c.1)
 
   pub dropped_handle : (r : HandleReply) (answer : Reply V E) → DropsHandle core r core' → answer ≡ reply_to_handle r → Gives may (moved move.DropHandle before) (answer, after) × IsCounted core' gets out
-  dropped_handle handle.Done answer c is = rw is (by_owner handle_dropped (above_zero core.handles c.0) (drops_handle fixed core core' gets out counted _ refl c.1))
+  dropped_handle handle.Done answer c is = rw is (by_owner handle_dropped (ne_eqb core.handles 0 (omega (arith, c.0))) (drops_handle fixed core core' gets out counted _ refl c.1))
   dropped_handle handle.NoHandle answer c is = rw is (unchanged handle_dropped c.0 c.1)
 
   pub upgraded : (b : Bool) → Upgrades core b core' → Gives may (moved move.Upgrade before) (reply.Upgraded b, after) × IsCounted core' gets out
   upgraded true u =
       let all = clones fixed core core' gets out counted u.1 in
-      (ap (λ c. cond c (reply.Upgraded false, before) (reply.Upgraded true, cloned before)) (above_zero core.handles u.0) ∙ ap (λ (q : Pool V C R S F A). (reply.Upgraded true, q)) (sym all.0), all.1)
+      (ap (λ c. cond c (reply.Upgraded false, before) (reply.Upgraded true, cloned before)) (ne_eqb core.handles 0 (omega (arith, u.0))) ∙ ap (λ (q : Pool V C R S F A). (reply.Upgraded true, q)) (sym all.0), all.1)
   upgraded false u = (
-    ap (λ c. cond c (reply.Upgraded false, before) (reply.Upgraded true, cloned before)) (zero_is core.handles u.0) ∙ ap (λ (d : DeskState (Slot V)). (reply.Upgraded false, image_of fixed d gets out)) (sym u.1),
+    ap (λ c. cond c (reply.Upgraded false, before) (reply.Upgraded true, cloned before)) (eq-eqb core.handles 0 u.0) ∙ ap (λ (d : DeskState (Slot V)). (reply.Upgraded false, image_of fixed d gets out)) (sym u.1),
     subst (λ (d : DeskState (Slot V)). IsCounted d gets out) (sym u.1) counted,
   )

@@ -11,8 +11,8 @@ use Rattle.deadpool.proofs.NumberLists.{has_number-push, has_number-last, withou
 use Rattle.deadpool.proofs.NumberCounts.{held, held-served, has_number-held}
 use Rattle.deadpool.proofs.PreparedNumbers.{IsNumber, prepare_number}
 use Rattle.deadpool.proofs.Computations.{Always-then}
-use Rattle.deadpool.proofs.Follows.{MarksOthers, IsOrderly, Follows, Follows-self, unqueued_gone, unqueued_orderly, unqueued_marks, not_queued, set_marks, counts, standing_at, holds, makes, left_follows, same_places_follow}
-use Rattle.deadpool.proofs.Passes.{Passes, prepares, passes_self, settle_passes, party_passes, order_left, order_pushed}
+use Rattle.deadpool.proofs.QueuesAndPlaces.{MarksOthers, IsOrderly, Follows, Follows-self, unqueued_gone, unqueued_orderly, unqueued_marks, not_queued, set_marks, counts, standing_at, holds, makes, left_follows, same_places_follow}
+use Rattle.deadpool.proofs.NumbersAndOrder.{Passes, prepares, passes_self, settle_passes, party_passes, order_left, order_pushed}
 
 -- where no object is served, none is idle
 next_idle-none : {V : Type 0} (mode : QueueMode) (idle : List (Slot V)) → next_idle mode idle ≡ None → length idle ≡ 0

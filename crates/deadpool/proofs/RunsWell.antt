@@ -9,23 +9,17 @@ use Rattle.deadpool.proofs.Well.{WellAfter, well_after, moved_well}
 
 module _ {V C R S F A : Type 0} where
   -- what is gone stays gone, and more numbers were given
-  record Leaves (p q : Pool V C R S F A) : Type 0 where
-    next : p.next ≤ q.next
-    none : NoneReturns p q
+  abbrev Leaves : Pool V C R S F A → Pool V C R S F A → Type 0
+  Leaves p q = (p.next ≤ q.next) × NoneReturns p q
 
   leaves_on : (p q r : Pool V C R S F A) → Leaves p q → Leaves q r → Leaves p r
-  leaves_on p q r h k =
-      record { next = omega (arith, h.next, k.next); none = λ n given gone. k.none n (omega (arith, given, h.next)) (h.none n given gone) }
+  leaves_on p q r h k = (omega (arith, h.0, k.0), λ n given gone. k.1 n (omega (arith, given, h.0)) (h.1 n given gone))
 
   succeeds_leaves : (p q : Pool V C R S F A) → Succeeds p q → Leaves p q
-  succeeds_leaves p q s = record {
-    next = s.counted.next;
-    none = λ n given gone.
-        elim (cases_Bool (has_number n (numbers q))) [
-          | inl back ↦ let new = s.counted.new n back gone in absurd (omega (arith, given, new))
-          | inr none ↦ none
-        ];
-  }
+  succeeds_leaves p q s = (s.counted.next, λ n given gone. elim (cases_Bool (has_number n (numbers q))) [
+    | inl back ↦ let new = s.counted.new n back gone in absurd (omega (arith, given, new))
+    | inr none ↦ none
+  ])
 
 module _ {V E C R S F A : Type 0} (may : May V E C R S F A) where
   -- every state is well, and each succeeds the one before it and is within its reach
@@ -67,7 +61,7 @@ module _ {V E C R S F A : Type 0} (may : May V E C R S F A) where
   pub none_returns : EachLater may NoneReturns
   none_returns moves p after passed answers w ran =
       let steps = each_step Leaves (λ q r s. succeeds_leaves q r s.0) moves p after passed answers w ran in
-      Later-more Leaves NoneReturns (λ q r k. k.none) (all_states p passed) (Later-of Leaves leaves_on (all_states p passed) steps)
+      Later-more Leaves NoneReturns (λ q r k. k.1) (all_states p passed) (Later-of Leaves leaves_on (all_states p passed) steps)
 
   -- where a run begins within its limit, and sets none, the size stays within it
   pub stays_within : StaysWithin may

@@ -4,8 +4,8 @@ use Rattle.deadpool.proofs.Basics.{◌≡◌, ◌≢◌, ◌⊎◌, ℕ, ◌+◌
 use Rattle.deadpool.proofs.Words.{WithinReach, reach, QueueMode, Timeouts, Runtime, HookLists, Pool, Party, opened, moved, IsLawful, is_queued, numbers, IsNumbered, IsWell, CountsOn, Succeeds, sets_limit, named, may_leave, OthersStayQueued, OthersStand, Slot, Move, Reply}
 use Rattle.deadpool.proofs.NumberCounts.{times, times-none, times-some, times-once, once-times, held, has_number-held}
 use Rattle.deadpool.proofs.Computations.{Always-more}
-use Rattle.deadpool.proofs.Follows.{Follows-lawful, Follows-reach}
-use Rattle.deadpool.proofs.Passes.{Passes, count, times-numbers}
+use Rattle.deadpool.proofs.QueuesAndPlaces.{Follows-lawful, Follows-reach}
+use Rattle.deadpool.proofs.NumbersAndOrder.{Passes, count, times-numbers}
 use Rattle.deadpool.proofs.AllMoves.{Moved, moved_has}
 
 -- a test that counts holds

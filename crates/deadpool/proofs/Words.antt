@@ -1,12 +1,12 @@
 -- The words of a pool, its desk and its gets that the proofs cite, passed on from one place.
 pub use Rattle.deadpool.specs.Image.{party_of, standing_of, IsCounted, has_ticket, queue_of, is_under_way, image}
-pub use Rattle.deadpool.specs.Laws.{IsLawful, queue, is_queued, MarksQueued, waits_at}
+pub use Rattle.deadpool.specs.Laws.{IsLawful, queue, is_queued, waits_at, MarksQueued}
 pub use Rattle.deadpool.specs.Moves.{moved, by_party, resize, staying, give_up, retain_with, retain, by_handle, started, put_at, back_at, take_at, NobodyWaits, Polls, is_more, Makes, PoolRuns, WithinReach, stays}
 pub use Rattle.deadpool.specs.Party.{created, reviewed, checked, hand_out, advance_at, cancel, advance, enter, inquire, joined, go_on_creating, cancel_with}
-pub use Rattle.deadpool.specs.Pool.{Pool, Party, size, prepared_at, is_going, is_creating, prepared_by, settle, least_idle, unpolled, reach, status_of, grants, places, pending, Standing, queued, going, goes, creates, creating_count, creating, recycling, checking, finished, preparing, opened}
+pub use Rattle.deadpool.specs.Pool.{Pool, Party, size, prepared_at, is_going, is_creating, prepared_by, settle, least_idle, unpolled, reach, status_of, grants, places, pending, Standing, queued, going, preparing, goes, creates, creating, recycling, checking, finished, creating_count, opened}
 pub use Rattle.deadpool.specs.Rank.{rank_of, rank_at, rank}
-pub use Rattle.deadpool.specs.RunLaws.{LeavesEnough, IsOutIfGiven, IsIdleIfKept, HasFewIdle, prepared_in, sets_limit, named, may_leave, places_from, is_preparing, listed, IsListedOnce, numbers, EachReply, IsWell, Succeeds, NoneReturns, EachState, EachStep, EachLater, EachMove, EndsWell, StaysWithin, IsNumbered, CountsOn, OthersStayQueued, OthersStand, IsEmptyIfClosed, KeepsFloor, OthersStayInPool, KeepsQueue}
-pub use Rattle.deadpool.specs.Steps.{fail, rest, go_on, with_slot, slot_number, find_slot, without_slot, given_up, resized, with_put, closed, cloned, handle_dropped, removed, unqueued, to, serve_from, serve}
+pub use Rattle.deadpool.specs.RunLaws.{LeavesEnough, IsOutIfGiven, IsIdleIfKept, HasFewIdle, prepared_in, sets_limit, named, may_leave, numbers, places_from, is_preparing, listed, IsListedOnce, EachReply, IsWell, Succeeds, NoneReturns, EachState, EachStep, EachLater, EachMove, EndsWell, StaysWithin, IsNumbered, CountsOn, OthersStayQueued, OthersStand, IsEmptyIfClosed, KeepsFloor, OthersStayInPool, KeepsQueue}
+pub use Rattle.deadpool.specs.Steps.{fail, rest, go_on, with_slot, slot_number, find_slot, without_slot, given_up, resized, with_put, closed, cloned, handle_dropped, removed, unqueued, serve_from, to, serve}
 pub use Rattle.deadpool.specs.TrialFields.{given, reply_to, IsTaken, reply_to_back, reply_to_take, reply_to_handle, AdvancesGet}
 pub use Rattle.deadpool.specs.declared.replay.moves.Move.{Move}
 pub use Rattle.deadpool.specs.declared.replay.moves.Reply.{Reply}

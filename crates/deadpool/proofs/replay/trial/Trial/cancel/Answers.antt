@@ -31,19 +31,17 @@ returns-in-None-clause-made g c =
 pub invariant_of-self-in-Some : goal.invariant_of-self-in-Some
 invariant_of-self-in-Some g c =
     let f = c.self.inside in
-    let fixed = fixed_as f.environment.runtime f.environment.hooks f.timeouts f.first f.most_parties in
     let here = slice_get_read f.parties.items (vec_len f.parties) c.args.party c.index_mut.result.now (search rules) (omega (arith, c.len.ensures, c.if-party-len.false)) c.index_mut.ensures.value in
     let made = c.cancel.ensures.cancelled in
-    let all = cancelled g.M.Manager g.F.SyncHook g.A.AsyncHook f.environment.manager fixed f.core c.cancel.new.desk f.parties.items f.out.items
+    let all = cancelled g.M.Manager g.F.SyncHook g.A.AsyncHook f.environment.manager (fixed_as f.environment.runtime f.environment.hooks f.timeouts f.first f.most_parties) f.core c.cancel.new.desk f.parties.items f.out.items
     c.self.invariant.counted c.self.invariant.well c.args.party c.in-Some.state made.0 (here ∙ ap Some (sym c.take.ensures.value ∙ c.in-Some.is)) made.1.0 made.1.1 in
     rw c.take.ensures.after record { counted = all.1; well = all.2; parties = c.self.invariant.parties; seats = c.self.invariant.seats; hands = c.self.invariant.hands }
 
 pub returns-in-Some-clause-made : goal.returns-in-Some-clause-made
 returns-in-Some-clause-made g c =
     let f = c.self.inside in
-    let fixed = fixed_as f.environment.runtime f.environment.hooks f.timeouts f.first f.most_parties in
     let here = slice_get_read f.parties.items (vec_len f.parties) c.args.party c.index_mut.result.now (search rules) (omega (arith, c.len.ensures, c.if-party-len.false)) c.index_mut.ensures.value in
     let made = c.cancel.ensures.cancelled in
-    let all = cancelled g.M.Manager g.F.SyncHook g.A.AsyncHook f.environment.manager fixed f.core c.cancel.new.desk f.parties.items f.out.items
+    let all = cancelled g.M.Manager g.F.SyncHook g.A.AsyncHook f.environment.manager (fixed_as f.environment.runtime f.environment.hooks f.timeouts f.first f.most_parties) f.core c.cancel.new.desk f.parties.items f.out.items
     c.self.invariant.counted c.self.invariant.well c.args.party c.in-Some.state made.0 (here ∙ ap Some (sym c.take.ensures.value ∙ c.in-Some.is)) made.1.0 made.1.1 in
     rw (← c.self.view_is, c.take.ensures.after) all.0

@@ -20,8 +20,7 @@ invariant_of-self g c =
     let place : position (λ s. s.number == c.args.number) f.out.items ≡ Some c.in-Some.at = rw c.index_of.ensures at c.in-Some.is in
     let put = put_at_place c.args.number c.args.value f.out.items c.in-Some.at c.index_mut.result.now place c.index_mut.ensures.value in
     let found = found_at_place (λ s. s.number == c.args.number) f.out.items c.in-Some.at c.index_mut.result.now place c.index_mut.ensures.value in
-    let fixed = fixed_as f.environment.runtime f.environment.hooks f.timeouts f.first f.most_parties in
-    let pool = image_of fixed f.core.desk f.parties.items f.out.items in
+    let pool = image_of (fixed_as f.environment.runtime f.environment.hooks f.timeouts f.first f.most_parties) f.core.desk f.parties.items f.out.items in
     let led = leads_to_well g.M.Manager g.F.SyncHook g.A.AsyncHook f.environment.manager (move.Put c.args.number c.args.value) pool
     (record pool { out = with_put c.args.number c.args.value f.out.items }) reply.Done c.self.invariant.well (rw found refl) in
     record {

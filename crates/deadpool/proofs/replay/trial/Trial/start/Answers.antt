@@ -17,21 +17,18 @@ returns-then-party-self-clause-made g c =
     let f = c.self.inside in
     let some = some_handle c.has_handle.result f.core.desk.handles c.has_handle.ensures c.if-not-has_handle.false in
     let len : vec_len f.parties ≡ length f.parties.items = search rules in
-    let same = length-map f.parties.items party_of in
-    let full : nat_lt (length (map party_of f.parties.items)) f.most_parties ≡ false = le-ltb _ _ (omega (arith, c.len-party.ensures, len, same, c.if-party-self.true)) in
+    let full : nat_lt (length (map party_of f.parties.items)) f.most_parties ≡ false = le-ltb _ _ (omega (arith, c.len-party.ensures, len, length-map f.parties.items party_of, c.if-party-self.true)) in
     rw (← c.self.view_is) (rw (some, full) refl)
 
 pub returns-clause-made : goal.returns-clause-made
 returns-clause-made g c =
     let f = c.self.inside in
-    let fixed = fixed_as f.environment.runtime f.environment.hooks f.timeouts f.first f.most_parties in
     let some = some_handle c.has_handle.result f.core.desk.handles c.has_handle.ensures c.if-not-has_handle.false in
     let len : vec_len f.parties ≡ length f.parties.items = search rules in
-    let same = length-map f.parties.items party_of in
-    let count : c.len-party.result ≡ length (map party_of f.parties.items) = omega (arith, c.len-party.ensures, len, same) in
+    let count : c.len-party.result ≡ length (map party_of f.parties.items) = omega (arith, c.len-party.ensures, len, length-map f.parties.items party_of) in
     let few : nat_lt (length (map party_of f.parties.items)) f.most_parties ≡ true = lt-ltb _ _ (omega (arith, count, c.if-party-self.false)) in
     let items : c.append.new.entries.items ≡ f.parties.items ++ Some (newcomer c.unwrap_or-timeouts.result) ∷ [] = rw c.new.ensures at c.append.ensures.items in
-    let all = starts fixed f.core.desk f.parties.items f.out.items c.self.invariant.counted c.unwrap_or-timeouts.result in
+    let all = starts (fixed_as f.environment.runtime f.environment.hooks f.timeouts f.first f.most_parties) f.core.desk f.parties.items f.out.items c.self.invariant.counted c.unwrap_or-timeouts.result in
     rw (← c.self.view_is, items) (rw (some, few, count, all.0, c.unwrap_or-timeouts.ensures) refl)
 
 pub invariant_of-self : goal.invariant_of-self
@@ -40,8 +37,7 @@ invariant_of-self g c =
     let fixed = fixed_as f.environment.runtime f.environment.hooks f.timeouts f.first f.most_parties in
     let some = some_handle c.has_handle.result f.core.desk.handles c.has_handle.ensures c.if-not-has_handle.false in
     let len : vec_len f.parties ≡ length f.parties.items = search rules in
-    let same = length-map f.parties.items party_of in
-    let count : c.len-party.result ≡ length (map party_of f.parties.items) = omega (arith, c.len-party.ensures, len, same) in
+    let count : c.len-party.result ≡ length (map party_of f.parties.items) = omega (arith, c.len-party.ensures, len, length-map f.parties.items party_of) in
     let few : nat_lt (length (map party_of f.parties.items)) f.most_parties ≡ true = lt-ltb _ _ (omega (arith, count, c.if-party-self.false)) in
     let items : c.append.new.entries.items ≡ f.parties.items ++ Some (newcomer c.unwrap_or-timeouts.result) ∷ [] = rw c.new.ensures at c.append.ensures.items in
     let all = starts fixed f.core.desk f.parties.items f.out.items c.self.invariant.counted c.unwrap_or-timeouts.result in
