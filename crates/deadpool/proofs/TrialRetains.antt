@@ -71,8 +71,14 @@ module _ {V E C R S F A K : Type 0} (may : May V E C R S F A) (memory : (found :
         ap (λ n. let x : Retained V = record { retained = n; removed = given.removed } in x) (ap length stays ∙ sym count) in
         let as_after : record before { idle = left } ≡ after =
         ap (λ (xs : List (Slot V)). let p : Pool V C R S F A = record before { idle = xs } in p) stays ∙ ap (λ (d : DeskState (Slot V)). image_of fixed d gets out) (sym is) in
-        rw (busy s ss) (true, (memory true, Gives-bind may (give_up kept least (length core.idle) core.idle) (λ vs. Return (reply.Retained record { retained = length left; removed = vs }, record before { idle = left })) given.removed (reply.Retained given, after)
-            gone (ap (λ (x : Retained V). (reply.Retained x, record before { idle = left })) as_given ∙ ap (λ (p : Pool V C R S F A). (reply.Retained given, p)) as_after)))
+        rw (busy s ss) (
+          true,
+          (
+            memory true,
+            Gives-bind may (give_up kept least (length core.idle) core.idle) (λ vs. Return (reply.Retained record { retained = length left; removed = vs }, record before { idle = left })) given.removed (reply.Retained given, after)
+                gone (ap (λ (x : Retained V). (reply.Retained x, record before { idle = left })) as_given ∙ ap (λ (p : Pool V C R S F A). (reply.Retained given, p)) as_after),
+          ),
+        )
 
     pub retained_ok : (given : Retained V) → Retains asks core r (Ok given) core' r' → Gives may (retain kept before) (reply.Retained given, after) × IsCounted core' gets out
     retained_ok given ran = (
