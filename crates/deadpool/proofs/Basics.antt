@@ -19,7 +19,7 @@ pub use Rattle.std.proofs.Common.{◌≡◌, ℕ, ◌+◌, ◌-◌, ◌≤◌, L
 pub use Rattle.std.proofs.Math.Bool.{and-true, and-false, or-true, or-false}
 pub use Rattle.std.proofs.Math.ListN.{length-set as length-set_n}
 pub use Rattle.std.proofs.Math.Numerals.{one-add}
-pub use Rattle.std.proofs.lemmas.Bool.{cond-true, cond-false, cond_both, cases_Bool, leb-true, cases_lt, eqb-true, ne_eqb, or_parts, and_parts, le-leb, lt-leb, ltb-true, ltb-false}
+pub use Rattle.std.proofs.lemmas.Bool.{cond-true, cond-false, cond_both, cases_Bool, leb-true, cases_lt, not-true, not-false, eqb-true, ne_eqb, or_parts, and_parts, le-leb, lt-leb, ltb-true, ltb-false, leb-false}
 pub use Rattle.std.proofs.lemmas.Bool.Decides.{nat_tests, eqb_tells}
 pub use Rattle.std.proofs.lemmas.List.{take-map, drop-map, map-append, length-map, map-set, length-set, take_more, take_all, take-append-drop, drop_all, nil_from_length}
 pub use Rattle.std.proofs.lemmas.List.Elements.{filter-append}

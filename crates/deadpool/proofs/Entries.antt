@@ -1,5 +1,5 @@
 -- Advances of a get that was not polled, that is in the queue, or that holds a place and nothing else.
-use Rattle.deadpool.proofs.Basics.{◌+◌, cond-true, cond-false, ◌≡◌, ℕ, ◌-◌, ◌<◌, ◌≤◌, List, Bool, true, false, not, ◌&&◌, set, map, refl, sym, ap, ◌∙◌, subst, arith, Option, Some, None, Err, is_none, nat_lt, option_map, eq-eqb, lt-ltb, le-ltb, slice_get, slice_get-map, has_number, without_number, Gives, owner, set-same, owned-set, owned-joins, owned-leaves, granted-renamed}
+use Rattle.deadpool.proofs.Basics.{◌+◌, cond-true, cond-false, ◌≡◌, ℕ, ◌-◌, ◌<◌, ◌≤◌, List, Bool, true, false, not, ◌&&◌, set, map, refl, sym, ap, ◌∙◌, subst, arith, Option, Some, None, Err, is_none, nat_lt, option_map, eq-eqb, lt-ltb, le-ltb, slice_get, slice_get-map, has_number, without_number, Gives, owner, set-same, owned-set, owned-joins, owned-leaves, granted-renamed, not-true, not-false}
 use Rattle.deadpool.proofs.Words.{Standing, deadline_after, is_reached, is_positive, Moment, Timeouts, PoolError, Timeout, Closed, NoRuntimeSpecified, OutOfMemory, DeskState, desk_places as places, is_listed, desk_unqueued as unqueued, Enters, Asks, GoesOn, Getting, May, Reserve, AfterEntered, AfterAsked, AfterGoingOn, Pool, unpolled, queued, going, places as pool_places, unqueued as pool_unqueued, fail, advance_at, NobodyWaits, party_of, standing_of, has_ticket, queue_of, IsCounted, given, reply_to, Slot, Stage, Turn, EnterReply, AskReply, AgainReply, Reply}
 use Rattle.deadpool_parts.specs.declared.errors.TimeoutType.TheVariants as phase
 use Rattle.deadpool_managed.specs.declared.get.Stage.TheVariants as stage
@@ -12,16 +12,6 @@ use Rattle.deadpool.proofs.NumberLists.{without-twice}
 use Rattle.deadpool.proofs.DeskImage.{Owns, NoTicket, queueing, put_off, IsCounted-set, put_off-unqueued, put-queueing, unqueued-none, places-image, put-image, Gives-same, holds_place, ends_quietly, ends_empty, nobody_waits-closed, nobody_waits-unqueued, goes, creates, prepares, lasts}
 use Rattle.deadpool.proofs.Serving.{HasLeft, serves}
 use Rattle.deadpool.proofs.Fixed.{Fixed, image_of, get_at, party_at}
-
--- a test and its negation
-not_as : (b c : Bool) → b ≡ not c → b ≡ false → c ≡ true
-not_as b true e h = refl
-not_as b false e h = cc
-
--- the same, the other way
-not_as_false : (b c : Bool) → b ≡ not c → b ≡ true → c ≡ false
-not_as_false b true e h = cc
-not_as_false b false e h = refl
 
 module _ {V E C R S F A : Type 0} (may : May V E C R S F A) (fixed : Fixed F A) (n : ℕ) (now : Moment)
     (core core' : DeskState (Slot V)) (gets : List (Option (Getting V C R S))) (out : List (Slot V)) (own : Timeouts)
@@ -114,11 +104,11 @@ module _ {V E C R S F A : Type 0} (may : May V E C R S F A) (fixed : Fixed F A) 
             rw (a.0, a.1, e.1) (Gives-same may _ _ _ (cond-false _ _ _ runs ∙ cond-true _ _ _ (ap not e.0)) (entry_refused Closed), entry_counted)
         from_entered wait entered.Full s t w e a =
             rw (a.0, a.1, e.3)
-            (Gives-same may _ _ _ (cond-false _ _ _ runs ∙ cond-false _ _ _ (ap not e.0) ∙ cond-false _ _ _ (full_as e.1) ∙ cond-true _ _ _ (not_as wait _ w e.2)) (entry_refused (Timeout phase.Wait)), entry_counted)
+            (Gives-same may _ _ _ (cond-false _ _ _ runs ∙ cond-false _ _ _ (ap not e.0) ∙ cond-false _ _ _ (full_as e.1) ∙ cond-true _ _ _ (not-false _ (sym w ∙ e.2))) (entry_refused (Timeout phase.Wait)), entry_counted)
         from_entered wait (entered.Waiting ticket) s t w e a =
-            rw (a.0, a.1, e.4) (entry_waits ticket e.0 e.1 (not_as_false wait _ w e.2) e.3)
+            rw (a.0, a.1, e.4) (entry_waits ticket e.0 e.1 (not-true _ (sym w ∙ e.2)) e.3)
         from_entered wait entered.OutOfMemory s t w e a =
-            rw (a.0, a.1, e.3) (entry_finds_none e.0 e.1 (not_as_false wait _ w e.2))
+            rw (a.0, a.1, e.3) (entry_finds_none e.0 e.1 (not-true _ (sym w ∙ e.2)))
 
     -- a timeout without a runtime ends a get before its entry
     pub from_unrun : (s : Stage V C R S) (t : Turn V E) → core' ≡ core → (is_positive own.wait && is_none fixed.runtime) ≡ true → s ≡ stage.Finished → t ≡ turn.Done (Err NoRuntimeSpecified)

@@ -38,6 +38,4 @@ IsOnce-left (x ∷ xs) ys once = ((or_parts (has_number x xs) (has_number x ys) 
 
 -- a number leaves a list once
 pub without-twice : (t : ℕ) (xs : List ℕ) → without_number t (without_number t xs) ≡ without_number t xs
-without-twice t xs =
-    without_number-same t (without_number t xs)
-    (has_number-without t t xs ∙ ap (λ b. has_number t xs && not b) (eq-eqb t t refl) ∙ and-false (has_number t xs))
+without-twice t xs = without_number-same t (without_number t xs) (without_number-gone t xs)

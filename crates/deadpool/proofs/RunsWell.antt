@@ -16,13 +16,12 @@ module _ {V C R S F A : Type 0} where
   leaves_on p q r h k = (omega (arith, h.0, k.0), λ n given gone. k.1 n (omega (arith, given, h.0)) (h.1 n given gone))
 
   succeeds_leaves : (p q : Pool V C R S F A) → Succeeds p q → Leaves p q
-  succeeds_leaves p q s = (
-    s.counted.next,
-    λ n given gone. elim (cases_Bool (has_number n (numbers q))) [
-      | inl back ↦ let new = s.counted.new n back gone in absurd (omega (arith, given, new))
-      | inr none ↦ none
-    ],
-  )
+  succeeds_leaves p q s =
+      let none : NoneReturns p q = λ n given gone. elim (cases_Bool (has_number n (numbers q))) [
+        | inl back ↦ let new = s.counted.new n back gone in absurd (omega (arith, given, new))
+        | inr none ↦ none
+      ] in
+      (s.counted.next, none)
 
 module _ {V E C R S F A : Type 0} (may : May V E C R S F A) where
   -- every state is well, and each succeeds the one before it and is within its reach

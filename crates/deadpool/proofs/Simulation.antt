@@ -18,22 +18,16 @@ module _ {V E C R S F A : Type 0} (may : May V E C R S F A) (memory : (found : B
       → Gives may (advance_at (standing_of old) n record { timeouts = own; standing = standing_of old } now pool)
       (reply_to t, image_of fixed core' (set gets n (get_at own s)) (given t out))
       × IsCounted core' (set gets n (get_at own s)) (given t out)
-  get_advanced own stage.Unpolled s t no_step k nobody h e a =
-      from_unrun may fixed n now core core' gets out own k nobody h s t e a.0 a.1 a.2
-  get_advanced own stage.Unpolled s t (entering wait reply) k nobody h e a =
-      from_entered may fixed n now core core' gets out own k nobody h a.0 memory wait reply s t a.1 e a.2
+  get_advanced own stage.Unpolled s t no_step k nobody h e a = from_unrun may fixed n now core core' gets out own k nobody h s t e a.0 a.1 a.2
+  get_advanced own stage.Unpolled s t (entering wait reply) k nobody h e a = from_entered may fixed n now core core' gets out own k nobody h a.0 memory wait reply s t a.1 e a.2
   get_advanced own (stage.Queued ticket deadline) s t (asking named expired reply) k nobody h e a =
       from_queued may fixed n now core core' gets out own k nobody ticket deadline h expired reply s t a.1
       (subst (λ u. Asks core u expired reply core') a.0 e) a.2
   get_advanced own (stage.Going allowance) s t (going_on asked reply) k nobody h e a =
       from_going may fixed n now core core' gets out own k nobody allowance h reply s t
       (subst (λ o. GoesOn core o reply core') a.0 e) a.1
-  get_advanced own (stage.Creating begun until) s t made k nobody h e a =
-      from_creating may fixed n now core core' gets out own k begun until made s t h e a
-  get_advanced own (stage.Recycling preparation allowance) s t made k nobody h e a =
-      from_recycling may fixed n now core core' gets out own k preparation allowance made s t h e a.0 a.1.0 a.1.1
-  get_advanced own (stage.Checking slot at) s t made k nobody h e a =
-      from_checking may fixed n now core core' gets out own k slot at made s t h e a.0 a.1.0 a.1.1
-  get_advanced own stage.Finished s t no_step k nobody h e a =
-      from_finished may fixed n now core core' gets out own k s t h e a.0 a.1
+  get_advanced own (stage.Creating begun until) s t made k nobody h e a = from_creating may fixed n now core core' gets out own k begun until made s t h e a
+  get_advanced own (stage.Recycling preparation allowance) s t made k nobody h e a = from_recycling may fixed n now core core' gets out own k preparation allowance made s t h e a.0 a.1.0 a.1.1
+  get_advanced own (stage.Checking slot at) s t made k nobody h e a = from_checking may fixed n now core core' gets out own k slot at made s t h e a.0 a.1.0 a.1.1
+  get_advanced own stage.Finished s t no_step k nobody h e a = from_finished may fixed n now core core' gets out own k s t h e a.0 a.1
   get_advanced own _ s t _ k nobody h e a = absurd a

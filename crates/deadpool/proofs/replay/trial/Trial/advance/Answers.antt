@@ -26,13 +26,7 @@ invariant_of-self-in-Some g c =
     let here = slice_get_read f.parties.items (vec_len f.parties) c.args.party c.index_mut-get.result.now (search rules) (omega (arith, c.len.ensures, c.if-party-len.false)) c.index_mut-get.ensures.value in
     let all = turned g.M.Manager g.F.SyncHook g.A.AsyncHook f.environment.manager (fixed_as f.environment.runtime f.environment.hooks f.timeouts f.first f.most_parties) f.core c.advance_get.new.desk f.parties.items f.out.items
     c.self.invariant.counted c.self.invariant.well c.args.party c.args.now c.index_mut-get.result.now c.advance_get.new.get c.advance_get.result c.in-Some.turn here c.advance_get.ensures.advanced c.in-Some.is in
-    record {
-      counted = rw c.hand_out.ensures.out all.1;
-      well = rw c.hand_out.ensures.out all.2;
-      parties = c.self.invariant.parties;
-      seats = c.self.invariant.seats;
-      hands = omega (arith, c.self.invariant.hands, c.hand_out.ensures.capacity);
-    }
+    record { counted = rw c.hand_out.ensures.out all.1; well = rw c.hand_out.ensures.out all.2; parties = c.self.invariant.parties; seats = c.self.invariant.seats; hands = omega (arith, c.self.invariant.hands, c.hand_out.ensures.capacity) }
 
 pub returns-in-Some-clause-made : goal.returns-in-Some-clause-made
 returns-in-Some-clause-made g c =
