@@ -1,105 +1,54 @@
 -- A get that is cancelled over the desk is a party that is cancelled in the pool.
-use Rattle.std.proofs.Common.{◌≡◌, ℕ, ◌-◌, ◌≤◌, List, true, false, set, refl, sym, ap, ◌∙◌, subst, arith, Option, Some, None, slice_set, option_map, eq-eqb}
-use Rattle.std.specs.List.{slice_get}
-use Rattle.std.proofs.lemmas.Option.{slice_get-map}
-use Rattle.deadpool_parts.specs.Program.{Gives}
-use Rattle.deadpool_parts.specs.declared.moment.Moment.{Moment}
-use Rattle.deadpool_parts.specs.declared.moment.Runtime.{Runtime}
-use Rattle.deadpool_parts.specs.declared.config.Timeouts.{Timeouts}
-use Rattle.deadpool_parts.specs.Owners.{owner}
-use Rattle.deadpool_parts.proofs.Owners.{owned-set, owned-leaves}
-use Rattle.deadpool_managed.specs.HookLists.{HookLists}
-use Rattle.deadpool_managed.specs.DeskState.{DeskState, settled}
-use Rattle.deadpool_managed.specs.DeskSteps.{is_listed, unqueued, Fails, Refuses, Cancels as DeskCancels}
-use Rattle.deadpool_managed.specs.Stages.{Getting}
-use Rattle.deadpool_managed.specs.Outside.{May}
-use Rattle.deadpool_managed.specs.Prepare.{object_of}
-use Rattle.deadpool_managed.specs.Get.{Made, no_step, cancelling, Makes, CancelsFrom, GivesUp}
-use Rattle.deadpool.specs.Pool.{Pool, prepared_at}
-use Rattle.deadpool.specs.Steps.{removed}
-use Rattle.deadpool.specs.Party.{cancel}
-use Rattle.deadpool.specs.Moves.{NobodyWaits, by_party, moved}
-use Rattle.deadpool.specs.Laws.{IsLawful}
-use Rattle.deadpool.specs.Image.{party_of, standing_of, has_ticket, queue_of, image, IsCounted}
-use Rattle.deadpool_managed.specs.declared.slot.Slot.{Slot}
-use Rattle.deadpool_managed.specs.declared.get.Stage.{Stage}
+use Rattle.deadpool.proofs.Basics.{◌≡◌, ℕ, ◌-◌, ◌≤◌, List, true, false, set, refl, sym, ap, ◌∙◌, subst, arith, Option, Some, None, eq-eqb, slice_get, Gives, owner, owned-set, owned-leaves}
+use Rattle.deadpool.proofs.Words.{given, Moment, Timeouts, DeskState, settled, is_listed, desk_unqueued as unqueued, Fails, Refuses, DeskCancels, Getting, May, object_of, Made, no_step, cancelling, DeskMakes as Makes, CancelsFrom, GivesUp, Pool, prepared_at, removed, cancel, NobodyWaits, standing_of, has_ticket, queue_of, IsCounted, Slot, Stage, StepReply, Held, core_desk}
 use Rattle.deadpool_managed.specs.declared.get.Stage.TheVariants as stage
-use Rattle.deadpool_parts.specs.declared.replies.StepReply.{StepReply}
 use Rattle.deadpool_parts.specs.declared.replies.StepReply.TheVariants as step
-use Rattle.deadpool_managed.specs.declared.desk.Held.{Held}
 use Rattle.deadpool_managed.specs.declared.desk.Held.TheVariants as held
-use Rattle.deadpool.specs.declared.replay.moves.Move.TheVariants as move
 use Rattle.deadpool.specs.declared.replay.moves.Reply.TheVariants as reply
-use Rattle.deadpool_managed.proofs.CoreDesk.{core_desk}
-use Rattle.deadpool.proofs.Tickets.{NoTicket}
-use Rattle.deadpool.proofs.Settles.{counted_settled}
-use Rattle.deadpool.proofs.Settling.{goes, creates, prepares, Shifts, IsCounted-set, put_off-image, put_off-unqueued}
-use Rattle.deadpool.proofs.Ends.{Gives-same, holds_place, holds_creation, holds_object, ends_free, ends_empty}
+use Rattle.deadpool.proofs.DeskImage.{NoTicket, goes, creates, prepares, Shifts, IsCounted-set, put_off-unqueued, put_off-image, holds_place, holds_creation, holds_object, ends_free, ends_empty}
+use Rattle.deadpool.proofs.Fixed.{Fixed, image_of, get_at}
 
-module _ {V E C R S F A : Type 0} (may : May V E C R S F A) (runtime : Option Runtime) (hooks : HookLists F A) (timeouts : Timeouts) (first most n : ℕ)
+module _ {V E C R S F A : Type 0} (may : May V E C R S F A) (fixed : Fixed F A) (n : ℕ)
     (core core' : DeskState (Slot V)) (gets : List (Option (Getting V C R S))) (out : List (Slot V)) (own : Timeouts)
-    (k : IsCounted core gets out) (nobody : NobodyWaits (image runtime hooks timeouts first most core gets out)) where
-  -- the pool before
+    (k : IsCounted core gets out) (nobody : NobodyWaits (image_of fixed core gets out)) where
   abbrev pool : Pool V C R S F A
-  pool = image runtime hooks timeouts first most core gets out
+  pool = image_of fixed core gets out
 
-  -- the get at a stage
-  abbrev stands : Stage V C R S → Option (Getting V C R S)
-  stands s = Some record { timeouts = own; stage = s }
-
-  -- the gets without it
   abbrev gone : List (Option (Getting V C R S))
   gone = set gets n None
 
   -- the pool without the party, and its counts
   abbrev Removes : DeskState (Slot V) → Type 0
-  Removes d = (removed n pool ≡ image runtime hooks timeouts first most d gone out) × IsCounted d gone out
+  Removes d = (removed n pool ≡ image_of fixed d gone out) × IsCounted d gone out
 
   -- what is to be shown of a get that is cancelled at a stage
   abbrev Goal : Stage V C R S → DeskState (Slot V) → Type 0
   Goal old d =
-      Gives may (cancel n (record { timeouts = own; standing = standing_of old }) pool) (reply.Cancelled, image runtime hooks timeouts first most d gone out)
+      Gives may (cancel n (record { timeouts = own; standing = standing_of old }) pool) (reply.Cancelled, image_of fixed d gone out)
       × IsCounted d gone out
 
-  -- a get that held nothing
-  removes_empty : (old : Stage V C R S) → slice_get gets n ≡ Some (stands old) → NoTicket (stands old) → Shifts core core (stands old) None out out → Removes core
-  removes_empty old h none shifts =
-      let counted : IsCounted core gone out =
-      IsCounted-set core core gets n (stands old) None out out h k (owned-set has_ticket (queue_of core) gets k.tickets n (stands old) None h none (λ u. refl)) shifts in
-      (ends_empty runtime hooks timeouts first most core gets out n None k nobody (stands old) h none (λ u. refl) counted, counted)
-
   -- a get that held a place, and is counted no more
-  removes_counted : (old : Stage V C R S) (going creations outside : ℕ) → slice_get gets n ≡ Some (stands old) → NoTicket (stands old)
-      → Shifts core (record core { going = going; creations = creations; outside = outside }) (stands old) None out out
+  removes_counted : (old : Stage V C R S) (going creations outside : ℕ) → slice_get gets n ≡ Some (get_at own old) → NoTicket (get_at own old)
+      → Shifts core (record core { going = going; creations = creations; outside = outside }) (get_at own old) None out out
       → Removes (settled (record core { going = going; creations = creations; outside = outside }))
   removes_counted old going creations outside h none shifts =
       let left : DeskState (Slot V) = record core { going = going; creations = creations; outside = outside } in
-      let counted : IsCounted left gone out =
-      IsCounted-set core left gets n (stands old) None out out h k
-      (owned-set has_ticket (queue_of core) gets k.tickets n (stands old) None h none (λ u. refl)) shifts in (
-        ends_free runtime hooks timeouts first most core gets out n None left
-            (put_off-image runtime hooks timeouts first most core gets out k.tickets n (stands old) None h none (λ u. refl)) counted,
-        counted_settled left gone out counted,
-      )
+      ends_free fixed core gets out n None left (put_off-image fixed core gets out k.tickets n (get_at own old) None h none (λ u. refl))
+      (IsCounted-set core left gets n (get_at own old) None out out h k (owned-set has_ticket (queue_of core) gets k.tickets n (get_at own old) None h none (λ u. refl)) shifts)
 
-  module _ (ticket : ℕ) (deadline : Option Moment) (h : slice_get gets n ≡ Some (stands (stage.Queued ticket deadline))) where
+  module _ (ticket : ℕ) (deadline : Option Moment) (h : slice_get gets n ≡ Some (get_at own (stage.Queued ticket deadline))) where
     -- the ticket is in the queue, and is its own
     is_ours : (is_listed ticket core ≡ true) × (owner has_ticket gets ticket ≡ n)
-    is_ours = k.tickets.listed n ticket (stands (stage.Queued ticket deadline)) h (eq-eqb ticket ticket refl)
+    is_ours = k.tickets.listed n ticket (get_at own (stage.Queued ticket deadline)) h (eq-eqb ticket ticket refl)
 
     -- a get in the queue
     removes_queued : Removes (settled (unqueued ticket core))
     removes_queued =
         let left : DeskState (Slot V) = unqueued ticket core in
-        let old : Option (Getting V C R S) = stands (stage.Queued ticket deadline) in
-        let counted : IsCounted left gone out =
-        IsCounted-set core left gets n old None out out h k
-        (owned-leaves has_ticket (queue_of core) gets k.tickets n old None h ticket is_ours.1 (λ u. refl) (λ u. refl))
-        record { going = refl; creations = refl; outside = refl; room = omega arith } in (
-          ends_free runtime hooks timeouts first most core gets out n None left
-              (put_off-unqueued runtime hooks timeouts first most core gets out k.tickets n old None h ticket is_ours.1 (λ u. refl) (λ u. refl)) counted,
-          counted_settled left gone out counted,
-        )
+        let old : Option (Getting V C R S) = get_at own (stage.Queued ticket deadline) in
+        ends_free fixed core gets out n None left (put_off-unqueued fixed core gets out k.tickets n old None h ticket is_ours.1 (λ u. refl) (λ u. refl))
+        (IsCounted-set core left gets n old None out out h k (owned-leaves has_ticket (queue_of core) gets k.tickets n old None h ticket is_ours.1 (λ u. refl) (λ u. refl))
+        record { going = refl; creations = refl; outside = refl; room = omega arith })
 
     -- so it is at the desk
     cancels_queued : (reply : StepReply) → DeskCancels core (held.Ticket ticket) reply core' → Goal (stage.Queued ticket deadline) core'
@@ -107,71 +56,57 @@ module _ {V E C R S F A : Type 0} (may : May V E C R S F A) (runtime : Option Ru
     cancels_queued step.Unknown e = absurd (let differ : true ≡ false = sym is_ours.0 ∙ e.0 in cc)
 
   -- a get with a place and nothing else
-  cancels_going : (allowance : Option ℕ) (reply : StepReply) → slice_get gets n ≡ Some (stands (stage.Going allowance)) → DeskCancels core held.Place reply core' → Goal (stage.Going allowance) core'
+  cancels_going : (allowance : Option ℕ) (reply : StepReply) → slice_get gets n ≡ Some (get_at own (stage.Going allowance)) → DeskCancels core held.Place reply core' → Goal (stage.Going allowance) core'
   cancels_going allowance step.Done h e =
       let all = removes_counted (stage.Going allowance) (core.going - 1) core.creations core.outside h (λ u. refl)
       record { going = let some = e.0 in omega arith; creations = refl; outside = refl; room = omega arith } in
       rw e.1 (ap (λ (q : Pool V C R S F A). (reply.Cancelled, q)) all.0, all.1)
   cancels_going allowance step.Unknown h e =
-      absurd (let one : 1 ≤ core.going = holds_place core gets out k n (stands (stage.Going allowance)) h in omega (arith, one, e.0))
+      absurd (let one : 1 ≤ core.going = holds_place core gets out k n (get_at own (stage.Going allowance)) h in omega (arith, one, e.0))
 
   -- a get with a creation under way
-  cancels_creating : (begun : Option C) (until : Option Moment) (reply : StepReply) → slice_get gets n ≡ Some (stands (stage.Creating begun until)) → Fails core reply core'
+  cancels_creating : (begun : Option C) (until : Option Moment) (reply : StepReply) → slice_get gets n ≡ Some (get_at own (stage.Creating begun until)) → Fails core reply core'
       → Goal (stage.Creating begun until) core'
   cancels_creating begun until step.Done h e =
       let all = removes_counted (stage.Creating begun until) core.going (core.creations - 1) core.outside h (λ u. refl)
       record { going = refl; creations = let some = e.0 in omega arith; outside = refl; room = omega arith } in
       rw e.1 (ap (λ (q : Pool V C R S F A). (reply.Cancelled, q)) all.0, all.1)
   cancels_creating begun until step.Unknown h e =
-      absurd (let one : 1 ≤ core.creations = holds_creation core gets out k n (stands (stage.Creating begun until)) h in omega (arith, one, e.0))
+      absurd (let one : 1 ≤ core.creations = holds_creation core gets out k n (get_at own (stage.Creating begun until)) h in omega (arith, one, e.0))
 
   -- a get with an idle object, or with a new one: the object is given up
-  cancels_object : (old : Stage V C R S) (slot : Slot V) (reply : StepReply) → slice_get gets n ≡ Some (stands old) → NoTicket (stands old)
+  cancels_object : (old : Stage V C R S) (slot : Slot V) (reply : StepReply) → slice_get gets n ≡ Some (get_at own old) → NoTicket (get_at own old)
       → ◌≡◌ {A = Option (Slot V)} (prepared_at (standing_of old)) (Some slot)
-      → goes (stands old) ≡ 0 → creates (stands old) ≡ 0 → prepares (stands old) ≡ 1 → Refuses core reply core' → GivesUp may slot.value reply → Goal old core'
+      → goes (get_at own old) ≡ 0 → creates (get_at own old) ≡ 0 → prepares (get_at own old) ≡ 1 → Refuses core reply core' → GivesUp may slot.value reply → Goal old core'
   cancels_object old slot step.Done h none holds g c p e gives =
       let all = removes_counted old core.going core.creations (core.outside - 1) h none
       record { going = omega (arith, g); creations = omega (arith, c); outside = let some = e.0 in omega (arith, p); room = omega arith } in
       rw (e.1, holds) ((gives.0, (gives.1, ap (λ (q : Pool V C R S F A). (reply.Cancelled, q)) all.0)), all.1)
   cancels_object old slot step.Unknown h none holds g c p e gives =
-      absurd (let one = holds_object core gets out k n (stands old) h in omega (arith, one, p, e.0))
+      absurd (let one = holds_object core gets out k n (get_at own old) h in omega (arith, one, p, e.0))
 
   -- a get that holds nothing
-  cancels_empty : (old : Stage V C R S) → slice_get gets n ≡ Some (stands old) → NoTicket (stands old) → Shifts core core (stands old) None out out
+  cancels_empty : (old : Stage V C R S) → slice_get gets n ≡ Some (get_at own old) → NoTicket (get_at own old) → Shifts core core (get_at own old) None out out
       → ◌≡◌ {A = Option (Slot V)} (prepared_at (standing_of old)) None → core' ≡ core → Goal old core'
   cancels_empty old h none shifts holds e =
-      let all = removes_empty old h none shifts in
-      rw (e, holds) (ap (λ (q : Pool V C R S F A). (reply.Cancelled, q)) all.0, all.1)
+      let counted : IsCounted core gone out =
+      IsCounted-set core core gets n (get_at own old) None out out h k (owned-set has_ticket (queue_of core) gets k.tickets n (get_at own old) None h none (λ u. refl)) shifts in
+      rw (e, holds) (ap (λ (q : Pool V C R S F A). (reply.Cancelled, q)) (ends_empty fixed core gets out n None k nobody (get_at own old) h none (λ u. refl) counted), counted)
 
   -- the step of what the get holds
   as_held : (what given : Held) (reply : StepReply) → DeskCancels core given reply core' → given ≡ what → DeskCancels core what reply core'
   as_held what given reply e same = subst (λ w. DeskCancels core w reply core') same e
 
-  -- by the stage of the get
-  cancelled : (old : Stage V C R S) (made : Made V) → slice_get gets n ≡ Some (stands old) → Makes core_desk core made core' → CancelsFrom may old made → Goal old core'
-  cancelled stage.Unpolled no_step h e a =
+  pub get_cancelled : (old : Stage V C R S) (made : Made V) → slice_get gets n ≡ Some (get_at own old) → Makes core_desk core made core' → CancelsFrom may old made → Goal old core'
+  get_cancelled stage.Unpolled no_step h e a =
       cancels_empty stage.Unpolled h (λ u. refl) record { going = refl; creations = refl; outside = refl; room = omega arith } refl e
-  cancelled stage.Finished no_step h e a =
+  get_cancelled stage.Finished no_step h e a =
       cancels_empty stage.Finished h (λ u. refl) record { going = refl; creations = refl; outside = refl; room = omega arith } refl e
-  cancelled (stage.Queued ticket deadline) (cancelling what reply) h e a = cancels_queued ticket deadline h reply (as_held (held.Ticket ticket) what reply e a)
-  cancelled (stage.Going allowance) (cancelling what reply) h e a = cancels_going allowance reply h (as_held held.Place what reply e a)
-  cancelled (stage.Creating begun deadline) (cancelling what reply) h e a = cancels_creating begun deadline reply h (as_held held.Creation what reply e a)
-  cancelled (stage.Recycling preparation allowance) (cancelling what reply) h e a =
+  get_cancelled (stage.Queued ticket deadline) (cancelling what reply) h e a = cancels_queued ticket deadline h reply (as_held (held.Ticket ticket) what reply e a)
+  get_cancelled (stage.Going allowance) (cancelling what reply) h e a = cancels_going allowance reply h (as_held held.Place what reply e a)
+  get_cancelled (stage.Creating begun deadline) (cancelling what reply) h e a = cancels_creating begun deadline reply h (as_held held.Creation what reply e a)
+  get_cancelled (stage.Recycling preparation allowance) (cancelling what reply) h e a =
       cancels_object (stage.Recycling preparation allowance) (object_of preparation) reply h (λ u. refl) refl refl refl refl (as_held held.Object what reply e a.0) a.1
-  cancelled (stage.Checking slot at) (cancelling what reply) h e a =
+  get_cancelled (stage.Checking slot at) (cancelling what reply) h e a =
       cancels_object (stage.Checking slot at) slot reply h (λ u. refl) refl refl refl refl (as_held held.Object what reply e a.0) a.1
-  cancelled _ _ h e a = absurd a
-
-module _ {V E C R S F A : Type 0} (may : May V E C R S F A) (runtime : Option Runtime) (hooks : HookLists F A) (timeouts : Timeouts) (first most n : ℕ)
-    (core core' : DeskState (Slot V)) (gets : List (Option (Getting V C R S))) (out : List (Slot V)) where
-  -- what cancelling a get does at the desk, cancelling its party does in the pool
-  pub cancels : (g : Getting V C R S) (made : Made V) → IsCounted core gets out → IsLawful (image runtime hooks timeouts first most core gets out)
-      → slice_get gets n ≡ Some (Some g) → Makes core_desk core made core' → CancelsFrom may g.stage made
-      → Gives may (moved (move.Cancel n) (image runtime hooks timeouts first most core gets out))
-      (reply.Cancelled, image runtime hooks timeouts first most core' (slice_set gets n None) out)
-      × IsCounted core' (slice_set gets n None) out
-  cancels g made k lawful h e a =
-      let pool : Pool V C R S F A = image runtime hooks timeouts first most core gets out in
-      let here : slice_get pool.parties n ≡ Some (party_of (Some g)) = slice_get-map party_of gets n ∙ ap (option_map party_of) h in
-      let all = cancelled may runtime hooks timeouts first most n core core' gets out g.timeouts k lawful.nobody_waits g.stage made h e a in
-      (Gives-same may _ _ _ (ap (λ x. by_party x (cancel n) pool) here) all.0, all.1)
+  get_cancelled _ _ h e a = absurd a

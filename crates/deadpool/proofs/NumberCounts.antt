@@ -1,20 +1,6 @@
 -- How often a number stands in a list, among objects, and among what parties prepare.
-use Rattle.std.proofs.Common.{◌≡◌, ℕ, ◌+◌, ◌-◌, ◌≤◌, suc, List, [], ◌∷◌, ◌++◌, Bool, true, false, not, length, map, take, drop, get_or, refl, sym, ap, ◌∙◌, subst, arith, inl, inr, Option, Some, length-append}
-use Rattle.std.specs.Prelude.{◌==◌, filter, filter_map}
-use Rattle.std.proofs.lemmas.Bool.{cases_Bool, cond_both, eqb-true, eq-eqb}
-use Rattle.std.proofs.lemmas.List.{take_more, take_all, take-append-drop}
-use Rattle.std.proofs.lemmas.Option.{slice_get_within, get_or_from_slice_get}
-use Rattle.std.proofs.lemmas.List.Elements.{filter-append}
-use Rattle.deadpool_parts.specs.Numbers.{has_number}
-use Rattle.deadpool_parts.specs.declared.config.QueueMode.{QueueMode}
-use Rattle.deadpool_parts.specs.declared.config.QueueMode.TheVariants.{Fifo, Lifo}
-use Rattle.deadpool_parts.specs.Orders.{IsOnce}
-use Rattle.deadpool_managed.specs.DeskState.{next_idle, other_idle}
-use Rattle.deadpool.specs.Steps.{find_slot, with_put, slot_number}
-use Rattle.deadpool_managed.specs.declared.slot.Slot.{Slot}
-use Rattle.deadpool_parts.proofs.Counts.{one_if, length-cond}
-use Rattle.deadpool_parts.specs.Numbered.{count_numbered}
-use Rattle.deadpool_parts.proofs.NumberedCounts.{count-cons_option, count-cons, count-append, is_at}
+use Rattle.deadpool.proofs.Basics.{◌≡◌, ℕ, ◌+◌, ◌-◌, ◌≤◌, suc, List, [], ◌∷◌, ◌++◌, true, false, length, map, take, drop, get_or, refl, sym, ap, ◌∙◌, subst, arith, inl, inr, Option, Some, length-append, ◌==◌, filter, filter_map, cases_Bool, cond_both, eqb-true, eq-eqb, take_more, take_all, take-append-drop, slice_get_within, get_or_from_slice_get, filter-append, has_number, IsOnce, one_if, length-cond, count_numbered, count-cons_option, count-cons, count-append, is_at}
+use Rattle.deadpool.proofs.Words.{QueueMode, Fifo, Lifo, next_idle, other_idle, find_slot, with_put, slot_number, Slot}
 
 -- how often the number stands in the list
 abbrev pub times : ℕ → List ℕ → ℕ
@@ -53,8 +39,7 @@ times-once n (x ∷ xs) once =
     elim (cases_Bool (x == n)) [
       | inl here ↦
           let gone : has_number n xs ≡ false = subst (λ (m : ℕ). has_number m xs ≡ false) (eqb-true x n here) once.0 in
-          let none = times-none n xs gone in
-          rw here (omega (arith, none))
+          rw here (omega (arith, times-none n xs gone))
       | inr other ↦ rw other (times-once n xs once.1)
     ]
 
@@ -63,11 +48,9 @@ pub once-times : (xs : List ℕ) → ((n : ℕ) → times n xs ≤ 1) → IsOnce
 once-times [] h = tt
 once-times (x ∷ xs) h =
     let others : (n : ℕ) → times n xs ≤ 1 = λ n. let all = h n in let more = times-cons n x xs in omega (arith, all, more) in
-    let all = h x in
-    let here = times-cons x x xs in
     let one : one_if (x == x) ≡ 1 = ap one_if (eq-eqb x x refl) in
     elim (cases_Bool (has_number x xs)) [
-      | inl there ↦ let some = times-some x xs there in absurd (omega (arith, all, here, one, some))
+      | inl there ↦ let some = times-some x xs there in absurd (omega (arith, h x, times-cons x x xs, one, some))
       | inr gone ↦ (gone, once-times xs others)
     ]
 
@@ -101,8 +84,7 @@ module _ {V : Type 0} where
       let here : get_or idle last slot ≡ slot = get_or_from_slice_get idle last slot slot h in
       let parts : idle ≡ take last idle ++ slot ∷ [] = sym all ∙ take_more idle last slot within ∙ ap (λ x. take last idle ++ x ∷ []) here in
       let sum : held n idle ≡ held n (take last idle) + held n (slot ∷ []) = ap (held n) parts ∙ count-append slot_number n (take last idle) (slot ∷ []) in
-      let one = count-cons slot_number n slot [] in
-      omega (arith, sum, one)
+      omega (arith, sum, count-cons slot_number n slot [])
 
   -- one that is found has the number
   pub find_slot-number : (k : ℕ) (slot : Slot V) (xs : List (Slot V)) → find_slot k xs ≡ Some slot → (slot.number == k) ≡ true
@@ -120,8 +102,7 @@ module _ {V : Type 0} where
       let old = count-cons slot_number n x xs in
       let put = count-cons slot_number n (record x { value = v }) xs in
       let later = count-cons slot_number n x (with_put k v xs) in
-      let rest = held-with_put n k v xs in
-      cond_both (x.number == k) _ _ (λ ys. held n ys ≡ held n (x ∷ xs)) (λ here. omega (arith, old, put)) (λ other. omega (arith, old, later, rest))
+      cond_both (x.number == k) _ _ (λ ys. held n ys ≡ held n (x ∷ xs)) (λ here. omega (arith, old, put)) (λ other. omega (arith, old, later, held-with_put n k v xs))
 
   -- the first so many and the others are all
   pub held-split : (n k : ℕ) (xs : List (Slot V)) → held n (take k xs) + held n (drop k xs) ≡ held n xs
@@ -130,19 +111,6 @@ module _ {V : Type 0} where
   -- no more are left than there were
   pub held-drop : (n k : ℕ) (xs : List (Slot V)) → held n (drop k xs) ≤ held n xs
   held-drop n k xs = let parts = held-split n k xs in omega (arith, parts)
-
-  -- those that pass a test and those that do not are all
-  pub held-parts : (n : ℕ) (f : Slot V → Bool) (xs : List (Slot V)) → held n xs ≡ held n (filter f xs) + held n (filter (λ x. not (f x)) xs)
-  held-parts n f [] = omega arith
-  held-parts n f (x ∷ xs) =
-      let old = count-cons slot_number n x xs in
-      let in_one = count-cons slot_number n x (filter f xs) in
-      let in_other = count-cons slot_number n x (filter (λ y. not (f y)) xs) in
-      let rest = held-parts n f xs in
-      elim (cases_Bool (f x)) [
-        | inl stays ↦ rw stays (omega (arith, old, in_one, rest))
-        | inr goes ↦ rw goes (omega (arith, old, in_other, rest))
-      ]
 
   -- of those that each may hold
   pub held-filter_map : {X : Type 0} (n : ℕ) (f : X → Option (Slot V)) (xs : List X) → held n (filter_map f xs) ≡ length (filter (λ x. is_at slot_number n (f x)) xs)

@@ -1,11 +1,5 @@
 -- Further of lists of numbers: who is there where one is taken out or stands at the back, and lists whose numbers stand once.
-use Rattle.std.proofs.Common.{◌≡◌, ◌≢◌, ℕ, ◌+◌, List, [], ◌∷◌, ◌++◌, true, false, not, ◌||◌, ◌&&◌, length, refl, sym, ap, ◌∙◌, subst, arith, inl, inr}
-use Rattle.std.specs.Prelude.{◌==◌}
-use Rattle.std.proofs.Math.Bool.{and-true, and-false, or-true, or-false}
-use Rattle.std.proofs.lemmas.Bool.{eq-eqb, eqb-true, ne_eqb, cases_Bool, or_parts}
-use Rattle.deadpool_parts.specs.Numbers.{has_number, without_number}
-use Rattle.deadpool_parts.specs.Orders.{IsOnce}
-use Rattle.deadpool_parts.proofs.Numbers.{has_number-append, has_number-without, without_number-same}
+use Rattle.deadpool.proofs.Basics.{◌≡◌, ◌≢◌, ℕ, ◌+◌, List, [], ◌∷◌, ◌++◌, true, false, not, ◌||◌, ◌&&◌, length, refl, sym, ap, ◌∙◌, subst, arith, inl, inr, ◌==◌, and-true, and-false, or-true, or-false, eq-eqb, eqb-true, ne_eqb, cases_Bool, or_parts, has_number, without_number, IsOnce, has_number-append, has_number-without, without_number-same}
 
 -- where one is taken out, any other is there as before
 pub has_number-other : (n m : ℕ) (xs : List ℕ) → n ≢ m → has_number n (without_number m xs) ≡ has_number n xs
@@ -34,8 +28,7 @@ without_number-once n (x ∷ xs) once h =
           rw (here, without_number-same n xs gone) (omega arith)
       | inr other ↦
           let there : has_number n xs ≡ true = sym (ap (λ b. b || has_number n xs) other) ∙ h in
-          let rest = without_number-once n xs once.1 there in
-          rw other (omega (arith, rest))
+          rw other (omega (arith, without_number-once n xs once.1 there))
     ]
 
 -- each part of a list whose numbers stand once
@@ -45,6 +38,4 @@ IsOnce-left (x ∷ xs) ys once = ((or_parts (has_number x xs) (has_number x ys) 
 
 -- a number leaves a list once
 pub without-twice : (t : ℕ) (xs : List ℕ) → without_number t (without_number t xs) ≡ without_number t xs
-without-twice t xs =
-    without_number-same t (without_number t xs)
-    (has_number-without t t xs ∙ ap (λ b. has_number t xs && not b) (eq-eqb t t refl) ∙ and-false (has_number t xs))
+without-twice t xs = without_number-same t (without_number t xs) (without_number-gone t xs)

@@ -1,12 +1,6 @@
 -- In a lawful pool no party stands in two lists.
-use Rattle.std.proofs.Common.{◌≡◌, ℕ, ◌+◌, ◌<◌, ◌≤◌, suc, zero, List, [], ◌∷◌, ◌++◌, Bool, true, false, refl, sym, ap, ◌∙◌, arith, inl, inr, Option, Some, None}
-use Rattle.std.specs.Prelude.{slice_get, is_some, ◌==◌}
-use Rattle.std.proofs.lemmas.Bool.{cases_Bool, ne_eqb}
-use Rattle.deadpool_parts.specs.Numbers.{has_number}
-use Rattle.deadpool.specs.Pool.{Pool, Party, Standing, unpolled, queued, going, creating, recycling, checking, finished, goes, creates, prepared_at, is_going, is_creating}
-use Rattle.deadpool.specs.Laws.{IsLawful, queue, waits_at, is_queued}
-use Rattle.deadpool.specs.RunLaws.{places_from, is_preparing, listed, IsListedOnce}
-use Rattle.deadpool_parts.proofs.Counts.{one_if}
+use Rattle.deadpool.proofs.Basics.{◌≡◌, ℕ, ◌+◌, ◌<◌, ◌≤◌, suc, zero, List, [], ◌∷◌, ◌++◌, Bool, true, false, refl, sym, ap, ◌∙◌, arith, inl, inr, Option, Some, None, slice_get, is_some, ◌==◌, cases_Bool, ne_eqb, has_number, one_if}
+use Rattle.deadpool.proofs.Words.{Pool, Party, Standing, unpolled, goes, creates, prepared_at, is_going, is_creating, IsLawful, queue, waits_at, is_queued, places_from, is_preparing, listed, IsListedOnce}
 use Rattle.deadpool.proofs.NumberCounts.{times, times-cons, times-append, times-none, times-once, once-times}
 
 module _ {X : Type 0} (f : X → Bool) where
@@ -28,9 +22,8 @@ module _ {X : Type 0} (f : X → Bool) where
   times-places [] first k n e = omega arith
   times-places (x ∷ xs) first zero n e =
       let rest = times-before xs (first + 1) n (omega arith) in
-      let more = times-cons n first (places_from (first + 1) f xs) in
       elim (cases_Bool (f x)) [
-        | inl here ↦ let one : one_if (first == n) ≤ 1 = one_at_most (first == n) in rw here (omega (arith, rest, more, one))
+        | inl here ↦ let one : one_if (first == n) ≤ 1 = one_at_most (first == n) in rw here (omega (arith, rest, times-cons n first (places_from (first + 1) f xs), one))
         | inr gone ↦ rw gone (omega (arith, rest))
       ]
     where
@@ -46,12 +39,7 @@ module _ {V C R S : Type 0} where
   -- a party stands in one way
   one_standing : (standing : Standing V C R S) → one_if (waits_at standing) + one_if (goes standing) + one_if (creates standing) + one_if (is_some (prepared_at standing)) ≤ 1
   one_standing unpolled = omega arith
-  one_standing (queued deadline) = omega arith
-  one_standing (going allowance) = omega arith
-  one_standing (creating begun deadline) = omega arith
-  one_standing (recycling preparation allowance) = omega arith
-  one_standing (checking slot at) = omega arith
-  one_standing finished = omega arith
+  one_standing _ = omega arith
 
   -- also one that may not be there
   one_at : (found : Option (Option (Party V C R S)))
@@ -75,17 +63,14 @@ module _ {V C R S F A : Type 0} (p : Pool V C R S F A) (l : IsLawful p) where
       let going_parties = places_from 0 is_going p.parties in
       let creating_parties = places_from 0 is_creating p.parties in
       let preparing_parties = places_from 0 is_preparing p.parties in
-      let sum0 = times-append n p.waiting p.granted in
       let sum1 = times-append n (p.waiting ++ p.granted) going_parties in
       let sum2 = times-append n (p.waiting ++ p.granted ++ going_parties) creating_parties in
       let sum3 = times-append n (p.waiting ++ p.granted ++ going_parties ++ creating_parties) preparing_parties in
-      let in_order = times-append n p.granted p.waiting in
-      let in_queue = times-queue n in
       let goers = times-places is_going p.parties 0 n n (omega arith) in
       let creators = times-places is_creating p.parties 0 n n (omega arith) in
       let preparers = times-places is_preparing p.parties 0 n n (omega arith) in
       let one = one_at (slice_get p.parties n) in
-      omega (arith, sum0, sum1, sum2, sum3, in_order, in_queue, goers, creators, preparers, one)
+      omega (arith, times-append n p.waiting p.granted, sum1, sum2, sum3, times-append n p.granted p.waiting, times-queue n, goers, creators, preparers, one)
 
   -- no party is in two of them
   pub listed_once : IsListedOnce p

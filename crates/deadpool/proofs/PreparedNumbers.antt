@@ -1,42 +1,15 @@
 -- What is prepared keeps its number, whatever the manager and the hooks answer.
-use Rattle.std.proofs.Common.{◌≡◌, ℕ, Option, Result, Ok, Err, refl}
-use Rattle.std.specs.declared.time.Duration.{Duration}
-use Rattle.std.proofs.lemmas.Bool.{cond_both}
-use Rattle.futures.specs.declared.task.Poll.{Poll}
+use Rattle.deadpool.proofs.Basics.{◌≡◌, ℕ, Option, Result, Ok, Err, refl, Duration, cond_both, Return, Always, Always-bind}
+use Rattle.deadpool.proofs.Words.{Poll, deadline_after, is_reached, lacks_runtime, Moment, Runtime, RecycleError, HookLists, Asking, pass, start, approved, approve, recycled, poll_recycling, begin_recycling, prepare_reviewed as reviewed, prepare, object_of, with_value, Slot, Position, Verdict, Preparation, PreRecycle, Recycle, PostRecycle, Prepared, Accepted, GivenUp, Pending}
 use Rattle.futures.specs.declared.task.Poll.TheVariants as poll
-use Rattle.deadpool_parts.specs.Moments.{deadline_after, is_reached, lacks_runtime}
-use Rattle.deadpool_parts.specs.Program.{Program, Return, Ask, Always, ◌>>=◌}
-use Rattle.deadpool_parts.specs.declared.moment.Moment.{Moment}
-use Rattle.deadpool_parts.specs.declared.moment.Runtime.{Runtime}
-use Rattle.deadpool_parts.specs.declared.errors.RecycleError.{RecycleError}
-use Rattle.deadpool_parts.proofs.Programs.{Always-bind}
-use Rattle.deadpool_managed.specs.HookLists.{HookLists}
-use Rattle.deadpool_managed.specs.Outside.{Asking}
-use Rattle.deadpool_managed.specs.Calls.{pass, start}
-use Rattle.deadpool_managed.specs.Prepare.{approved, approve, recycled, poll_recycling, begin_recycling, reviewed, prepare, object_of, with_value}
-use Rattle.deadpool_managed.specs.declared.slot.Slot.{Slot}
-use Rattle.deadpool_managed.specs.declared.prepare.Position.{Position}
-use Rattle.deadpool_managed.specs.declared.prepare.Verdict.{Verdict}
 use Rattle.deadpool_managed.specs.declared.prepare.Verdict.TheVariants as verdict
-use Rattle.deadpool_managed.specs.declared.prepare.Preparation.{Preparation}
-use Rattle.deadpool_managed.specs.declared.prepare.Preparation.TheVariants.{PreRecycle, Recycle, PostRecycle}
-use Rattle.deadpool_managed.specs.declared.prepare.Prepared.{Prepared}
-use Rattle.deadpool_managed.specs.declared.prepare.Prepared.TheVariants.{Accepted, GivenUp, Pending}
-
--- what always holds after the first, where so much always holds of what that gave
-pub Always-then : {Q : Type 0} {Answer : Q → Type 0} {A B : Type 0} (given : A → Type 0) (P : B → Type 0) (p : Program Q Answer A) (f : A → Program Q Answer B)
-    → Always given p → ((a : A) → given a → Always P (f a)) → Always P (p >>= f)
-Always-then given P (Return x) f always next = next x always
-Always-then given P (Ask q k) f always next = λ a. Always-then given P (k a) f (always a) next
 
 module _ {V R S : Type 0} where
-  -- the object that was prepared
   abbrev pub object_in : Prepared V R S → Slot V
   object_in (Accepted slot) = slot
   object_in (GivenUp slot) = slot
   object_in (Pending preparation) = object_of preparation
 
-  -- it has the number
   abbrev pub IsNumber : ℕ → Prepared V R S → Type 0
   IsNumber n x = (object_in x).number ≡ n
 

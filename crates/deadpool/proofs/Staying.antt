@@ -1,43 +1,23 @@
 -- The idle objects that stay in a retain.
-use Rattle.std.proofs.Common.{◌≡◌, ℕ, ◌+◌, ◌-◌, ◌<◌, ◌≤◌, min, List, [], ◌∷◌, Bool, true, false, not, length, refl, arith, inl, inr}
-use Rattle.std.specs.Prelude.{filter, nat_le, ◌||◌}
-use Rattle.std.proofs.lemmas.Bool.{cases_Bool, cond_both}
-use Rattle.std.proofs.lemmas.Bool.Decides.{nat_tests}
-use Rattle.deadpool_parts.specs.Numbers.{has_number}
-use Rattle.deadpool.specs.Moves.{stays, staying}
-use Rattle.deadpool.specs.Steps.{slot_number}
-use Rattle.deadpool_managed.specs.declared.slot.Slot.{Slot}
-use Rattle.deadpool_parts.proofs.NumberedCounts.{count-cons}
+use Rattle.deadpool.proofs.Basics.{ℕ, ◌+◌, ◌-◌, ◌≤◌, min, List, [], ◌∷◌, not, length, arith, inl, inr, filter, nat_le, cases_Bool, cond_both, has_number, count-cons, or_parts, leb-false}
+use Rattle.deadpool.proofs.Words.{stays, staying, slot_number, Slot}
 use Rattle.deadpool.proofs.NumberCounts.{held}
-
--- an object goes only where more are idle than have to be
-more_than_least : (b : Bool) (least idle : ℕ) → (b || nat_le idle least) ≡ false → least < idle
-more_than_least true least idle h = cc
-more_than_least false least idle h = grind (arith, nat_tests, h)
-
--- and only where it has none of the numbers
-not_kept : (b c : Bool) → (b || c) ≡ false → b ≡ false
-not_kept true c h = cc
-not_kept false c h = refl
 
 module _ {V : Type 0} (kept : List ℕ) (least : ℕ) where
   -- no more stay than were asked about
   pub staying-shorter : (idle : ℕ) (xs : List (Slot V)) → length (staying kept least idle xs) ≤ length xs
   staying-shorter idle [] = omega arith
   staying-shorter idle (x ∷ xs) =
-      let stay = staying-shorter idle xs in
       let go = staying-shorter (idle - 1) xs in
-      cond_both (stays kept least idle x) _ _ (λ ys. length ys ≤ length (x ∷ xs)) (λ here. omega (arith, stay)) (λ gone. omega (arith, go))
+      cond_both (stays kept least idle x) _ _ (λ ys. length ys ≤ length (x ∷ xs)) (λ here. omega (arith, staying-shorter idle xs)) (λ gone. omega (arith, go))
 
   -- as many stay idle as have to, if as many were
   pub staying-least : (idle : ℕ) (xs : List (Slot V)) → min idle least + length xs ≤ idle + length (staying kept least idle xs)
   staying-least idle [] = omega arith
   staying-least idle (x ∷ xs) =
-      let stay = staying-least idle xs in
-      let go = staying-least (idle - 1) xs in
       elim (cases_Bool (stays kept least idle x)) [
-        | inl stay_on ↦ rw stay_on (omega (arith, stay))
-        | inr leave ↦ let more = more_than_least (has_number x.number kept) least idle leave in rw leave (omega (arith, go, more))
+        | inl stay_on ↦ rw stay_on (omega (arith, staying-least idle xs))
+        | inr leave ↦ let more = leb-false idle least (or_parts (has_number x.number kept) (nat_le idle least) leave).1 in rw leave (omega (arith, staying-least (idle - 1) xs, more))
       ]
 
   -- none of them is new
@@ -62,5 +42,5 @@ module _ {V : Type 0} (kept : List ℕ) (least : ℕ) where
       elim (cases_Bool (stays kept least idle x)) [
         | inl stay_on ↦ rw stay_on
             (cond_both (not (has_number x.number kept)) _ _ (λ ys. held n (x ∷ xs) ≤ held n (x ∷ staying kept least idle xs) + held n ys) (λ other. omega (arith, old, now, others, stay)) (λ has. omega (arith, old, now, stay)))
-        | inr leave ↦ let none = not_kept (has_number x.number kept) (nat_le idle least) leave in rw (leave, none) (omega (arith, old, others, go))
+        | inr leave ↦ let none = (or_parts (has_number x.number kept) (nat_le idle least) leave).0 in rw (leave, none) (omega (arith, old, others, go))
       ]

@@ -1,43 +1,14 @@
 -- What a step of a trial keeps: the counts, and the laws that each move keeps.
-use Rattle.std.proofs.Common.{◌≡◌, ℕ, ◌≤◌, List, Bool, true, false, nat_lt, ◌==◌, length, set, Option, Some, None, refl, sym, ap, ◌∙◌, arith}
-use Rattle.std.specs.List.{slice_get}
-use Rattle.std.proofs.lemmas.Bool.Decides.{nat_tests}
-use Rattle.std.proofs.Math.ListN.{length-set}
-use Rattle.deadpool_parts.specs.Program.{Gives}
-use Rattle.deadpool_parts.specs.declared.moment.Moment.{Moment}
-use Rattle.deadpool_parts.specs.declared.moment.Runtime.{Runtime}
-use Rattle.deadpool_parts.specs.declared.config.Timeouts.{Timeouts}
-use Rattle.deadpool_parts.proofs.Programs.{Always-Gives}
-use Rattle.deadpool_parts.proofs.Lists.{set-same}
-use Rattle.deadpool_managed.specs.HookLists.{HookLists}
-use Rattle.deadpool_managed.specs.Outside.{May, may}
-use Rattle.deadpool_managed.specs.DeskState.{DeskState}
-use Rattle.deadpool_managed.specs.DeskSteps.{TakesBack}
-use Rattle.deadpool_managed.specs.Stages.{Getting}
-use Rattle.deadpool_managed.specs.Get.{Made, Makes, AdvancesFrom, CancelsFrom}
-use Rattle.deadpool.specs.Pool.{Pool}
-use Rattle.deadpool.specs.Steps.{find_slot, without_slot}
-use Rattle.deadpool.specs.Moves.{moved}
-use Rattle.deadpool.specs.RunLaws.{IsWell}
-use Rattle.deadpool.specs.Image.{image, IsCounted}
-use Rattle.deadpool.specs.TrialFields.{AdvancedGet, AdvancesGet, given, reply_to, reply_to_back}
-use Rattle.deadpool_managed.specs.declared.slot.Slot.{Slot}
-use Rattle.deadpool_managed.specs.declared.manager.Manager.{Ghosts as ManagerOf}
-use Rattle.deadpool_managed.specs.declared.hooks.SyncHook.{Ghosts as SyncHookOf}
-use Rattle.deadpool_managed.specs.declared.hooks.AsyncHook.{Ghosts as AsyncHookOf}
-use Rattle.deadpool_managed.specs.declared.get.Turn.{Turn}
-use Rattle.deadpool_managed.specs.declared.desk.Desk.{Ghosts as DeskOf}
-use Rattle.deadpool_managed.specs.declared.desk.BackReply.{BackReply}
-use Rattle.deadpool.specs.declared.replay.moves.Move.{Move}
+use Rattle.deadpool.proofs.Basics.{◌∙◌, option_map, slice_get-map, ◌≡◌, ℕ, ◌≤◌, List, Bool, true, false, nat_lt, ◌==◌, length, set, Option, Some, None, sym, ap, arith, slice_get, nat_tests, length-set_n as length-set, Gives, Always-Gives, set-same}
+use Rattle.deadpool.proofs.Words.{party_of, by_party, cancel, advance, DeskMakes, Moment, Timeouts, may, DeskState, TakesBack, Getting, Made, CancelsFrom, Pool, find_slot, without_slot, moved, IsWell, IsCounted, AdvancesGet, given, reply_to, reply_to_back, Slot, ManagerOf, SyncHookOf, AsyncHookOf, Turn, BackReply, Move, Reply, CoreState, own_desk, makes_at_desk}
 use Rattle.deadpool.specs.declared.replay.moves.Move.TheVariants as move
-use Rattle.deadpool.specs.declared.replay.moves.Reply.{Reply}
 use Rattle.deadpool.specs.declared.replay.moves.Reply.TheVariants as reply
-use Rattle.deadpool_managed.specs.CoreState.{CoreState}
-use Rattle.deadpool_managed.proofs.CoreDesk.{core_desk, own_desk, makes_at_desk}
-use Rattle.deadpool.proofs.Simulation.{simulates}
-use Rattle.deadpool.proofs.Cancels.{cancels}
-use Rattle.deadpool.proofs.Backs.{backs}
+use Rattle.deadpool.proofs.Simulation.{get_advanced}
+use Rattle.deadpool.proofs.Cancels.{get_cancelled}
+use Rattle.deadpool.proofs.OutObjects.{backs}
 use Rattle.deadpool.proofs.Well.{WellAfter, moved_well}
+use Rattle.deadpool.proofs.DeskImage.{Gives-same}
+use Rattle.deadpool.proofs.Fixed.{Fixed, image_of}
 
 -- whether a pool has a handle
 pub no_handle : (b : Bool) (n : ℕ) → b ≡ nat_lt 0 n → b ≡ false → (n == 0) ≡ true
@@ -50,88 +21,56 @@ some_handle b n is some = grind (arith, nat_tests)
 pub out_fits : {V C R S : Type 0} (core : DeskState (Slot V)) (gets : List (Option (Getting V C R S))) (n : ℕ) (x : Option (Getting V C R S)) (out : List (Slot V)) (len most capacity : ℕ)
     → IsCounted core (set gets n x) out → len ≡ length gets → len ≤ most → most ≤ capacity → length out ≤ capacity
 out_fits core gets n x out len most capacity k e l c =
-    let same = length-set gets n x in
-    omega (arith, k.room, same, e, l, c)
+    omega (arith, k.room, length-set gets n x, e, l, c)
 
-module _ {M V E C R S F A : Type 0} (m : ManagerOf M V E C R) (f : SyncHookOf F M V E C R) (a : AsyncHookOf A M S V E C R) (manager : M)
-    (runtime : Option Runtime) (hooks : HookLists F A) (timeouts : Timeouts) (first most : ℕ) where
+module _ {M V E C R S F A : Type 0} (m : ManagerOf M V E C R) (f : SyncHookOf F M V E C R) (a : AsyncHookOf A M S V E C R) (manager : M) where
   -- what a move leads to is well
   pub leads_to_well : (mv : Move V) (p q : Pool V C R S F A) (answer : Reply V E) → IsWell p → Gives (may m f a manager) (moved mv p) (answer, q) → IsWell q
   leads_to_well mv p q answer well given = (Always-Gives (WellAfter p) (may m f a manager) (moved mv p) (answer, q) (moved_well E mv p well) given).0
 
-  module _ (core core' : DeskState (Slot V)) (gets : List (Option (Getting V C R S))) (out : List (Slot V)) (counted : IsCounted core gets out) (well : IsWell (image runtime hooks timeouts first most core gets out)) (n : ℕ) where
-    -- an advance of the party n, whose get g becomes g'
-    pub advances : (now : Moment) (g g' : Getting V C R S) (turn : Turn V E) (made : Made V) → slice_get gets n ≡ Some (Some g) → Makes core_desk core made core'
-        → AdvancesFrom (may m f a manager) runtime hooks now g.timeouts g.stage made g'.stage turn → g'.timeouts ≡ g.timeouts
-        → Gives (may m f a manager) (moved (move.Advance n now) (image runtime hooks timeouts first most core gets out)) (reply_to turn, image runtime hooks timeouts first most core' (set gets n (Some g')) (given turn out))
-        × IsCounted core' (set gets n (Some g')) (given turn out) × IsWell (image runtime hooks timeouts first most core' (set gets n (Some g')) (given turn out))
-    advances now g g' turn made here makes advanced same =
-        let is : record g { stage = g'.stage } ≡ g' = ap (λ (ts : Timeouts). let h : Getting V C R S = record { timeouts = ts; stage = g'.stage } in h) (sym same) in
-        let all = rw is at (simulates (may m f a manager) (λ found. tt) runtime hooks timeouts first most n now core core' gets out g g'.stage turn made counted well.lawful here makes advanced) in
-        (all.0, all.1, leads_to_well (move.Advance n now) _ _ _ well all.0)
+  module _ (fixed : Fixed F A) (core core' : CoreState V) (gets : List (Option (Getting V C R S))) (out : List (Slot V)) (counted : IsCounted core.desk gets out)
+      (well : IsWell (image_of fixed core.desk gets out)) (n : ℕ) where
+    abbrev pool : Pool V C R S F A
+    pool = image_of fixed core.desk gets out
+
+    -- the party n of the get that is there
+    party_here : (get : Option (Getting V C R S)) → slice_get gets n ≡ Some get → slice_get pool.parties n ≡ Some (party_of get)
+    party_here get here = slice_get-map party_of gets n ∙ ap (option_map party_of) here
+
+    -- a turn of the get that the party n has
+    pub turned : (now : Moment) (get get' : Option (Getting V C R S)) (turn : Option (Turn V E)) (t : Turn V E) → slice_get gets n ≡ Some get
+        → AdvancesGet own_desk (may m f a manager) fixed.runtime fixed.hooks now get core get' core' turn → turn ≡ Some t
+        → Gives (may m f a manager) (moved (move.Advance n now) (image_of fixed core.desk gets out)) (reply_to t, image_of fixed core'.desk (set gets n get') (given t out))
+        × IsCounted core'.desk (set gets n get') (given t out) × IsWell (image_of fixed core'.desk (set gets n get') (given t out))
+    turned now None get' turn t here x is = let none = x.2 in cc
+    turned now (Some g) get' turn t here x is =
+        let same : x.came_to ≡ t = let twice = x.turn_is in cc in
+        let still : record g { stage = x.after.stage } ≡ x.after = ap (λ (ts : Timeouts). let h : Getting V C R S = record { timeouts = ts; stage = x.after.stage } in h) (sym x.timeouts) in
+        let all = rw still at (get_advanced (may m f a manager) (λ found. tt) fixed n now core.desk core'.desk gets out g.timeouts g.stage x.after.stage x.came_to x.made counted
+        well.lawful.nobody_waits here (makes_at_desk core core' x.made x.makes) x.advances) in
+        let made = Gives-same (may m f a manager) _ _ _ (ap (λ y. by_party y (advance n now) pool) (party_here (Some g) here)) all.0 in
+        rw (x.get_is, ← same) (made, all.1, leads_to_well (move.Advance n now) _ _ _ well made)
+
+    -- none, where the party was cancelled: nothing has changed
+    pub not_turned : (now : Moment) (get get' : Option (Getting V C R S)) (turn : Option (Turn V E)) → slice_get gets n ≡ Some get
+        → AdvancesGet own_desk (may m f a manager) fixed.runtime fixed.hooks now get core get' core' turn → turn ≡ None
+        → (slice_get gets n ≡ Some None) × (set gets n get' ≡ gets) × (core'.desk ≡ core.desk)
+    not_turned now None get' turn here x is = (here, rw x.0 (set-same gets n None here), ap (λ c. c.desk) x.1)
+    not_turned now (Some g) get' turn here x is = let some = x.turn_is in cc
 
     -- the party n is cancelled
-    pub cancelled : (g : Getting V C R S) (made : Made V) → slice_get gets n ≡ Some (Some g) → Makes core_desk core made core' → CancelsFrom (may m f a manager) g.stage made
-        → Gives (may m f a manager) (moved (move.Cancel n) (image runtime hooks timeouts first most core gets out)) (reply.Cancelled, image runtime hooks timeouts first most core' (set gets n None) out)
-        × IsCounted core' (set gets n None) out × IsWell (image runtime hooks timeouts first most core' (set gets n None) out)
+    pub cancelled : (g : Getting V C R S) (made : Made V) → slice_get gets n ≡ Some (Some g) → DeskMakes own_desk core made core' → CancelsFrom (may m f a manager) g.stage made
+        → Gives (may m f a manager) (moved (move.Cancel n) (image_of fixed core.desk gets out)) (reply.Cancelled, image_of fixed core'.desk (set gets n None) out)
+        × IsCounted core'.desk (set gets n None) out × IsWell (image_of fixed core'.desk (set gets n None) out)
     cancelled g made here makes gives_back =
-        let all = cancels (may m f a manager) runtime hooks timeouts first most n core core' gets out g made counted well.lawful here makes gives_back in
-        (all.0, all.1, leads_to_well (move.Cancel n) _ _ _ well all.0)
+        let all = get_cancelled (may m f a manager) fixed n core.desk core'.desk gets out g.timeouts counted well.lawful.nobody_waits g.stage made here (makes_at_desk core core' made makes) gives_back in
+        let done = Gives-same (may m f a manager) _ _ _ (ap (λ y. by_party y (cancel n) pool) (party_here (Some g) here)) all.0 in
+        (done, all.1, leads_to_well (move.Cancel n) _ _ _ well done)
 
     -- the object with the number n has come back
-    pub came_back : (slot : Slot V) (r : BackReply (Slot V)) (answer : Reply V E) → find_slot n out ≡ Some slot → TakesBack core slot r core' → Gives (may m f a manager) (reply_to_back r) answer
-        → Gives (may m f a manager) (moved (move.Back n) (image runtime hooks timeouts first most core gets out)) (answer, image runtime hooks timeouts first most core' gets (without_slot n out))
-        × IsWell (image runtime hooks timeouts first most core' gets (without_slot n out))
+    pub came_back : (slot : Slot V) (r : BackReply (Slot V)) (answer : Reply V E) → find_slot n out ≡ Some slot → TakesBack core.desk slot r core'.desk → Gives (may m f a manager) (reply_to_back r) answer
+        → Gives (may m f a manager) (moved (move.Back n) (image_of fixed core.desk gets out)) (answer, image_of fixed core'.desk gets (without_slot n out))
+        × IsWell (image_of fixed core'.desk gets (without_slot n out))
     came_back slot r answer here back given =
-        let all = backs (may m f a manager) runtime hooks timeouts first most core core' gets out n slot counted here r answer back given in
+        let all = backs (may m f a manager) fixed core.desk core'.desk gets out n slot counted here r answer back given in
         (all, leads_to_well (move.Back n) _ _ _ well all)
-
-module _ {D V E C R S F A : Type 0} (d : DeskOf D V) (may : May V E C R S F A) (runtime : Option Runtime) (hooks : HookLists F A) (now : Moment) (desk desk' : D) where
-  -- a get with no turn was cancelled
-  pub no_turn : (get get' : Option (Getting V C R S)) (turn : Option (Turn V E)) → turn ≡ None → AdvancesGet d may runtime hooks now get desk get' desk' turn
-      → (get ≡ None) × (get' ≡ None) × (desk' ≡ desk)
-  no_turn None get' turn none a = (refl, a.0, a.1)
-  no_turn (Some g) get' turn none a = let some = a.turn_is in cc
-
-  -- a get with a turn was not
-  pub a_turn : (get get' : Option (Getting V C R S)) (turn : Option (Turn V E)) (t : Turn V E) → turn ≡ Some t → AdvancesGet d may runtime hooks now get desk get' desk' turn
-      → (g : Getting V C R S) × ((get ≡ Some g) × AdvancedGet d may runtime hooks now g desk get' desk' turn)
-  a_turn None get' turn t some a = let none = a.2 in cc
-  a_turn (Some g) get' turn t some a = (g, (refl, a))
-
-module _ {M V E C R S F A : Type 0} (m : ManagerOf M V E C R) (f : SyncHookOf F M V E C R) (a : AsyncHookOf A M S V E C R) (manager : M)
-    (runtime : Option Runtime) (hooks : HookLists F A) (timeouts : Timeouts) (first most : ℕ)
-    (core core' : DeskState (Slot V)) (gets : List (Option (Getting V C R S))) (out : List (Slot V)) (counted : IsCounted core gets out) (well : IsWell (image runtime hooks timeouts first most core gets out)) (n : ℕ)
-    (now : Moment) (get get' : Option (Getting V C R S)) (turn : Option (Turn V E)) (here : slice_get gets n ≡ Some get) (advanced : AdvancesGet core_desk (may m f a manager) runtime hooks now get core get' core' turn) where
-  -- a turn of the get that the party n has
-  pub turned : (t : Turn V E) → turn ≡ Some t
-      → Gives (may m f a manager) (moved (move.Advance n now) (image runtime hooks timeouts first most core gets out)) (reply_to t, image runtime hooks timeouts first most core' (set gets n get') (given t out))
-      × IsCounted core' (set gets n get') (given t out) × IsWell (image runtime hooks timeouts first most core' (set gets n get') (given t out))
-  turned t is =
-      let all = a_turn core_desk (may m f a manager) runtime hooks now core core' get get' turn t is advanced in
-      let x = all.1.1 in
-      let same : x.came_to ≡ t = let twice = x.turn_is in cc in
-      rw x.get_is
-      (rw same at (advances m f a manager runtime hooks timeouts first most core core' gets out counted well n now all.0 x.after x.came_to x.made (here ∙ ap Some all.1.0) x.makes x.advances x.timeouts))
-
-  -- none, where the party was cancelled: nothing has changed
-  pub not_turned : turn ≡ None → (slice_get gets n ≡ Some None) × (set gets n get' ≡ gets) × (core' ≡ core)
-  not_turned is =
-      let all = no_turn core_desk (may m f a manager) runtime hooks now core core' get get' turn is advanced in
-      let none : slice_get gets n ≡ Some None = here ∙ ap Some all.0 in
-      (none, rw all.1 (set-same gets n None none), all.2)
-
--- an advance of a get over a core is one over the desk machine
-pub advances_at_desk : {V E C R S F A : Type 0} (may : May V E C R S F A) (runtime : Option Runtime) (hooks : HookLists F A) (now : Moment) (get : Option (Getting V C R S)) (core : CoreState V)
-    (get' : Option (Getting V C R S)) (core' : CoreState V) (turn : Option (Turn V E)) → AdvancesGet own_desk may runtime hooks now get core get' core' turn → AdvancesGet core_desk may runtime hooks now get core.desk get' core'.desk turn
-advances_at_desk may runtime hooks now None core get' core' turn h = (h.0, ap (λ c. c.desk) h.1, h.2)
-advances_at_desk may runtime hooks now (Some g) core get' core' turn h = record {
-  after = h.after;
-  came_to = h.came_to;
-  made = h.made;
-  makes = makes_at_desk core core' h.made h.makes;
-  advances = h.advances;
-  timeouts = h.timeouts;
-  get_is = h.get_is;
-  turn_is = h.turn_is;
-}

@@ -1,28 +1,12 @@
 -- Each move leads from a pool that is well to one that is well and succeeds it, and leaves the others as they were, whatever the
 -- outside answers.
-use Rattle.std.proofs.Common.{◌≡◌, ◌≢◌, ◌⊎◌, ℕ, ◌+◌, ◌<◌, ◌≤◌, List, map, Bool, true, false, ◌&&◌, refl, sym, ap, ◌∙◌, arith, inl, inr}
-use Rattle.std.specs.Prelude.{◌==◌, Option, Some, None, slice_get}
-use Rattle.std.proofs.lemmas.Bool.{cases_Bool, and_parts, eqb-true}
-use Rattle.std.proofs.lemmas.Bool.Decides.{eqb_tells}
-use Rattle.std.proofs.lemmas.List.{nil_from_length}
-use Rattle.deadpool_parts.specs.Numbers.{has_number}
-use Rattle.deadpool_parts.specs.Program.{Always}
-use Rattle.deadpool_parts.specs.declared.config.QueueMode.{QueueMode}
-use Rattle.deadpool_parts.specs.declared.config.Timeouts.{Timeouts}
-use Rattle.deadpool_parts.specs.declared.moment.Runtime.{Runtime}
-use Rattle.deadpool_managed.specs.HookLists.{HookLists}
-use Rattle.deadpool.specs.Pool.{Pool, Party, opened}
-use Rattle.deadpool.specs.Moves.{moved}
-use Rattle.deadpool.specs.Laws.{IsLawful, is_queued}
-use Rattle.deadpool.specs.RunLaws.{numbers, IsNumbered, IsWell, CountsOn, Succeeds, sets_limit, named, may_leave, OthersStayInPool, OthersStayQueued, OthersStand, KeepsFloor}
-use Rattle.deadpool_managed.specs.declared.slot.Slot.{Slot}
-use Rattle.deadpool.specs.declared.replay.moves.Move.{Move}
-use Rattle.deadpool.specs.declared.replay.moves.Reply.{Reply}
-use Rattle.deadpool_parts.proofs.Counts.{one_if}
+use Rattle.deadpool.proofs.Basics.{◌≡◌, ◌≢◌, ◌⊎◌, ℕ, ◌+◌, ◌<◌, ◌≤◌, List, map, Bool, true, false, ◌&&◌, refl, sym, ap, ◌∙◌, arith, inl, inr, ◌==◌, Option, Some, None, slice_get, cases_Bool, and_parts, eqb-true, eqb_tells, nil_from_length, has_number, Always, one_if}
+use Rattle.deadpool.proofs.Words.{WithinReach, reach, QueueMode, Timeouts, Runtime, HookLists, Pool, Party, opened, moved, IsLawful, is_queued, numbers, IsNumbered, IsWell, CountsOn, Succeeds, sets_limit, named, may_leave, OthersStayQueued, OthersStand, Slot, Move, Reply}
 use Rattle.deadpool.proofs.NumberCounts.{times, times-none, times-some, times-once, once-times, held, has_number-held}
-use Rattle.deadpool.proofs.Lawful.{Always-more, Always-both, LawfulAfter, opened_lawful, moved_lawful}
-use Rattle.deadpool.proofs.Passes.{Passes, count, times-numbers}
-use Rattle.deadpool.proofs.PassesMoves.{moved_passes}
+use Rattle.deadpool.proofs.Computations.{Always-more}
+use Rattle.deadpool.proofs.QueuesAndPlaces.{Follows-lawful, Follows-reach}
+use Rattle.deadpool.proofs.NumbersAndOrder.{Passes, count, times-numbers}
+use Rattle.deadpool.proofs.AllMoves.{Moved, moved_has}
 
 -- a test that counts holds
 one_true : (b : Bool) → 1 ≤ one_if b → b ≡ true
@@ -33,19 +17,14 @@ module _ {V C R S F A : Type 0} (sets : Bool) (name : Option ℕ) (leaving : Lis
   -- a number that comes is the next one
   new_is_next : (n : ℕ) → has_number n (numbers q) ≡ true → has_number n (numbers p) ≡ false → (n ≡ p.next) × (q.next ≡ p.next + 1)
   new_is_next n there before =
-      let some = times-some n (numbers q) there in
       let none = times-none n (numbers p) before in
       let now = times-numbers n q in
       let then = times-numbers n p in
-      let few = s.few n in
-      let parts = and_parts s.grows (p.next == n) (one_true (s.grows && (p.next == n)) (omega (arith, some, none, now, then, few))) in
+      let parts = and_parts s.grows (p.next == n) (one_true (s.grows && (p.next == n)) (omega (arith, times-some n (numbers q) there, none, now, then, s.few n))) in
       (sym (eqb-true p.next n parts.1), s.next ∙ ap (λ b. p.next + one_if b) parts.0)
 
-  -- no number stands twice
   at_most_one : (n : ℕ) → times n (numbers q) ≤ 1
   at_most_one n =
-      let once = times-once n (numbers p) k.once in
-      let now = times-numbers n q in
       let then = times-numbers n p in
       let few = s.few n in
       elim (cases_Bool (s.grows && (p.next == n))) [
@@ -54,22 +33,19 @@ module _ {V C R S F A : Type 0} (sets : Bool) (name : Option ℕ) (leaving : Lis
             let one : one_if (s.grows && (p.next == n)) ≡ 1 = ap one_if new in
             elim (cases_Bool (has_number n (numbers p))) [
               | inl there ↦ let within = k.given n there in absurd (omega (arith, within, same))
-              | inr gone ↦ let none = times-none n (numbers p) gone in omega (arith, none, now, then, few, one)
+              | inr gone ↦ let none = times-none n (numbers p) gone in omega (arith, none, times-numbers n q, then, few, one)
             ]
-        | inr old ↦ let zero : one_if (s.grows && (p.next == n)) ≡ 0 = ap one_if old in omega (arith, once, now, then, few, zero)
+        | inr old ↦ let zero : one_if (s.grows && (p.next == n)) ≡ 0 = ap one_if old in omega (arith, times-once n (numbers p) k.once, times-numbers n q, then, few, zero)
       ]
 
   -- only numbers that were given stand there
   all_given : (n : ℕ) → has_number n (numbers q) ≡ true → (q.first ≤ n) × (n < q.next)
   all_given n there =
-      let first = s.first in
-      let next = s.next in
       elim (cases_Bool (has_number n (numbers p))) [
-        | inl before ↦ let within = k.given n before in (omega (arith, within, first), omega (arith, within, next))
-        | inr gone ↦ let new = new_is_next n there gone in let rising = k.rising in (omega (arith, new, first, rising), omega (arith, new))
+        | inl before ↦ let within = k.given n before in (omega (arith, within, s.first), omega (arith, within, s.next))
+        | inr gone ↦ let new = new_is_next n there gone in let rising = k.rising in (omega (arith, new, s.first, rising), omega (arith, new))
       ]
 
-  -- all of it
   numbered : IsNumbered q
   numbered = let first = s.first in let next = s.next in let rising = k.rising in record { once = once-times (numbers q) at_most_one; given = all_given; rising = omega (arith, first, next, rising) }
 
@@ -84,7 +60,7 @@ is_name (Some k) n = elim (eqb_tells k n) [ inl same ↦ inl (ap Some same.1) | 
 
 module _ {V C R S F A : Type 0} where
   -- where the others are as they were, those that were queued are
-  others_stay_queued : (m : Move V) (p q : Pool V C R S F A) → IsLawful p → IsLawful q → OthersStand m p q → OthersStayQueued m p q
+  pub others_stay_queued : (m : Move V) (p q : Pool V C R S F A) → IsLawful p → IsLawful q → OthersStand m p q → OthersStayQueued m p q
   others_stay_queued m p q l k others n there gone =
       elim (is_name (named m) n) [
         | inl this ↦ this
@@ -101,15 +77,10 @@ module _ {V C R S F A : Type 0} where
           let same : slice_get q.parties n ≡ slice_get p.parties n = others n party other e ∙ sym e in cc
 
   -- where no more leave than some of these, another's number stays
-  others_stay : (leaving : List (Slot V)) (p q : Pool V C R S F A) → ((n : ℕ) → count n p ≤ count n q + held n leaving) → (n : ℕ) → has_number n (numbers p) ≡ true → has_number n (numbers q) ≡ false
+  pub others_stay : (leaving : List (Slot V)) (p q : Pool V C R S F A) → ((n : ℕ) → count n p ≤ count n q + held n leaving) → (n : ℕ) → has_number n (numbers p) ≡ true → has_number n (numbers q) ≡ false
       → has_number n (map (λ slot. slot.number) leaving) ≡ true
   others_stay leaving p q stay n there gone =
-      let some = times-some n (numbers p) there in
-      let none = times-none n (numbers q) gone in
-      let then = times-numbers n p in
-      let now = times-numbers n q in
-      let all = stay n in
-      has_number-held n leaving (omega (arith, some, none, then, now, all))
+      has_number-held n leaving (omega (arith, times-some n (numbers p) there, times-none n (numbers q) gone, times-numbers n p, times-numbers n q, stay n))
 
   -- a step that has so much leads from a pool that is well to one that is well and succeeds it
   passes_well : (sets : Bool) (name : Option ℕ) (leaving : List (Slot V)) (p q : Pool V C R S F A) → IsWell p → IsLawful q → Passes sets name leaving p q → IsWell q × Succeeds p q
@@ -124,52 +95,26 @@ module _ {V C R S F A : Type 0} where
         record { counted = counts_on sets name leaving p q w.numbered s; queued = s.order },
       )
 
-  -- a new pool is well
   pub opened_well : (limit : ℕ) (mode : QueueMode) (runtime : Option Runtime) (hooks : HookLists F A) (timeouts : Timeouts) (first most floor : ℕ)
       → IsWell (opened {V = V} {C = C} {R = R} {S = S} limit mode runtime hooks timeouts first most floor)
   opened_well limit mode runtime hooks timeouts first most floor = record {
-    lawful = opened_lawful limit mode runtime hooks timeouts first most floor;
+    lawful = record { once = tt; marks = λ n. refl; nobody_waits = λ opens free. refl };
     few_idle = omega arith;
     closed = λ shut. cc;
     numbered = record { once = tt; given = λ n h. cc; rising = omega arith };
   }
 
 module _ {V E C R S F A : Type 0} where
-  -- the pool after a step is well, and succeeds p
+  -- the pool after a step is well, succeeds p, and is within its reach
   abbrev pub WellAfter : Pool V C R S F A → Reply V E × Pool V C R S F A → Type 0
-  WellAfter p x = IsWell x.1 × Succeeds p x.1
+  WellAfter p x = IsWell x.1 × Succeeds p x.1 × WithinReach p x.1
 
-  -- the step of a move, to a lawful pool
-  abbrev StepsTo : Move V → Pool V C R S F A → Reply V E × Pool V C R S F A → Type 0
-  StepsTo m p x = IsLawful x.1 × Passes (sets_limit m) (named m) (may_leave m p) p x.1
+  -- what a move has leads from a pool that is well to such a one
+  pub well_after : (m : Move V) (p : Pool V C R S F A) (x : Reply V E × Pool V C R S F A) → IsWell p → Moved p m x → WellAfter p x
+  well_after m p x w h =
+      let all = passes_well (sets_limit m) (named m) (may_leave m p) p x.1 w (Follows-lawful (reach p) x.1 h.0) h.1 in (all.0, all.1, Follows-reach (reach p) x.1 h.0)
 
-  -- what follows for every move, whatever is answered
-  follows_well : (P : Reply V E × Pool V C R S F A → Type 0) (m : Move V) (p : Pool V C R S F A) → IsLawful p → ((x : Reply V E × Pool V C R S F A) → StepsTo m p x → P x) → Always P (moved m p)
-  follows_well P m p l implies =
-      Always-more (StepsTo m p) P implies (moved m p)
-      (Always-both LawfulAfter (λ (x : Reply V E × Pool V C R S F A). Passes (sets_limit m) (named m) (may_leave m p) p x.1) (moved m p) (moved_lawful E m p l) (moved_passes E p m l.marks))
-
-module _ {V C R S F A : Type 0} (E : Type 0) (m : Move V) (p : Pool V C R S F A) where
+module _ {V C R S F A : Type 0} (E : Type 0) where
   -- every move
-  pub moved_well : IsWell p → Always (WellAfter {E = E} p) (moved m p)
-  moved_well w = follows_well (WellAfter p) m p w.lawful (λ x h. passes_well (sets_limit m) (named m) (may_leave m p) p x.1 w h.0 h.1)
-
-  -- the limit is as it was, unless the move may set one
-  pub moved_limit : IsLawful p → sets_limit m ≡ false → Always (λ x. x.1.limit ≡ p.limit) (moved {E = E} m p)
-  moved_limit l same = follows_well (λ (x : Reply V E × Pool V C R S F A). x.1.limit ≡ p.limit) m p l (λ x h. h.1.limit same)
-
-  -- how many objects are to stay idle is as it was
-  pub moved_floor : IsLawful p → Always (λ x. KeepsFloor m p x.1) (moved {E = E} m p)
-  moved_floor l = follows_well (λ (x : Reply V E × Pool V C R S F A). KeepsFloor m p x.1) m p l (λ x h. h.1.floor)
-
-  -- nobody but the party that the move names leaves the queue
-  pub moved_queue : IsLawful p → Always (λ x. OthersStayQueued m p x.1) (moved {E = E} m p)
-  moved_queue l = follows_well (λ (x : Reply V E × Pool V C R S F A). OthersStayQueued m p x.1) m p l (λ x h. others_stay_queued m p x.1 l h.0 h.1.others)
-
-  -- and every other party is as it was
-  pub moved_others : IsLawful p → Always (λ x. OthersStand m p x.1) (moved {E = E} m p)
-  moved_others l = follows_well (λ (x : Reply V E × Pool V C R S F A). OthersStand m p x.1) m p l (λ x h. h.1.others)
-
-  -- the objects that stay are all but those that the move may take
-  pub moved_numbers : IsLawful p → Always (λ x. OthersStayInPool m p x.1) (moved {E = E} m p)
-  moved_numbers l = follows_well (λ (x : Reply V E × Pool V C R S F A). OthersStayInPool m p x.1) m p l (λ x h. others_stay (may_leave m p) p x.1 h.1.stay)
+  pub moved_well : (m : Move V) (p : Pool V C R S F A) → IsWell p → Always (WellAfter {E = E} p) (moved m p)
+  moved_well m p w = Always-more (Moved p m) (WellAfter p) (λ x h. well_after m p x w h) (moved m p) (moved_has E p w.lawful m)

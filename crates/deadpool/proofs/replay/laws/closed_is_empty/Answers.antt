@@ -1,5 +1,4 @@
-use Rattle.deadpool_managed.specs.Outside.{may}
-use Rattle.deadpool.specs.RunLaws.{IsEmptyIfClosed}
+use Rattle.deadpool.proofs.Words.{may, IsEmptyIfClosed}
 use Rattle.deadpool.proofs.RunsWell.{each_state}
 use Rattle.deadpool.proofs.replay.laws.closed_is_empty.Goals as goal
 

@@ -1,5 +1,4 @@
-use Rattle.deadpool_managed.specs.Outside.{may}
-use Rattle.deadpool.specs.RunLaws.{HasFewIdle}
+use Rattle.deadpool.proofs.Words.{may, HasFewIdle}
 use Rattle.deadpool.proofs.RunsWell.{each_state}
 use Rattle.deadpool.proofs.replay.laws.idle_within_limit.Goals as goal
 

@@ -1,5 +1,4 @@
-use Rattle.deadpool_managed.specs.Outside.{may}
-use Rattle.deadpool.specs.RunLaws.{IsNumbered}
+use Rattle.deadpool.proofs.Words.{may, IsNumbered}
 use Rattle.deadpool.proofs.RunsWell.{each_state}
 use Rattle.deadpool.proofs.replay.laws.numbers_stand_once.Goals as goal
 

@@ -1,5 +1,4 @@
-use Rattle.deadpool_managed.specs.Outside.{may}
-use Rattle.deadpool.specs.RunLaws.{IsListedOnce}
+use Rattle.deadpool.proofs.Words.{may, IsListedOnce}
 use Rattle.deadpool.proofs.OneList.{listed_once}
 use Rattle.deadpool.proofs.RunsWell.{each_state}
 use Rattle.deadpool.proofs.replay.laws.party_in_one_list.Goals as goal

@@ -1,5 +1,4 @@
-use Rattle.deadpool_managed.specs.Outside.{may}
-use Rattle.deadpool.specs.Laws.{MarksQueued}
+use Rattle.deadpool.proofs.Words.{may, MarksQueued}
 use Rattle.deadpool.proofs.RunsWell.{each_state}
 use Rattle.deadpool.proofs.replay.laws.queue_has_the_queued.Goals as goal
 

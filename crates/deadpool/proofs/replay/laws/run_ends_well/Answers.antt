@@ -1,4 +1,4 @@
-use Rattle.deadpool_managed.specs.Outside.{may}
+use Rattle.deadpool.proofs.Words.{may}
 use Rattle.deadpool.proofs.RunsWell.{ends_well}
 use Rattle.deadpool.proofs.replay.laws.run_ends_well.Goals as goal
 

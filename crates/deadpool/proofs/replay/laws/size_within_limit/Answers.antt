@@ -1,4 +1,4 @@
-use Rattle.deadpool_managed.specs.Outside.{may}
+use Rattle.deadpool.proofs.Words.{may}
 use Rattle.deadpool.proofs.RunsWell.{stays_within}
 use Rattle.deadpool.proofs.replay.laws.size_within_limit.Goals as goal
 

@@ -1,4 +1,4 @@
-use Rattle.std.proofs.Common.{refl}
+use Rattle.deadpool.proofs.Basics.{refl}
 use Rattle.deadpool.proofs.replay.trial.advance_get.Goals as goal
 
 pub returns-in-Some-clause-advanced : goal.returns-in-Some-clause-advanced

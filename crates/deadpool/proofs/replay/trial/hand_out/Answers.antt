@@ -1,6 +1,5 @@
-use Rattle.std.proofs.Common.{◌≡◌, ◌≤◌, length, vec_len, vec_capacity, arith, rules}
-use Rattle.deadpool.specs.Steps.{with_slot, slot_number}
-use Rattle.deadpool_parts.proofs.Numbered.{length-with_numbered}
+use Rattle.deadpool.proofs.Basics.{◌≡◌, ◌≤◌, length, vec_len, vec_capacity, arith, rules, length-with_numbered}
+use Rattle.deadpool.proofs.Words.{with_slot, slot_number}
 use Rattle.deadpool.proofs.replay.trial.hand_out.Goals as goal
 
 pub put_in-requires : goal.put_in-requires

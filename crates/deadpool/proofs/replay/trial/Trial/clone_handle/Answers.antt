@@ -1,20 +1,18 @@
-use Rattle.deadpool_managed.specs.Outside.{may}
+use Rattle.deadpool.proofs.Words.{may}
 use Rattle.deadpool.specs.declared.replay.moves.Move.TheVariants as move
 use Rattle.deadpool.proofs.TrialSteps.{leads_to_well}
-use Rattle.deadpool.proofs.TrialOwnSteps.{cloned_handle}
+use Rattle.deadpool.proofs.OwnerSteps.{cloned_handle}
+use Rattle.deadpool.proofs.Fixed.{fixed_as}
 use Rattle.deadpool.proofs.replay.trial.Trial.clone_handle.Goals as goal
 
 pub invariant_of-self : goal.invariant_of-self
 invariant_of-self g c =
     let f = c.self.inside in
-    let e = f.environment in
-    let all = cloned_handle (may g.M.Manager g.F.SyncHook g.A.AsyncHook e.manager) (λ found. tt) e.runtime e.hooks f.timeouts f.first f.most_parties f.core.desk c.clone_handle-reply.new.self.desk f.parties.items f.out.items c.self.invariant.counted c.clone_handle-reply.result c.after_handle.result c.clone_handle-reply.ensures.0 c.after_handle.ensures in
-    let led = leads_to_well g.M.Manager g.F.SyncHook g.A.AsyncHook e.manager e.runtime e.hooks f.timeouts f.first f.most_parties move.Clone _ _ _ c.self.invariant.well all.0 in
-    record { counted = all.1; well = led; parties = c.self.invariant.parties; seats = c.self.invariant.seats; hands = c.self.invariant.hands }
+    let all = cloned_handle (may g.M.Manager g.F.SyncHook g.A.AsyncHook f.environment.manager) (λ found. tt) (fixed_as f.environment.runtime f.environment.hooks f.timeouts f.first f.most_parties) f.core.desk c.clone_handle-reply.new.self.desk f.parties.items f.out.items c.self.invariant.counted c.clone_handle-reply.result c.after_handle.result c.clone_handle-reply.ensures.0 c.after_handle.ensures in
+    record { counted = all.1; well = leads_to_well g.M.Manager g.F.SyncHook g.A.AsyncHook f.environment.manager move.Clone _ _ _ c.self.invariant.well all.0; parties = c.self.invariant.parties; seats = c.self.invariant.seats; hands = c.self.invariant.hands }
 
 pub returns-clause-made : goal.returns-clause-made
 returns-clause-made g c =
     let f = c.self.inside in
-    let e = f.environment in
-    let all = cloned_handle (may g.M.Manager g.F.SyncHook g.A.AsyncHook e.manager) (λ found. tt) e.runtime e.hooks f.timeouts f.first f.most_parties f.core.desk c.clone_handle-reply.new.self.desk f.parties.items f.out.items c.self.invariant.counted c.clone_handle-reply.result c.after_handle.result c.clone_handle-reply.ensures.0 c.after_handle.ensures in
+    let all = cloned_handle (may g.M.Manager g.F.SyncHook g.A.AsyncHook f.environment.manager) (λ found. tt) (fixed_as f.environment.runtime f.environment.hooks f.timeouts f.first f.most_parties) f.core.desk c.clone_handle-reply.new.self.desk f.parties.items f.out.items c.self.invariant.counted c.clone_handle-reply.result c.after_handle.result c.clone_handle-reply.ensures.0 c.after_handle.ensures in
     rw (← c.self.view_is) all.0

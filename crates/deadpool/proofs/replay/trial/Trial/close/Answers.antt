@@ -1,22 +1,20 @@
-use Rattle.deadpool_managed.specs.Outside.{may}
+use Rattle.deadpool.proofs.Words.{may}
 use Rattle.deadpool.specs.declared.replay.moves.Move.TheVariants as move
 use Rattle.deadpool.proofs.TrialSteps.{leads_to_well, some_handle}
-use Rattle.deadpool.proofs.TrialOwnSteps.{closed_all}
+use Rattle.deadpool.proofs.OwnerSteps.{closed_all}
+use Rattle.deadpool.proofs.Fixed.{fixed_as}
 use Rattle.deadpool.proofs.replay.trial.Trial.close.Goals as goal
 
 pub invariant_of-self : goal.invariant_of-self
 invariant_of-self g c =
     let f = c.self.inside in
-    let e = f.environment in
     let some = some_handle c.has_handle.result f.core.desk.handles c.has_handle.ensures c.if-not-has_handle.false in
-    let all = closed_all (may g.M.Manager g.F.SyncHook g.A.AsyncHook e.manager) (λ found. tt) e.runtime e.hooks f.timeouts f.first f.most_parties f.core.desk c.close.new.self.desk f.parties.items f.out.items c.self.invariant.counted some c.close.ensures.0 in
-    let led = leads_to_well g.M.Manager g.F.SyncHook g.A.AsyncHook e.manager e.runtime e.hooks f.timeouts f.first f.most_parties move.Close _ _ _ c.self.invariant.well all.0 in
-    record { counted = all.1; well = led; parties = c.self.invariant.parties; seats = c.self.invariant.seats; hands = c.self.invariant.hands }
+    let all = closed_all (may g.M.Manager g.F.SyncHook g.A.AsyncHook f.environment.manager) (λ found. tt) (fixed_as f.environment.runtime f.environment.hooks f.timeouts f.first f.most_parties) f.core.desk c.close.new.self.desk f.parties.items f.out.items c.self.invariant.counted some c.close.ensures.0 in
+    record { counted = all.1; well = leads_to_well g.M.Manager g.F.SyncHook g.A.AsyncHook f.environment.manager move.Close _ _ _ c.self.invariant.well all.0; parties = c.self.invariant.parties; seats = c.self.invariant.seats; hands = c.self.invariant.hands }
 
 pub returns-clause-made : goal.returns-clause-made
 returns-clause-made g c =
     let f = c.self.inside in
-    let e = f.environment in
     let some = some_handle c.has_handle.result f.core.desk.handles c.has_handle.ensures c.if-not-has_handle.false in
-    let all = closed_all (may g.M.Manager g.F.SyncHook g.A.AsyncHook e.manager) (λ found. tt) e.runtime e.hooks f.timeouts f.first f.most_parties f.core.desk c.close.new.self.desk f.parties.items f.out.items c.self.invariant.counted some c.close.ensures.0 in
+    let all = closed_all (may g.M.Manager g.F.SyncHook g.A.AsyncHook f.environment.manager) (λ found. tt) (fixed_as f.environment.runtime f.environment.hooks f.timeouts f.first f.most_parties) f.core.desk c.close.new.self.desk f.parties.items f.out.items c.self.invariant.counted some c.close.ensures.0 in
     rw (← c.self.view_is) all.0

@@ -1,4 +1,4 @@
-use Rattle.std.proofs.Common.{[], ◌∷◌, refl}
+use Rattle.deadpool.proofs.Basics.{[], ◌∷◌, refl}
 use Rattle.deadpool.proofs.replay.trial.Trial.make.Goals as goal
 
 pub returns-in-Start-clause-made : goal.returns-in-Start-clause-made

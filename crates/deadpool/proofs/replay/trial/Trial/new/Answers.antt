@@ -1,4 +1,4 @@
-use Rattle.std.proofs.Common.{refl, arith}
+use Rattle.deadpool.proofs.Basics.{refl, arith}
 use Rattle.deadpool.proofs.Well.{opened_well}
 use Rattle.deadpool.proofs.replay.trial.Trial.new.Goals as goal
 

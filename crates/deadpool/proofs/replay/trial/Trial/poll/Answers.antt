@@ -1,9 +1,7 @@
-use Rattle.std.proofs.Common.{◌∙◌, [], ◌∷◌, sym, subst, refl}
-use Rattle.deadpool_parts.specs.Program.{Gives}
-use Rattle.deadpool_managed.specs.Outside.{may}
-use Rattle.deadpool.specs.Moves.{moved}
+use Rattle.deadpool.proofs.Basics.{◌∙◌, [], ◌∷◌, sym, subst, refl, Gives}
+use Rattle.deadpool.proofs.Words.{may, moved}
 use Rattle.deadpool.specs.declared.replay.moves.Move.TheVariants as move
-use Rattle.deadpool.proofs.Turns.{polls_more, polls_last}
+use Rattle.deadpool.proofs.Runs.{polls_more, polls_last}
 use Rattle.deadpool.proofs.replay.trial.Trial.poll.Goals as goal
 
 pub loop-reply-init : goal.loop-reply-init

@@ -1,11 +1,5 @@
-use Rattle.std.proofs.Common.{◌≡◌, List}
-use Rattle.futures.specs.Task.{Keeps}
-use Rattle.deadpool_parts.specs.Runs.{last_of}
-use Rattle.deadpool_managed.specs.Outside.{may}
-use Rattle.deadpool.specs.Pool.{Pool}
-use Rattle.deadpool.specs.Moves.{Polls}
-use Rattle.deadpool.specs.Rank.{rank_at}
-use Rattle.deadpool.specs.declared.replay.moves.Reply.{Reply}
+use Rattle.deadpool.proofs.Basics.{◌≡◌, List, last_of}
+use Rattle.deadpool.proofs.Words.{Keeps, may, Pool, Polls, rank_at, Reply}
 use Rattle.deadpool.proofs.replay.trial.Trial.poll.Given as goal
 
 -- what polls the party from here polls it from the beginning

@@ -1,13 +1,10 @@
-use Rattle.std.proofs.Common.{rules, ◌≡◌, ◌==◌, Some, None, length, vec_len, arith, refl}
-use Rattle.std.specs.List.{position}
-use Rattle.deadpool_parts.proofs.Places.{place_within, found_at_place, nothing_found}
-use Rattle.deadpool.specs.Steps.{with_put}
-use Rattle.deadpool.specs.Image.{image}
+use Rattle.deadpool.proofs.Basics.{rules, ◌≡◌, ◌==◌, Some, None, length, vec_len, arith, refl, position, place_within, found_at_place, nothing_found}
+use Rattle.deadpool.proofs.Words.{with_put}
 use Rattle.deadpool.specs.declared.replay.moves.Move.TheVariants as move
 use Rattle.deadpool.specs.declared.replay.moves.Reply.TheVariants as reply
-use Rattle.deadpool.proofs.SlotLists.{put_at_place}
-use Rattle.deadpool.proofs.Puts.{put_counted}
+use Rattle.deadpool.proofs.OutObjects.{put_at_place, put_counted}
 use Rattle.deadpool.proofs.TrialSteps.{leads_to_well}
+use Rattle.deadpool.proofs.Fixed.{fixed_as, image_of}
 use Rattle.deadpool.proofs.replay.trial.Trial.put.Goals as goal
 
 pub index_mut-requires : goal.index_mut-requires
@@ -23,17 +20,10 @@ invariant_of-self g c =
     let place : position (λ s. s.number == c.args.number) f.out.items ≡ Some c.in-Some.at = rw c.index_of.ensures at c.in-Some.is in
     let put = put_at_place c.args.number c.args.value f.out.items c.in-Some.at c.index_mut.result.now place c.index_mut.ensures.value in
     let found = found_at_place (λ s. s.number == c.args.number) f.out.items c.in-Some.at c.index_mut.result.now place c.index_mut.ensures.value in
-    let e = f.environment in
-    let pool = image e.runtime e.hooks f.timeouts f.first f.most_parties f.core.desk f.parties.items f.out.items in
-    let led = leads_to_well g.M.Manager g.F.SyncHook g.A.AsyncHook e.manager e.runtime e.hooks f.timeouts f.first f.most_parties (move.Put c.args.number c.args.value) pool
+    let pool = image_of (fixed_as f.environment.runtime f.environment.hooks f.timeouts f.first f.most_parties) f.core.desk f.parties.items f.out.items in
+    let led = leads_to_well g.M.Manager g.F.SyncHook g.A.AsyncHook f.environment.manager (move.Put c.args.number c.args.value) pool
     (record pool { out = with_put c.args.number c.args.value f.out.items }) reply.Done c.self.invariant.well (rw found refl) in
-    record {
-      counted = rw put (put_counted f.core.desk f.parties.items f.out.items c.args.number c.args.value c.self.invariant.counted);
-      well = rw put led;
-      parties = c.self.invariant.parties;
-      seats = c.self.invariant.seats;
-      hands = c.self.invariant.hands;
-    }
+    record { counted = rw put (put_counted f.core.desk f.parties.items f.out.items c.args.number c.args.value c.self.invariant.counted); well = rw put led; parties = c.self.invariant.parties; seats = c.self.invariant.seats; hands = c.self.invariant.hands }
 
 pub returns-in-None-clause-made : goal.returns-in-None-clause-made
 returns-in-None-clause-made g c =

@@ -1,50 +1,44 @@
-use Rattle.std.proofs.Common.{◌≡◌, ◌∙◌, refl}
-use Rattle.std.specs.Prelude.{⊤}
-use Rattle.deadpool_parts.specs.Numbers.{has_number}
-use Rattle.deadpool_managed.specs.Answers.{LeavesOrKeeps}
-use Rattle.deadpool_managed.specs.Outside.{may}
-use Rattle.deadpool_managed.specs.declared.retain.Retainer.{Ghosts as RetainerOf}
-use Rattle.deadpool.specs.declared.replay.trial.Keeping.{Keeping}
+use Rattle.deadpool.proofs.Basics.{◌≡◌, ◌∙◌, refl, ⊤, has_number}
+use Rattle.deadpool.proofs.Words.{ManagerOf, LeavesOrKeeps, may, RetainerOf, Keeping}
 use Rattle.deadpool.specs.declared.replay.moves.Move.TheVariants as move
 use Rattle.deadpool.proofs.TrialSteps.{leads_to_well, some_handle}
 use Rattle.deadpool.proofs.TrialRetains.{retained_ok, retained_err}
-use Rattle.deadpool.proofs.replay.trial.Trial.retain.Goals as goal
+use Rattle.deadpool.proofs.Fixed.{fixed_as}
 use Rattle.deadpool.proofs.replay.trial.Trial.retain.Goals.{in-Ok, in-Err}
+use Rattle.deadpool.proofs.replay.trial.Trial.retain.Goals as goal
+
+-- what a retain is told: an object stays that has one of the numbers, and another is detached
+abbrev keeps_as : {M V E C R : Type 0} → ManagerOf M V E C R → RetainerOf (Keeping M) V
+keeps_as m = record {
+  can_call = λ q. ⊤;
+  may_keep = λ q number value metrics answer left. (answer ≡ has_number number q.kept.now) × (left ≡ q);
+  may_detach = λ q value left after. LeavesOrKeeps (m.may_detach q.manager.now) value left × (after ≡ q);
+}
 
 pub invariant_of-self : goal.invariant_of-self
 invariant_of-self g c =
     let f = c.self.inside in
-    let e = f.environment in
-    let asks : RetainerOf (Keeping g.row.M.Denot) g.row.M-Type.Denot = record {
-      can_call = λ q. ⊤;
-      may_keep = λ q number value metrics answer left. (answer ≡ has_number number q.kept.now) × (left ≡ q);
-      may_detach = λ q value left after. LeavesOrKeeps (g.M.Manager.may_detach q.manager.now) value left × (after ≡ q);
-    } in
+    let fixed = fixed_as f.environment.runtime f.environment.hooks f.timeouts f.first f.most_parties in
     let some = some_handle c.has_handle.result f.core.desk.handles c.has_handle.ensures c.if-not-has_handle.false in
     elim c.match-retain.branch [
       | in-Ok w ↦
-          let all = retained_ok (may g.M.Manager g.F.SyncHook g.A.AsyncHook e.manager) (λ found. tt) asks c.args.kept.now.items (λ q. q ≡ _) (λ q slot answer left is a. (rw (is, c.as_slice.ensures.value) at a.0, a.1 ∙ is)) (λ q value left after is a. (rw is at a.0, a.1 ∙ is)) e.runtime e.hooks f.timeouts f.first f.most_parties f.core.desk c.retain.new.self.desk f.parties.items f.out.items c.self.invariant.counted some _ c.retain.new.retainer refl w.in-Ok.retained (rw w.in-Ok.is at c.retain.ensures.retained).0 in
-          record { counted = all.1; well = leads_to_well g.M.Manager g.F.SyncHook g.A.AsyncHook e.manager e.runtime e.hooks f.timeouts f.first f.most_parties (move.Retain c.args.kept.now) _ _ _ c.self.invariant.well all.0; parties = c.self.invariant.parties; seats = c.self.invariant.seats; hands = c.self.invariant.hands }
+          let all = retained_ok (may g.M.Manager g.F.SyncHook g.A.AsyncHook f.environment.manager) (λ found. tt) (keeps_as g.M.Manager) c.args.kept.now.items (λ q. q ≡ _) (λ q slot answer left is a. (rw (is, c.as_slice.ensures.value) at a.0, a.1 ∙ is)) (λ q value left after is a. (rw is at a.0, a.1 ∙ is)) fixed f.core.desk c.retain.new.self.desk f.parties.items f.out.items c.self.invariant.counted some _ c.retain.new.retainer refl w.in-Ok.retained (rw w.in-Ok.is at c.retain.ensures.retained).0 in
+          record { counted = all.1; well = leads_to_well g.M.Manager g.F.SyncHook g.A.AsyncHook f.environment.manager (move.Retain c.args.kept.now) _ _ _ c.self.invariant.well all.0; parties = c.self.invariant.parties; seats = c.self.invariant.seats; hands = c.self.invariant.hands }
       | in-Err w ↦
-          let all = retained_err (may g.M.Manager g.F.SyncHook g.A.AsyncHook e.manager) (λ found. tt) asks c.args.kept.now.items (λ q. q ≡ _) (λ q slot answer left is a. (rw (is, c.as_slice.ensures.value) at a.0, a.1 ∙ is)) (λ q value left after is a. (rw is at a.0, a.1 ∙ is)) e.runtime e.hooks f.timeouts f.first f.most_parties f.core.desk c.retain.new.self.desk f.parties.items f.out.items c.self.invariant.counted some _ c.retain.new.retainer refl w.in-Err.field-0 (rw w.in-Err.is at c.retain.ensures.retained).0 in
-          record { counted = all.1; well = leads_to_well g.M.Manager g.F.SyncHook g.A.AsyncHook e.manager e.runtime e.hooks f.timeouts f.first f.most_parties (move.Retain c.args.kept.now) _ _ _ c.self.invariant.well all.0; parties = c.self.invariant.parties; seats = c.self.invariant.seats; hands = c.self.invariant.hands }
+          let all = retained_err (may g.M.Manager g.F.SyncHook g.A.AsyncHook f.environment.manager) (λ found. tt) (keeps_as g.M.Manager) c.args.kept.now.items (λ q. q ≡ _) (λ q slot answer left is a. (rw (is, c.as_slice.ensures.value) at a.0, a.1 ∙ is)) (λ q value left after is a. (rw is at a.0, a.1 ∙ is)) fixed f.core.desk c.retain.new.self.desk f.parties.items f.out.items c.self.invariant.counted some _ c.retain.new.retainer refl w.in-Err.field-0 (rw w.in-Err.is at c.retain.ensures.retained).0 in
+          record { counted = all.1; well = leads_to_well g.M.Manager g.F.SyncHook g.A.AsyncHook f.environment.manager (move.Retain c.args.kept.now) _ _ _ c.self.invariant.well all.0; parties = c.self.invariant.parties; seats = c.self.invariant.seats; hands = c.self.invariant.hands }
     ]
 
 pub returns-clause-made : goal.returns-clause-made
 returns-clause-made g c =
     let f = c.self.inside in
-    let e = f.environment in
-    let asks : RetainerOf (Keeping g.row.M.Denot) g.row.M-Type.Denot = record {
-      can_call = λ q. ⊤;
-      may_keep = λ q number value metrics answer left. (answer ≡ has_number number q.kept.now) × (left ≡ q);
-      may_detach = λ q value left after. LeavesOrKeeps (g.M.Manager.may_detach q.manager.now) value left × (after ≡ q);
-    } in
+    let fixed = fixed_as f.environment.runtime f.environment.hooks f.timeouts f.first f.most_parties in
     let some = some_handle c.has_handle.result f.core.desk.handles c.has_handle.ensures c.if-not-has_handle.false in
     elim c.match-retain.branch [
       | in-Ok w ↦
-          let all = retained_ok (may g.M.Manager g.F.SyncHook g.A.AsyncHook e.manager) (λ found. tt) asks c.args.kept.now.items (λ q. q ≡ _) (λ q slot answer left is a. (rw (is, c.as_slice.ensures.value) at a.0, a.1 ∙ is)) (λ q value left after is a. (rw is at a.0, a.1 ∙ is)) e.runtime e.hooks f.timeouts f.first f.most_parties f.core.desk c.retain.new.self.desk f.parties.items f.out.items c.self.invariant.counted some _ c.retain.new.retainer refl w.in-Ok.retained (rw w.in-Ok.is at c.retain.ensures.retained).0 in
+          let all = retained_ok (may g.M.Manager g.F.SyncHook g.A.AsyncHook f.environment.manager) (λ found. tt) (keeps_as g.M.Manager) c.args.kept.now.items (λ q. q ≡ _) (λ q slot answer left is a. (rw (is, c.as_slice.ensures.value) at a.0, a.1 ∙ is)) (λ q value left after is a. (rw is at a.0, a.1 ∙ is)) fixed f.core.desk c.retain.new.self.desk f.parties.items f.out.items c.self.invariant.counted some _ c.retain.new.retainer refl w.in-Ok.retained (rw w.in-Ok.is at c.retain.ensures.retained).0 in
           rw (← c.self.view_is, w.result-is) all.0
       | in-Err w ↦
-          let all = retained_err (may g.M.Manager g.F.SyncHook g.A.AsyncHook e.manager) (λ found. tt) asks c.args.kept.now.items (λ q. q ≡ _) (λ q slot answer left is a. (rw (is, c.as_slice.ensures.value) at a.0, a.1 ∙ is)) (λ q value left after is a. (rw is at a.0, a.1 ∙ is)) e.runtime e.hooks f.timeouts f.first f.most_parties f.core.desk c.retain.new.self.desk f.parties.items f.out.items c.self.invariant.counted some _ c.retain.new.retainer refl w.in-Err.field-0 (rw w.in-Err.is at c.retain.ensures.retained).0 in
+          let all = retained_err (may g.M.Manager g.F.SyncHook g.A.AsyncHook f.environment.manager) (λ found. tt) (keeps_as g.M.Manager) c.args.kept.now.items (λ q. q ≡ _) (λ q slot answer left is a. (rw (is, c.as_slice.ensures.value) at a.0, a.1 ∙ is)) (λ q value left after is a. (rw is at a.0, a.1 ∙ is)) fixed f.core.desk c.retain.new.self.desk f.parties.items f.out.items c.self.invariant.counted some _ c.retain.new.retainer refl w.in-Err.field-0 (rw w.in-Err.is at c.retain.ensures.retained).0 in
           rw (← c.self.view_is, w.result-is) all.0
     ]

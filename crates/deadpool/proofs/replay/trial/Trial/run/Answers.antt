@@ -1,11 +1,7 @@
-use Rattle.std.proofs.Common.{rules, ◌≡◌, [], ◌∷◌, length, vec_len, arith, refl, subst, ◌∙◌, append_assoc, append-nil}
-use Rattle.std.specs.Vec.Iter.{into_iter_items, into_iter_len}
-use Rattle.deadpool_parts.proofs.Lists.{none_left, one_less}
-use Rattle.deadpool.specs.Laws.{IsLawful}
-use Rattle.deadpool_managed.specs.Outside.{may}
-use Rattle.deadpool.specs.Moves.{Makes}
+use Rattle.deadpool.proofs.Basics.{rules, ◌≡◌, [], ◌∷◌, length, vec_len, arith, refl, subst, ◌∙◌, append_assoc, append-nil, into_iter_items, into_iter_len, none_left, one_less}
+use Rattle.deadpool.proofs.Words.{NobodyWaits, WithinReach, IsWell, may, Makes}
 use Rattle.deadpool.proofs.Runs.{runs_more, runs_end}
-use Rattle.deadpool.proofs.RunsLawful.{runs_lawful}
+use Rattle.deadpool.proofs.RunsWell.{each_state, each_step}
 use Rattle.deadpool.proofs.replay.trial.Trial.run.Goals as goal
 
 pub loop-first-init : goal.loop-first-init
@@ -47,9 +43,13 @@ returns-clause-run g c =
     let steps = c.in-None.ensures.steps in
     let ended : into_iter_items l.first-iterator ≡ [] = none_left (into_iter_items l.first-iterator) (into_iter_len l.first-iterator) l.invariant.left steps.0 in
     let ran = rw append-nil at (l.invariant.goes [] [] l.self.pool (runs_end (may g.M.Manager g.F.SyncHook g.A.AsyncHook c.args.self.now.manager) l.self.pool (into_iter_items l.first-iterator) ended)) in
-    let lawful : IsLawful c.args.self.now.pool = rw (← c.self.view_is) c.self.invariant.well.lawful in
-    let laws = runs_lawful (may g.M.Manager g.F.SyncHook g.A.AsyncHook c.args.self.now.manager) c.args.moves.items c.args.self.now.pool l.self.pool ran.0 l.replies.items lawful ran.1 in
-    (ran.0, ran.1, laws.0, laws.1)
+    let well : IsWell c.args.self.now.pool = rw (← c.self.view_is) c.self.invariant.well in
+    let may_answer = may g.M.Manager g.F.SyncHook g.A.AsyncHook c.args.self.now.manager in (
+      ran.0,
+      ran.1,
+      each_state may_answer NobodyWaits (λ q w. w.lawful.nobody_waits) c.args.moves.items c.args.self.now.pool l.self.pool ran.0 l.replies.items well ran.1,
+      each_step may_answer WithinReach (λ q r s. s.1) c.args.moves.items c.args.self.now.pool l.self.pool ran.0 l.replies.items well ran.1,
+    )
 
 pub returns-clause-manager : goal.returns-clause-manager
 returns-clause-manager g c = c.loop-first.invariant.manager

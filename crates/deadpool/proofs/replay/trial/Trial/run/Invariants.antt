@@ -1,10 +1,5 @@
-use Rattle.std.proofs.Common.{◌≡◌, ◌≤◌, List, ◌++◌, length, vec_len, vec_capacity, ◌+◌}
-use Rattle.std.specs.Vec.Iter.{into_iter_items, into_iter_len}
-use Rattle.futures.specs.Task.{Keeps}
-use Rattle.deadpool_managed.specs.Outside.{may}
-use Rattle.deadpool.specs.Pool.{Pool}
-use Rattle.deadpool.specs.Moves.{PoolRuns}
-use Rattle.deadpool.specs.declared.replay.moves.Reply.{Reply}
+use Rattle.deadpool.proofs.Basics.{◌≡◌, ◌≤◌, List, ◌++◌, length, vec_len, vec_capacity, ◌+◌, into_iter_items, into_iter_len}
+use Rattle.deadpool.proofs.Words.{Keeps, may, Pool, PoolRuns, Reply}
 use Rattle.deadpool.proofs.replay.trial.Trial.run.Given as goal
 
 -- what the moves that are left make from here, all the moves make from the beginning

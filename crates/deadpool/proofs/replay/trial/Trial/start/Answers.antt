@@ -1,13 +1,10 @@
-use Rattle.std.proofs.Common.{◌≡◌, nat_lt, true, false, rules, ◌∷◌, [], ◌++◌, Some, length, vec_len, arith, refl, map}
-use Rattle.std.proofs.lemmas.Bool.{lt-ltb, le-ltb}
-use Rattle.std.proofs.lemmas.List.{length-map}
-use Rattle.std.specs.Option.{unwrap_or}
-use Rattle.deadpool.specs.Image.{image, party_of}
-use Rattle.deadpool.specs.Pool.{unpolled}
+use Rattle.deadpool.proofs.Basics.{◌≡◌, nat_lt, true, false, rules, ◌∷◌, [], ◌++◌, Some, length, vec_len, arith, refl, map, lt-ltb, le-ltb, length-map, unwrap_or}
+use Rattle.deadpool.proofs.Words.{party_of, unpolled}
 use Rattle.deadpool.specs.declared.replay.moves.Reply.TheVariants as reply
 use Rattle.deadpool.specs.declared.replay.moves.Move.TheVariants as move
-use Rattle.deadpool.proofs.Starts.{starts, newcomer}
+use Rattle.deadpool.proofs.DeskImage.{starts, newcomer}
 use Rattle.deadpool.proofs.TrialSteps.{no_handle, some_handle, leads_to_well}
+use Rattle.deadpool.proofs.Fixed.{fixed_as, image_of}
 use Rattle.deadpool.proofs.replay.trial.Trial.start.Goals as goal
 
 pub returns-then-not-has_handle-clause-made : goal.returns-then-not-has_handle-clause-made
@@ -20,37 +17,33 @@ returns-then-party-self-clause-made g c =
     let f = c.self.inside in
     let some = some_handle c.has_handle.result f.core.desk.handles c.has_handle.ensures c.if-not-has_handle.false in
     let len : vec_len f.parties ≡ length f.parties.items = search rules in
-    let same = length-map f.parties.items party_of in
-    let full : nat_lt (length (map party_of f.parties.items)) f.most_parties ≡ false = le-ltb _ _ (omega (arith, c.len-party.ensures, len, same, c.if-party-self.true)) in
+    let full : nat_lt (length (map party_of f.parties.items)) f.most_parties ≡ false = le-ltb _ _ (omega (arith, c.len-party.ensures, len, length-map f.parties.items party_of, c.if-party-self.true)) in
     rw (← c.self.view_is) (rw (some, full) refl)
 
 pub returns-clause-made : goal.returns-clause-made
 returns-clause-made g c =
     let f = c.self.inside in
-    let e = f.environment in
     let some = some_handle c.has_handle.result f.core.desk.handles c.has_handle.ensures c.if-not-has_handle.false in
     let len : vec_len f.parties ≡ length f.parties.items = search rules in
-    let same = length-map f.parties.items party_of in
-    let count : c.len-party.result ≡ length (map party_of f.parties.items) = omega (arith, c.len-party.ensures, len, same) in
+    let count : c.len-party.result ≡ length (map party_of f.parties.items) = omega (arith, c.len-party.ensures, len, length-map f.parties.items party_of) in
     let few : nat_lt (length (map party_of f.parties.items)) f.most_parties ≡ true = lt-ltb _ _ (omega (arith, count, c.if-party-self.false)) in
     let items : c.append.new.entries.items ≡ f.parties.items ++ Some (newcomer c.unwrap_or-timeouts.result) ∷ [] = rw c.new.ensures at c.append.ensures.items in
-    let all = starts e.runtime e.hooks f.timeouts f.first f.most_parties f.core.desk f.parties.items f.out.items c.self.invariant.counted c.unwrap_or-timeouts.result in
+    let all = starts (fixed_as f.environment.runtime f.environment.hooks f.timeouts f.first f.most_parties) f.core.desk f.parties.items f.out.items c.self.invariant.counted c.unwrap_or-timeouts.result in
     rw (← c.self.view_is, items) (rw (some, few, count, all.0, c.unwrap_or-timeouts.ensures) refl)
 
 pub invariant_of-self : goal.invariant_of-self
 invariant_of-self g c =
     let f = c.self.inside in
-    let e = f.environment in
+    let fixed = fixed_as f.environment.runtime f.environment.hooks f.timeouts f.first f.most_parties in
     let some = some_handle c.has_handle.result f.core.desk.handles c.has_handle.ensures c.if-not-has_handle.false in
     let len : vec_len f.parties ≡ length f.parties.items = search rules in
-    let same = length-map f.parties.items party_of in
-    let count : c.len-party.result ≡ length (map party_of f.parties.items) = omega (arith, c.len-party.ensures, len, same) in
+    let count : c.len-party.result ≡ length (map party_of f.parties.items) = omega (arith, c.len-party.ensures, len, length-map f.parties.items party_of) in
     let few : nat_lt (length (map party_of f.parties.items)) f.most_parties ≡ true = lt-ltb _ _ (omega (arith, count, c.if-party-self.false)) in
     let items : c.append.new.entries.items ≡ f.parties.items ++ Some (newcomer c.unwrap_or-timeouts.result) ∷ [] = rw c.new.ensures at c.append.ensures.items in
-    let all = starts e.runtime e.hooks f.timeouts f.first f.most_parties f.core.desk f.parties.items f.out.items c.self.invariant.counted c.unwrap_or-timeouts.result in
-    let pool = image e.runtime e.hooks f.timeouts f.first f.most_parties f.core.desk f.parties.items f.out.items in
+    let all = starts fixed f.core.desk f.parties.items f.out.items c.self.invariant.counted c.unwrap_or-timeouts.result in
+    let pool = image_of fixed f.core.desk f.parties.items f.out.items in
     let begun = record pool { parties = pool.parties ++ Some (record { timeouts = unwrap_or c.args.timeouts f.timeouts; standing = unpolled }) ∷ [] } in
-    let led = leads_to_well g.M.Manager g.F.SyncHook g.A.AsyncHook e.manager e.runtime e.hooks f.timeouts f.first f.most_parties (move.Start c.args.timeouts) pool begun
+    let led = leads_to_well g.M.Manager g.F.SyncHook g.A.AsyncHook f.environment.manager (move.Start c.args.timeouts) pool begun
     (reply.Started (length (map party_of f.parties.items))) c.self.invariant.well (rw (some, few) refl) in
     record {
       counted = rw items all.1;

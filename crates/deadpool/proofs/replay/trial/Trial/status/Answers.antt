@@ -1,13 +1,12 @@
-use Rattle.std.proofs.Common.{refl}
-use Rattle.deadpool.proofs.Settles.{counts_of}
-use Rattle.deadpool.proofs.Statuses.{pool_status}
+use Rattle.deadpool.proofs.Basics.{refl}
+use Rattle.deadpool.proofs.DeskImage.{pool_status}
 use Rattle.deadpool.proofs.TrialSteps.{some_handle}
+use Rattle.deadpool.proofs.Fixed.{fixed_as}
 use Rattle.deadpool.proofs.replay.trial.Trial.status.Goals as goal
 
 pub returns-clause-made : goal.returns-clause-made
 returns-clause-made g c =
     let f = c.self.inside in
-    let e = f.environment in
     let some = some_handle c.has_handle.result f.core.desk.handles c.has_handle.ensures c.if-not-has_handle.false in
-    let same = pool_status e.runtime e.hooks f.timeouts f.first f.most_parties f.core.desk f.parties.items f.out.items (counts_of f.core.desk f.parties.items f.out.items c.self.invariant.counted) in
+    let same = pool_status (fixed_as f.environment.runtime f.environment.hooks f.timeouts f.first f.most_parties) f.core.desk f.parties.items f.out.items c.self.invariant.counted in
     rw (← c.self.view_is, c.status.ensures.0.1, c.status.ensures.0.0, some, same) refl

@@ -1,21 +1,7 @@
 -- What each step of a pool has: the limits, the numbers of its objects, the order of its queue, and what stays.
-use Rattle.std.proofs.Common.{◌≡◌, ◌≢◌, ℕ, ◌+◌, ◌≤◌, List, [], ◌∷◌, ◌++◌, Bool, false, not, ◌&&◌, length, set, take, drop, refl, sym, ap, ◌∙◌, arith, Option, Some, None, append_assoc, cond, inl, inr}
-use Rattle.std.specs.Prelude.{slice_get, filter, ◌==◌}
-use Rattle.std.proofs.lemmas.Bool.{cases_Bool, and_parts}
-use Rattle.std.proofs.lemmas.List.{take-append-drop}
-use Rattle.deadpool_parts.specs.Numbers.{has_number, without_number}
-use Rattle.deadpool_parts.specs.Orders.{KeepsOrder}
-use Rattle.deadpool_parts.proofs.Lists.{get-set_other}
-use Rattle.deadpool_parts.proofs.Numbers.{without_number-append, without_number-shorter, has_number-without}
-use Rattle.deadpool_parts.proofs.Orders.{order_same, order_joined}
-use Rattle.deadpool.specs.Pool.{Pool, Party, prepared_by, preparing, grants, settle}
-use Rattle.deadpool.specs.Laws.{queue}
-use Rattle.deadpool.specs.RunLaws.{HasFewIdle, numbers}
-use Rattle.deadpool_managed.specs.declared.slot.Slot.{Slot}
-use Rattle.deadpool_parts.proofs.Counts.{one_if, count-set}
+use Rattle.deadpool.proofs.Basics.{◌≡◌, ◌≢◌, ℕ, ◌+◌, ◌≤◌, List, [], ◌∷◌, ◌++◌, Bool, false, not, ◌&&◌, length, set, take, drop, refl, sym, ap, ◌∙◌, arith, Option, Some, append_assoc, cond, inl, inr, slice_get, filter, ◌==◌, cases_Bool, and_parts, take-append-drop, has_number, without_number, KeepsOrder, get-set_other, without_number-append, without_number-shorter, has_number-without, order_same, order_joined, one_if, count-set, count-append, is_at}
+use Rattle.deadpool.proofs.Words.{Pool, Party, prepared_by, preparing, grants, settle, queue, HasFewIdle, numbers, Slot, slot_number}
 use Rattle.deadpool.proofs.NumberCounts.{times, held, times-map, held-filter_map}
-use Rattle.deadpool_parts.proofs.NumberedCounts.{count-append, is_at}
-use Rattle.deadpool.specs.Steps.{slot_number}
 
 -- two tests, one after the other
 filter-both : (f g : ℕ → Bool) (xs : List ℕ) → filter f (filter g xs) ≡ filter (λ n. g n && f n) xs
@@ -29,14 +15,13 @@ filter-both f g (x ∷ xs) =
 -- in a queue that keeps its order, one party goes
 pub order_left : (n : ℕ) (xs ys zs : List ℕ) → KeepsOrder xs (ys ++ zs) → KeepsOrder xs (without_number n ys ++ without_number n zs)
 order_left n xs ys zs k =
-    let fewer = without_number-shorter n k.joins in
     let few = k.few in
     record {
       stays = λ m. k.stays m && not (m == n);
       joins = without_number n k.joins;
       is = sym (without_number-append n ys zs) ∙ ap (without_number n) k.is ∙ without_number-append n (filter k.stays xs) k.joins
           ∙ ap (λ left. left ++ without_number n k.joins) (filter-both (λ m. not (m == n)) k.stays xs);
-      few = omega (arith, fewer, few);
+      few = omega (arith, without_number-shorter n k.joins, few);
       fresh = λ m h. k.fresh m (and_parts (has_number m k.joins) (not (m == n)) (sym (has_number-without m n k.joins) ∙ h)).0;
     }
 
@@ -57,11 +42,8 @@ module _ {V C R S F A : Type 0} where
   -- the same by the list of all of them
   pub times-numbers : (n : ℕ) (p : Pool V C R S F A) → times n (numbers p) ≡ count n p
   times-numbers n p =
-      let all = times-map n (p.idle ++ preparing p ++ p.out) in
-      let parts = count-append slot_number n (p.idle ++ preparing p) p.out in
       let more = count-append slot_number n p.idle (preparing p) in
-      let middle = held-filter_map n prepared_by p.parties in
-      omega (arith, all, parts, more, middle)
+      omega (arith, times-map n (p.idle ++ preparing p ++ p.out), count-append slot_number n (p.idle ++ preparing p) p.out, more, held-filter_map n prepared_by p.parties)
 
 -- From p a step may lead to q. It sets another limit only where it may, changes no party but the one that it names, and
 -- no objects leave but some of these.
@@ -80,26 +62,35 @@ pub record Passes {V C R S F A : Type 0} (sets : Bool) (name : Option ℕ) (leav
   pub others : (m : ℕ) (party : Option (Party V C R S)) → name ≢ Some m → slice_get p.parties m ≡ Some party → slice_get q.parties m ≡ Some party
 
 module _ {V C R S F A : Type 0} where
-  -- nothing happens
-  pub passes_self : (sets : Bool) (name : Option ℕ) (leaving : List (Slot V)) (p : Pool V C R S F A) → Passes sets name leaving p p
-  passes_self sets name leaving p = record {
-    limit = λ same. refl;
-    few_idle = λ few. few;
-    closed = λ c. c;
+  -- another limit, other handles and other objects
+  pub objects_pass : (sets : Bool) (name : Option ℕ) (limit reserve handles : ℕ) (is_open : Bool) (idle out leaving : List (Slot V)) (p : Pool V C R S F A)
+      → (sets ≡ false → limit ≡ p.limit) → ((p.is_open ≡ false → p.limit ≡ 0) → is_open ≡ false → limit ≡ 0) → (HasFewIdle p → length idle ≤ limit)
+      → ((m : ℕ) → held m idle + held m out ≤ held m p.idle + held m p.out) → ((m : ℕ) → held m p.idle + held m p.out ≤ held m idle + held m out + held m leaving)
+      → Passes sets name leaving p (record p { limit = limit; reserve = reserve; handles = handles; is_open = is_open; idle = idle; out = out })
+  objects_pass sets name limit reserve handles is_open idle out leaving p kept closed few same enough = record {
+    limit = kept;
+    few_idle = few;
+    closed = closed;
     floor = refl;
     first = refl;
     grows = false;
     next = omega arith;
-    few = λ n. omega arith;
-    stay = λ n. omega arith;
+    few = λ m. omega (arith, same m);
+    stay = λ m. omega (arith, enough m);
     order = order_same (queue p);
     others = λ m party other k. k;
   }
 
-  -- those that wait are granted what is free
-  pub settle_passes : (sets : Bool) (name : Option ℕ) (leaving : List (Slot V)) (p q : Pool V C R S F A) → Passes sets name leaving p q → Passes sets name leaving p (settle q)
-  settle_passes sets name leaving p q s =
-      let same : queue (settle q) ≡ queue q = append_assoc q.granted (take (grants q) q.waiting) (drop (grants q) q.waiting) ∙ ap (λ ys. q.granted ++ ys) (take-append-drop (grants q) q.waiting) in
+  pub passes_self : (sets : Bool) (name : Option ℕ) (leaving : List (Slot V)) (p : Pool V C R S F A) → Passes sets name leaving p p
+  passes_self sets name leaving p =
+      objects_pass sets name p.limit p.reserve p.handles p.is_open p.idle p.out leaving p (λ same. refl) (λ c. c) (λ few. few) (λ m. omega arith) (λ m. omega arith)
+
+  -- so many of those that wait are granted a place
+  pub granting_passes : (sets : Bool) (name : Option ℕ) (leaving : List (Slot V)) (n : ℕ) (p q : Pool V C R S F A) → Passes sets name leaving p q
+      → Passes sets name leaving p (record q { granted = q.granted ++ take n q.waiting; waiting = drop n q.waiting })
+  granting_passes sets name leaving n p q s =
+      let same : queue (record q { granted = q.granted ++ take n q.waiting; waiting = drop n q.waiting }) ≡ queue q =
+      append_assoc q.granted (take n q.waiting) (drop n q.waiting) ∙ ap (λ ys. q.granted ++ ys) (take-append-drop n q.waiting) in
       let k = s.order in
       record {
         limit = s.limit;
@@ -114,6 +105,10 @@ module _ {V C R S F A : Type 0} where
         order = record { stays = k.stays; joins = k.joins; is = same ∙ k.is; few = k.few; fresh = k.fresh };
         others = s.others;
       }
+
+  -- those that wait are granted what is free
+  pub settle_passes : (sets : Bool) (name : Option ℕ) (leaving : List (Slot V)) (p q : Pool V C R S F A) → Passes sets name leaving p q → Passes sets name leaving p (settle q)
+  settle_passes sets name leaving p q s = granting_passes sets name leaving (grants q) p q s
 
   -- A party stands elsewhere, or is no more. Idle and out are so, and so is the queue.
   pub party_passes : (n : ℕ) (old new : Option (Party V C R S)) (grows : Bool) (next : ℕ) (idle out : List (Slot V)) (granted waiting : List ℕ) (leaving : List (Slot V)) (p : Pool V C R S F A)
@@ -133,22 +128,4 @@ module _ {V C R S F A : Type 0} where
     stay = λ m. let one = count-set (prepares m) p.parties n old new h in let all = enough m in omega (arith, one, all);
     order = order;
     others = λ m party other k. get-set_other p.parties n m new (λ e. other (ap Some (sym e))) ∙ k;
-  }
-
-  -- other objects
-  pub objects_pass : (handles : ℕ) (idle out leaving : List (Slot V)) (p : Pool V C R S F A) → (HasFewIdle p → length idle ≤ p.limit)
-      → ((m : ℕ) → held m idle + held m out ≤ held m p.idle + held m p.out)
-      → ((m : ℕ) → held m p.idle + held m p.out ≤ held m idle + held m out + held m leaving) → Passes false None leaving p (record p { handles = handles; idle = idle; out = out })
-  objects_pass handles idle out leaving p fewer same enough = record {
-    limit = λ kept. refl;
-    few_idle = fewer;
-    closed = λ c. c;
-    floor = refl;
-    first = refl;
-    grows = false;
-    next = omega arith;
-    few = λ m. let all = same m in omega (arith, all);
-    stay = λ m. let all = enough m in omega (arith, all);
-    order = order_same (queue p);
-    others = λ m party other k. k;
   }

@@ -1,22 +1,7 @@
 -- What each state of a run has from the one before it: a queue in order of those that stand as queued, nobody who waits while a
 -- place is free, and no more places and objects than its limit or so many.
-use Rattle.std.proofs.Common.{◌≡◌, ◌≢◌, ℕ, ◌+◌, ◌-◌, ◌≤◌, max, min, List, ◌++◌, true, false, length, set, take, drop, sym, ap, ◌∙◌, subst, arith, inl, inr, Option, Some, None, length-append, length-take, append_assoc}
-use Rattle.std.specs.Prelude.{slice_get, is_some, filter, filter_map}
-use Rattle.std.proofs.lemmas.Bool.{cond_both, cond-true}
-use Rattle.std.proofs.lemmas.Bool.Decides.{eqb_tells}
-use Rattle.std.proofs.lemmas.List.{take-append-drop, drop_all}
-use Rattle.deadpool_parts.specs.Numbers.{has_number}
-use Rattle.deadpool_parts.specs.declared.config.Timeouts.{Timeouts}
-use Rattle.deadpool_parts.specs.Orders.{IsOnce}
-use Rattle.deadpool_parts.proofs.Lists.{get-set_same, get-set_other}
-use Rattle.deadpool_parts.proofs.Numbers.{without_number-append, without_number-shorter}
-use Rattle.deadpool_parts.proofs.Orders.{IsOnce-without}
-use Rattle.deadpool.specs.Pool.{Pool, Party, Standing, goes, creates, prepared_at, is_going, is_creating, prepared_by, creating_count, places, size, reach, grants, settle}
-use Rattle.deadpool.specs.Steps.{to, unqueued}
-use Rattle.deadpool.specs.Moves.{NobodyWaits}
-use Rattle.deadpool.specs.Laws.{MarksQueued, IsLawful, queue, waits_at, is_queued}
-use Rattle.deadpool_managed.specs.declared.slot.Slot.{Slot}
-use Rattle.deadpool_parts.proofs.Counts.{one_if, count-set, held-set}
+use Rattle.deadpool.proofs.Basics.{◌≡◌, ◌≢◌, ℕ, ◌+◌, ◌-◌, ◌≤◌, max, min, List, ◌++◌, true, false, length, set, take, drop, sym, ap, ◌∙◌, subst, arith, inl, inr, Option, Some, None, length-append, length-take, append_assoc, slice_get, is_some, filter, filter_map, cond_both, cond-true, eqb_tells, take-append-drop, drop_all, has_number, IsOnce, get-set_same, get-set_other, without_number-append, without_number-shorter, IsOnce-without, one_if, count-set, held-set}
+use Rattle.deadpool.proofs.Words.{Timeouts, Pool, Party, Standing, goes, creates, prepared_at, is_going, is_creating, prepared_by, creating_count, places, size, reach, grants, settle, to, unqueued, NobodyWaits, MarksQueued, IsLawful, queue, waits_at, is_queued, Slot}
 use Rattle.deadpool.proofs.NumberLists.{has_number-other, without_number-gone}
 
 module _ {V C R S F A : Type 0} where
@@ -52,10 +37,6 @@ module _ {V C R S F A : Type 0} where
   pub Follows-reach : (most : ℕ) (p : Pool V C R S F A) → Follows most p → reach p ≤ max p.limit most
   Follows-reach most p f = let places_few = f.orderly.few_places in let objects_few = f.orderly.few_objects in omega (arith, places_few, objects_few)
 
-  -- the reach is the greater of the places and of the objects with those under way
-  pub reach-max : (p : Pool V C R S F A) → reach p ≡ max (size p + creating_count p) (places p)
-  reach-max p = omega arith
-
   -- so many of those that wait are granted a place
   abbrev granting : ℕ → Pool V C R S F A → Pool V C R S F A
   granting n p = record p { granted = p.granted ++ take n p.waiting; waiting = drop n p.waiting }
@@ -66,16 +47,14 @@ module _ {V C R S F A : Type 0} where
   granting_follows most n p k marks few all =
       let same : queue (granting n p) ≡ queue p = rw append_assoc (ap (λ ys. p.granted ++ ys) (take-append-drop n p.waiting)) in
       let longer = length-append p.granted (take n p.waiting) in
-      let taken = length-take n p.waiting in
-      let places_few = k.few_places in
       record {
         orderly = record {
           once = rw same k.once;
-          few_places = omega (arith, few, longer, taken, places_few);
+          few_places = omega (arith, few, longer, length-take n p.waiting, k.few_places);
           few_objects = k.few_objects;
         };
         marks = λ m. ap (has_number m) same ∙ marks m;
-        nobody_waits = λ opens free. let is = all opens in drop_all n p.waiting (omega (arith, is, free, longer, taken));
+        nobody_waits = λ opens free. let is = all opens in drop_all n p.waiting (omega (arith, is, free, longer, length-take n p.waiting));
       }
 
   -- the free places are given to those that wait
@@ -93,11 +72,9 @@ module _ {V C R S F A : Type 0} where
   pub unqueued_orderly : (most n : ℕ) (p : Pool V C R S F A) → IsOrderly most p → IsOrderly most (unqueued n p)
   unqueued_orderly most n p k =
       let left = without_number-append n p.granted p.waiting in
-      let fewer = without_number-shorter n p.granted in
-      let places_few = k.few_places in
       record {
         once = rw (← left) (IsOnce-without n (queue p) k.once);
-        few_places = omega (arith, fewer, places_few);
+        few_places = omega (arith, without_number-shorter n p.granted, k.few_places);
         few_objects = k.few_objects;
       }
 
@@ -151,12 +128,10 @@ module _ {V C R S F A : Type 0} where
   left_follows most n party new p k marks h w f0 f1 f2 =
       let u = unqueued_orderly most n p k in
       let c = rw (f0, f1, f2) at (counts p.parties n (Some party) new h) in
-      let places_few = u.few_places in
-      let objects_few = u.few_objects in
       settle_follows most (record (unqueued n p) { parties = set p.parties n new }) record {
         once = u.once;
-        few_places = omega (arith, c, places_few);
-        few_objects = omega (arith, c, objects_few);
+        few_places = omega (arith, c, u.few_places);
+        few_objects = omega (arith, c, u.few_objects);
       }
       (set_marks n (Some party) new (unqueued n p) h (unqueued_marks n p marks) (unqueued_gone n p ∙ sym w))
 
@@ -168,13 +143,11 @@ module _ {V C R S F A : Type 0} where
   same_places_follow most n timeouts old new next idle out p f h waits same few =
       let k = f.orderly in
       let c = counts p.parties n (Some (standing_at timeouts old)) (Some (standing_at timeouts new)) h in
-      let places_few = k.few_places in
-      let objects_few = k.few_objects in
       record {
         orderly = record {
           once = k.once;
-          few_places = omega (arith, c, same, places_few);
-          few_objects = omega (arith, c, few, objects_few);
+          few_places = omega (arith, c, same, k.few_places);
+          few_objects = omega (arith, c, few, k.few_objects);
         };
         marks = set_marks n (Some (standing_at timeouts old)) (Some (standing_at timeouts new)) p h (λ m other. f.marks m) (f.marks n ∙ ap is_queued h ∙ waits);
         nobody_waits = λ opens free. f.nobody_waits opens (omega (arith, c, same, free));
