@@ -4,8 +4,9 @@ use std::alloc::{AllocError, Global};
 // What a test keeps for itself.
 const CUSHION: usize = 8 << 20;
 
-// Of which what a call may find is a part.
-const SPARE: usize = 1 << 20;
+// What a call may find is a part of one block of the cushion, of this size or of twice its own. A larger one would not be
+// found again, since an allocator keeps small blocks where they were.
+const SPARE: usize = 1 << 12;
 
 // More than a machine gives at once.
 const GREATEST: usize = 1 << 40;
@@ -46,10 +47,11 @@ impl Hoard {
 
     /// Takes the cushion too, but for so many bytes.
     pub fn take(&mut self, left: usize) -> Result<(), AllocError> {
-        let spare: Vec<u8> = Vec::with_capacity(self.alloc, SPARE)?;
+        let size = left.saturating_mul(2).max(SPARE);
+        let spare: Vec<u8> = Vec::with_capacity(self.alloc, size)?;
         take_all(self.alloc, CUSHION, &mut self.near)?;
         drop(spare);
-        let filler: Vec<u8> = Vec::with_capacity(self.alloc, SPARE.saturating_sub(left))?;
+        let filler: Vec<u8> = Vec::with_capacity(self.alloc, size.saturating_sub(left))?;
         self.near.push(filler)?;
         Ok(())
     }
