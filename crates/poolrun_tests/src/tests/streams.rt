@@ -4,15 +4,44 @@ use poolrun_engine::Fault;
 use std::cell::Cell;
 use std::io;
 use std::io::{BufRead, ErrorKind, Read, Write};
+use std::process::Abort;
+use std::random::RandomSource;
 use std::test::Fail;
 
-const SCRIPT: Lines = &[
-    ("pool 1 fifo none 0", "ok"),
-    ("start", "party 0"),
-    ("poll 0 0", "object 0 value 0"),
-    ("answer recycle add pending", "ok"),
-    ("status", "max 1 size 1 available 0 waiting 0"),
-    ("back 0", "kept"),
+const SCRIPTS: [Lines; 3] = [
+    &[
+        ("pool 1 fifo none 0", "ok"),
+        ("start", "party 0"),
+        ("poll 0 0", "object 0 value 0"),
+        ("answer recycle add pending", "ok"),
+        ("status", "max 1 size 1 available 0 waiting 0"),
+        ("back 0", "kept"),
+    ],
+    &[
+        ("config clock 7 {\"max_size\":2,\"min_idle\":1}", "ok"),
+        ("answer postcreate refuse", "ok"),
+        ("start 5 - -", "party 0"),
+        ("poll 0 0", "error `post_create` hook failed: refused"),
+        ("poll 1 0", "no such"),
+        ("resize 0", "ok"),
+        ("start 5 - -", "party 1"),
+        ("advance 1 0", "pending"),
+        ("close", "ok"),
+        ("advance 1 1", "error Pool has been closed"),
+        ("retain 7 8", "retained 0 removed"),
+    ],
+    &[
+        ("unmanaged 1 none", "ok"),
+        ("tryadd 18446744073709551615", "added 0"),
+        ("add 2", "party 0"),
+        ("poll 0 0", "pending"),
+        ("tryget", "object 0 value 18446744073709551615"),
+        ("take 0", "taken 18446744073709551615"),
+        ("poll 0 1", "added 1"),
+        ("drop", "ok"),
+        ("upgrade", "none"),
+        ("status", "no handle"),
+    ],
 ];
 
 // Counts down to the call that fails, which 0 is. Those after it do not fail.
@@ -79,11 +108,13 @@ pub fn first_lines(text: &[u8], count: usize) -> &[u8] {
     text
 }
 
-// One read gives each byte, and one more finds the end.
-#[test]
-fn a_failed_read_ends_the_run(rt: HostRuntime) -> Result<(), Fail> {
-    let script = script_of(rt.alloc(), SCRIPT)?;
-    let replies = replies_of(rt.alloc(), SCRIPT)?;
+// One read gives each byte, and one more finds the end. Gives how many reads failed.
+fn ends_at_each_read<R: RandomSource + AllocGlobal + Abort>(
+    rt: &R,
+    lines: Lines,
+) -> Result<usize, Fail> {
+    let script = script_of(rt.alloc(), lines)?;
+    let replies = replies_of(rt.alloc(), lines)?;
     for reads in 0..=script.len().saturating_add(1) {
         let mut reader = FailingReader {
             text: script.as_bytes(),
@@ -91,9 +122,9 @@ fn a_failed_read_ends_the_run(rt: HostRuntime) -> Result<(), Fail> {
             kind: ErrorKind::BrokenPipe,
         };
         let mut written = Vec::new(rt.alloc());
-        let ending = poolrun_engine::play(&rt, &mut reader, &mut written);
-        let lines = lines_in(first_bytes(script.as_bytes(), reads));
-        let whole = first_lines(replies.as_bytes(), lines);
+        let ending = poolrun_engine::play(rt, &mut reader, &mut written);
+        let whole = lines_in(first_bytes(script.as_bytes(), reads));
+        let whole = first_lines(replies.as_bytes(), whole);
         let want = if reads <= script.len() {
             Err(Fault::InputFailed)
         } else {
@@ -102,13 +133,26 @@ fn a_failed_read_ends_the_run(rt: HostRuntime) -> Result<(), Fail> {
         assert_eq!(rt; ending, want, "at read {reads}");
         assert_eq!(rt; written.as_slice(), whole, "at read {reads}");
     }
-    Ok(())
+    Ok(script.len().saturating_add(1))
 }
 
 #[test]
-fn a_read_that_was_interrupted_is_tried_again(rt: HostRuntime) -> Result<(), Fail> {
-    let script = script_of(rt.alloc(), SCRIPT)?;
-    let replies = replies_of(rt.alloc(), SCRIPT)?;
+fn a_failed_read_ends_the_run(rt: HostRuntime) -> Result<(), Fail> {
+    let mut reads = 0;
+    for lines in SCRIPTS {
+        reads = ends_at_each_read(&rt, lines)?.saturating_add(reads);
+    }
+    println!(rt; "{reads} failed reads")?;
+    Ok(())
+}
+
+// Each of the reads is interrupted, which changes nothing. Gives how many there are.
+fn goes_on_at_each_read<R: RandomSource + AllocGlobal + Abort>(
+    rt: &R,
+    lines: Lines,
+) -> Result<usize, Fail> {
+    let script = script_of(rt.alloc(), lines)?;
+    let replies = replies_of(rt.alloc(), lines)?;
     for reads in 0..=script.len() {
         let mut reader = FailingReader {
             text: script.as_bytes(),
@@ -116,10 +160,20 @@ fn a_read_that_was_interrupted_is_tried_again(rt: HostRuntime) -> Result<(), Fai
             kind: ErrorKind::Interrupted,
         };
         let mut written = Vec::new(rt.alloc());
-        let ending = poolrun_engine::play(&rt, &mut reader, &mut written);
+        let ending = poolrun_engine::play(rt, &mut reader, &mut written);
         assert_eq!(rt; ending, Ok(()), "at read {reads}");
         assert_eq!(rt; written.as_slice(), replies.as_bytes(), "at read {reads}");
     }
+    Ok(script.len().saturating_add(1))
+}
+
+#[test]
+fn a_read_that_was_interrupted_is_tried_again(rt: HostRuntime) -> Result<(), Fail> {
+    let mut reads = 0;
+    for lines in SCRIPTS {
+        reads = goes_on_at_each_read(&rt, lines)?.saturating_add(reads);
+    }
+    println!(rt; "{reads} interrupted reads")?;
     Ok(())
 }
 
@@ -144,11 +198,14 @@ impl Write for FailingWriter {
     }
 }
 
-// One write takes each byte of the replies. No line is read after the one whose reply was not written.
-#[test]
-fn a_failed_write_ends_the_run(rt: HostRuntime) -> Result<(), Fail> {
-    let script = script_of(rt.alloc(), SCRIPT)?;
-    let replies = replies_of(rt.alloc(), SCRIPT)?;
+// One write takes each byte of the replies. No line is read after the one whose reply was not written. Gives how many
+// writes failed.
+fn ends_at_each_write<R: RandomSource + AllocGlobal + Abort>(
+    rt: &R,
+    lines: Lines,
+) -> Result<usize, Fail> {
+    let script = script_of(rt.alloc(), lines)?;
+    let replies = replies_of(rt.alloc(), lines)?;
     for writes in 0..=replies.len() {
         let mut reader = script.as_bytes();
         let mut writer = FailingWriter {
@@ -156,7 +213,7 @@ fn a_failed_write_ends_the_run(rt: HostRuntime) -> Result<(), Fail> {
             writes_left: Some(writes),
             flushes_left: None,
         };
-        let ending = poolrun_engine::play(&rt, &mut reader, &mut writer);
+        let ending = poolrun_engine::play(rt, &mut reader, &mut writer);
         let whole = first_bytes(replies.as_bytes(), writes);
         let want = if writes < replies.len() {
             Err(Fault::OutputFailed)
@@ -165,30 +222,42 @@ fn a_failed_write_ends_the_run(rt: HostRuntime) -> Result<(), Fail> {
         };
         assert_eq!(rt; ending, want, "at write {writes}");
         assert_eq!(rt; writer.written.as_slice(), whole, "at write {writes}");
-        let lines_left = SCRIPT
+        let lines_left = lines
             .len()
             .saturating_sub(lines_in(whole).saturating_add(1));
         assert_eq!(rt; lines_in(reader), lines_left, "at write {writes}");
     }
+    Ok(replies.len())
+}
+
+#[test]
+fn a_failed_write_ends_the_run(rt: HostRuntime) -> Result<(), Fail> {
+    let mut writes = 0;
+    for lines in SCRIPTS {
+        writes = ends_at_each_write(&rt, lines)?.saturating_add(writes);
+    }
+    println!(rt; "{writes} failed writes")?;
     Ok(())
 }
 
-// One flush ends each reply.
-#[test]
-fn a_failed_flush_ends_the_run(rt: HostRuntime) -> Result<(), Fail> {
-    let script = script_of(rt.alloc(), SCRIPT)?;
-    let replies = replies_of(rt.alloc(), SCRIPT)?;
-    for flushes in 0..=SCRIPT.len() {
+// One flush ends each reply. Gives how many flushes failed.
+fn ends_at_each_flush<R: RandomSource + AllocGlobal + Abort>(
+    rt: &R,
+    lines: Lines,
+) -> Result<usize, Fail> {
+    let script = script_of(rt.alloc(), lines)?;
+    let replies = replies_of(rt.alloc(), lines)?;
+    for flushes in 0..=lines.len() {
         let mut reader = script.as_bytes();
         let mut writer = FailingWriter {
             written: Vec::new(rt.alloc()),
             writes_left: None,
             flushes_left: Some(flushes),
         };
-        let ending = poolrun_engine::play(&rt, &mut reader, &mut writer);
-        let lines = flushes.saturating_add(1);
-        let whole = first_lines(replies.as_bytes(), lines);
-        let want = if flushes < SCRIPT.len() {
+        let ending = poolrun_engine::play(rt, &mut reader, &mut writer);
+        let written = flushes.saturating_add(1);
+        let whole = first_lines(replies.as_bytes(), written);
+        let want = if flushes < lines.len() {
             Err(Fault::OutputFailed)
         } else {
             Ok(())
@@ -197,10 +266,20 @@ fn a_failed_flush_ends_the_run(rt: HostRuntime) -> Result<(), Fail> {
         assert_eq!(rt; writer.written.as_slice(), whole, "at flush {flushes}");
         assert_eq!(rt;
             lines_in(reader),
-            SCRIPT.len().saturating_sub(lines),
+            lines.len().saturating_sub(written),
             "at flush {flushes}"
         );
     }
+    Ok(lines.len())
+}
+
+#[test]
+fn a_failed_flush_ends_the_run(rt: HostRuntime) -> Result<(), Fail> {
+    let mut flushes = 0;
+    for lines in SCRIPTS {
+        flushes = ends_at_each_flush(&rt, lines)?.saturating_add(flushes);
+    }
+    println!(rt; "{flushes} failed flushes")?;
     Ok(())
 }
 
@@ -257,23 +336,25 @@ impl<'a> BufRead for Speaker<'a> {
 
 #[test]
 fn each_reply_is_out_before_the_next_line_is_read(rt: HostRuntime) -> Result<(), Fail> {
-    let script = script_of(rt.alloc(), SCRIPT)?;
-    let replies = replies_of(rt.alloc(), SCRIPT)?;
-    let flushed = Cell::new(0);
-    let mut speaker = Speaker {
-        flushed: &flushed,
-        text: script.as_bytes(),
-        lines: 0,
-    };
-    let mut listener = Listener {
-        written: Vec::new(rt.alloc()),
-        flushed: &flushed,
-    };
-    assert_eq!(rt;
-        poolrun_engine::play(&rt, &mut speaker, &mut listener),
-        Ok(())
-    );
-    assert_eq!(rt; listener.written.as_slice(), replies.as_bytes());
-    assert_eq!(rt; flushed.get(), SCRIPT.len());
+    for lines in SCRIPTS {
+        let script = script_of(rt.alloc(), lines)?;
+        let replies = replies_of(rt.alloc(), lines)?;
+        let flushed = Cell::new(0);
+        let mut speaker = Speaker {
+            flushed: &flushed,
+            text: script.as_bytes(),
+            lines: 0,
+        };
+        let mut listener = Listener {
+            written: Vec::new(rt.alloc()),
+            flushed: &flushed,
+        };
+        assert_eq!(rt;
+            poolrun_engine::play(&rt, &mut speaker, &mut listener),
+            Ok(())
+        );
+        assert_eq!(rt; listener.written.as_slice(), replies.as_bytes());
+        assert_eq!(rt; flushed.get(), lines.len());
+    }
     Ok(())
 }

@@ -1,0 +1,84 @@
+//! Scripts by lines, and lines by words.
+use deadpool::Moment;
+use std::alloc::{AllocError, Global};
+use std::str::{FromStr, Split};
+
+/// A script, of which one line stands below the other.
+pub type Script = &'static str;
+
+/// The words of a line.
+pub type Words<'a> = Split<'a, char>;
+
+/// The next word, if it is a number.
+pub fn next_number<N: FromStr>(words: &mut Words<'_>) -> Option<N>
+where
+    N::Err: Drop,
+{
+    words.next()?.parse::<N>().ok()
+}
+
+/// The next word, if it is a moment.
+pub fn next_moment(words: &mut Words<'_>) -> Option<Moment> {
+    Some(Moment(next_number(words)?))
+}
+
+/// The party that a line advances, polls or cancels.
+pub fn party_of(line: &str) -> Option<&str> {
+    let mut words = line.split(' ');
+    match words.next() {
+        Some("advance") | Some("poll") | Some("cancel") => words.next(),
+        _ => None,
+    }
+}
+
+/// Whether a line cancels a party.
+pub fn is_cancel(line: &str) -> bool {
+    line.starts_with("cancel ")
+}
+
+/// The lines of a script.
+pub fn lines_of(alloc: Global, script: Script) -> Result<Vec<&'static str>, AllocError> {
+    let mut lines = Vec::new(alloc);
+    for line in script.split('\n') {
+        lines.push(line)?;
+    }
+    Ok(lines)
+}
+
+// Whether a party starts by a line.
+fn is_start(line: &str) -> bool {
+    match line.split(' ').next() {
+        Some("start") | Some("get") | Some("add") => true,
+        _ => false,
+    }
+}
+
+/// What is replied where memory is refused to a line of a script. An add hands its object back.
+pub fn refusal_of(alloc: Global, lines: &[&'static str], line: &str) -> Result<String, AllocError> {
+    let Some(party) = party_of(line) else {
+        return String::from_str(alloc, "out of memory\n");
+    };
+    let number = party.parse::<usize>().unwrap_or(usize::MAX);
+    let mut starts = lines.iter().filter(|start| is_start(start));
+    match starts
+        .nth(number)
+        .and_then(|start| start.strip_prefix("add "))
+    {
+        Some(value) => format!(in alloc; "error Out of memory value {value}\n"),
+        None => String::from_str(alloc, "error Out of memory\n"),
+    }
+}
+
+/// What is to come of a line once a refusal has ended a party: nothing comes of the party, but it can be cancelled.
+pub fn after_refusal<'a>(ended: Option<&str>, line: &str, reply: &'a str) -> &'a str {
+    match (ended, party_of(line)) {
+        (Some(ended), Some(party)) if ended == party => {
+            if is_cancel(line) {
+                "cancelled\n"
+            } else {
+                "pending\n"
+            }
+        }
+        _ => reply,
+    }
+}
