@@ -1,5 +1,5 @@
 //! The managed pool.
-ghost use Rattle.deadpool_shared.specs.Opens.{Opens};
+ghost use Rattle.deadpool.specs.Opens.{Opens};
 
 use crate::cancels::cancels;
 use crate::crowd::{LIMIT, crowds};

@@ -1,16 +1,29 @@
-pub mod Image
-pub mod Laws
-pub mod Moves
-pub mod Party
+-- Both pools, and the headline of the managed one. In the order in which it can be read.
+
+-- The list machine: a pool in lists, its steps, what a party does, the moves, and what is true of each run.
 pub mod Pool
+pub mod Steps
+pub mod Party
+pub mod Moves
 pub mod Rank
-pub mod Replay
+pub mod Laws
 pub mod RunLaws
+-- What a trial shows of it.
+pub mod Replay
+-- Scripts that it was checked with: each equation computes.
 pub mod Script
 pub mod ScriptsFirstPath
-pub mod ScriptsMinIdle
-pub mod ScriptsOwnSteps
 pub mod ScriptsPreparation
 pub mod ScriptsTimeouts
-pub mod Steps
+pub mod ScriptsOwnSteps
+pub mod ScriptsMinIdle
+-- How the fields of a trial are seen as the machine. No contract of another crate cites them.
 pub mod TrialFields
+pub mod Image
+-- What a user of the shared pools cites: that ledgers open, what gets and objects hold, the hooks of a pool, and the
+-- answers of managers and hooks.
+pub use Rattle.deadpool_shared.specs.Opens
+pub use Rattle.deadpool_managed.specs.declared.desk.Holding
+pub use Rattle.deadpool_managed.specs.HookLists
+pub use Rattle.deadpool_managed.specs.Answers
+pub use Rattle.deadpool_parts.specs.declared.errors.RecycleError

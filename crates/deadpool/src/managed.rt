@@ -7,12 +7,12 @@ pub use deadpool_managed::{
     AgainReply, AskReply, AsyncHook, BackReply, BuildError, ConfigError, Core, CreatePoolError,
     CreatedReply, Desk, EnterReply, Environment, FnHook, GetState, HandleReply, Held, Hook,
     HookAnswer, HookError, HookResult, Hooks, Manager, Metrics, NoHook, ObjectId, PoolConfig,
-    PoolError, Position, Preparation, QueueMode, RecycleError, RecycleResult, RetainResult,
-    Retainer, Serving, Slot, Stage, Status, StepReply, SyncHook, TakeReply, TimeoutType, Timeouts,
-    Turn, laws,
+    PoolError, Position, Preparation, QueueMode, RecycleError, RecycleResult, Removal, Removals,
+    RetainResult, Retainer, Serving, Slot, Stage, Status, StepReply, SyncHook, TakeReply,
+    TimeoutType, Timeouts, Turn, laws,
 };
 pub use deadpool_shared::{
-    Entry, Get, Journal, Object, OpenPool, Pool, PoolBuilder, Seat, WeakPool,
+    Entry, Get, Journal, Object, OpenPool, Pool, PoolBuilder, Seat, WeakPool, by_number,
 };
 
 /// What a user of a pool names beside it, for a crate that gives a pool of its own out.

@@ -1,2 +1,3 @@
+-- The wakers of those that wait, and when a future has ended.
 pub mod Places
 pub mod Requests

@@ -1,3 +1,10 @@
-pub mod Building
-pub mod Counts
+-- The managed pool between threads and tasks. In the order in which it can be read.
+
+-- What a user names to build a pool: that his three ledgers open, and what is built.
 pub mod Opens
+pub mod Building
+-- What each get and object holds of the pool's three counts.
+pub mod Counts
+-- What contracts of this crate cite of those below.
+pub use Rattle.deadpool_managed.specs.HookLists
+pub use Rattle.deadpool_managed.specs.declared.desk.Holding

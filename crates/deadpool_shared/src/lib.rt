@@ -15,7 +15,7 @@ mod shared;
 mod shares;
 
 pub use builder::{OpenPool, PoolBuilder};
-pub use deadpool_journal::{Entry, Journal};
+pub use deadpool_journal::{Entry, Journal, by_number};
 pub use get::Get;
 pub use object::Object;
 pub use pool::{Pool, WeakPool};

@@ -1,1 +1,7 @@
+-- The unmanaged pool between threads and tasks: what a poll does under the pool's lock.
 pub mod Locked
+-- What contracts of this crate cite of those below: states that are polled, and the steps of the pool.
+pub use Rattle.deadpool_unmanaged.specs.Gets
+pub use Rattle.deadpool_unmanaged.specs.Adds
+pub use Rattle.deadpool_unmanaged.specs.State
+pub use Rattle.deadpool_unmanaged.specs.StateSteps

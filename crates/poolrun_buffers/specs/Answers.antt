@@ -3,8 +3,8 @@ use Rattle.std.specs.Prelude.{◌≡◌, ◌≤◌, ◌<◌, ℕ, ⊤, [], lengt
 use Rattle.std.specs.Cow.{cow_str_bytes}
 use Rattle.futures.specs.declared.task.Poll.{Poll}
 use Rattle.futures.specs.declared.task.Poll.TheVariants.{Ready, Pending}
-use Rattle.deadpool_parts.specs.declared.errors.RecycleError.{RecycleError}
-use Rattle.deadpool_parts.specs.declared.errors.RecycleError.TheVariants.{Message}
+use Rattle.deadpool.specs.RecycleError.{RecycleError}
+use Rattle.deadpool.specs.RecycleError.TheVariants.{Message}
 use Rattle.poolrun_buffers.specs.declared.manager.BufferError.{BufferError}
 
 -- A creation ends at its first poll: there is a buffer with nothing in it and with this much room, or none.

@@ -2,7 +2,7 @@
 ghost use Rattle.std.specs.Prelude.{◌≡◌, [], length, IfOk, OnOk};
 ghost use Rattle.futures.specs.Poll.{OnPending};
 ghost use Rattle.futures.specs.Task.{IsArmed, Keeps};
-ghost use Rattle.deadpool_managed.specs.Answers.{IfReadyOk};
+ghost use Rattle.deadpool.specs.Answers.{IfReadyOk};
 
 use crate::manager::{BufferError, Buffers};
 use deadpool::Clock;

@@ -1,6 +1,6 @@
 //! Puts each line of the input into a buffer of a pool of one.
 ghost use Rattle.std.specs.Prelude.{◌≡◌, [], IfOk};
-ghost use Rattle.deadpool_shared.specs.Opens.{Opens};
+ghost use Rattle.deadpool.specs.Opens.{Opens};
 
 use crate::fault::Fault;
 use crate::lines::{read_line, without_line_feed, write_out};

@@ -1,5 +1,5 @@
 //! Threads that count by the objects of one managed pool.
-ghost use Rattle.deadpool_shared.specs.Opens.{Opens};
+ghost use Rattle.deadpool.specs.Opens.{Opens};
 
 mod counters;
 

@@ -1,5 +1,5 @@
 //! Gets that are polled over a desk.
-ghost use Rattle.deadpool_managed.specs.declared.desk.Holding.{Holding};
+ghost use Rattle.deadpool.specs.Holding.{Holding};
 
 use deadpool::Moment;
 use deadpool::managed::{Desk, Environment, GetState, Manager, NoHook, PoolError, Slot, Turn};

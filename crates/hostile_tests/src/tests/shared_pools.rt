@@ -1,5 +1,5 @@
 //! Gets over a shared pool, a poll at a time, with each way to answer.
-ghost use Rattle.deadpool_shared.specs.Opens.{Opens};
+ghost use Rattle.deadpool.specs.Opens.{Opens};
 
 use super::answers::{Answer, Answers, NoTime, Switch, Told, ToldHook, builder, new_switch};
 use super::lanes::{Fault, LANES, LIMIT, Lanes, MOST_STEPS, Standing, play};

@@ -1,5 +1,5 @@
 //! Buffers out of a pool of one, and the texts of what is refused.
-ghost use Rattle.deadpool_shared.specs.Opens.{Opens};
+ghost use Rattle.deadpool.specs.Opens.{Opens};
 
 use deadpool::managed::{Manager, Metrics, Object, PoolBuilder};
 use deadpool::{Clock, Moment};

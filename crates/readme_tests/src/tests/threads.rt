@@ -1,5 +1,5 @@
 //! A managed pool between threads, with a manager of its own.
-ghost use Rattle.deadpool_shared.specs.Opens.{Opens};
+ghost use Rattle.deadpool.specs.Opens.{Opens};
 
 use deadpool::managed::{Manager, Metrics, NoHook, Pool, PoolBuilder, RecycleResult};
 use deadpool::{Clock, Moment};

@@ -1,5 +1,5 @@
 //! Calls of a shared managed pool, made while too little memory is left.
-ghost use Rattle.deadpool_shared.specs.Opens.{Opens};
+ghost use Rattle.deadpool.specs.Opens.{Opens};
 
 use super::hoard::{Hoard, more};
 use super::tracked::{Counts, Maker, NoTime};

@@ -1,5 +1,5 @@
 //! Random scripts over a shared pool have the replies of a trial, and the status after each move.
-ghost use Rattle.deadpool_shared.specs.Opens.{Opens};
+ghost use Rattle.deadpool.specs.Opens.{Opens};
 
 use super::bench::{Bench, TestPool};
 use super::dice::Dice;

@@ -1,5 +1,5 @@
 //! A script, played over a shared pool.
-ghost use Rattle.deadpool_shared.specs.Opens.{Opens};
+ghost use Rattle.deadpool.specs.Opens.{Opens};
 
 use super::bench::{Bench, TestPool};
 use super::openings::builder;

@@ -1,5 +1,5 @@
 //! What a pool is built of, what becomes of that where it is not built, and when it goes.
-ghost use Rattle.deadpool_shared.specs.Opens.{Opens};
+ghost use Rattle.deadpool.specs.Opens.{Opens};
 
 use deadpool::managed::{
     BuildError, Hook, HookResult, Manager, Metrics, NoHook, Pool, PoolBuilder, RecycleResult,

@@ -1,5 +1,5 @@
 //! What counts as a handle of a pool, and what goes with the last one.
-ghost use Rattle.deadpool_shared.specs.Opens.{Opens};
+ghost use Rattle.deadpool.specs.Opens.{Opens};
 
 use super::play::{Getting, Out, Shared, builder};
 use super::world::{Habit, Hand, Maker, SharedWorld, World};

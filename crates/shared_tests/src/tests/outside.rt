@@ -1,5 +1,5 @@
 //! The manager is called with the lock given back: meanwhile another thread uses the pool.
-ghost use Rattle.deadpool_shared.specs.Opens.{Opens};
+ghost use Rattle.deadpool.specs.Opens.{Opens};
 
 use deadpool::managed::{
     Manager, Metrics, NoHook, Object, Pool, PoolBuilder, RecycleError, RecycleResult,

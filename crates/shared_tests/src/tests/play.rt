@@ -1,5 +1,5 @@
 //! Steps over a shared pool, as data. After each of them stands what it came to and which tasks are woken.
-ghost use Rattle.deadpool_shared.specs.Opens.{Opens};
+ghost use Rattle.deadpool.specs.Opens.{Opens};
 
 use super::world::{Habit, Hand, Maker, Refused, SharedWorld, World};
 use deadpool::Moment;

@@ -1,5 +1,5 @@
 //! A pool whose gets give a type of the user's, over ledgers that its maker names.
-ghost use Rattle.deadpool_shared.specs.Opens.{Opens};
+ghost use Rattle.deadpool.specs.Opens.{Opens};
 
 use super::play::Out;
 use super::world::{Habit, Hand, Maker, SharedWorld, World};

@@ -1,5 +1,5 @@
 //! Threads that do with one pool whatever dice say.
-ghost use Rattle.deadpool_shared.specs.Opens.{Opens};
+ghost use Rattle.deadpool.specs.Opens.{Opens};
 
 mod dice;
 mod rounds;

@@ -1,5 +1,5 @@
 //! A hundred jobs over ten threads, with three objects at most.
-ghost use Rattle.deadpool_shared.specs.Opens.{Opens};
+ghost use Rattle.deadpool.specs.Opens.{Opens};
 
 use super::replay::last_status;
 use deadpool::managed::{

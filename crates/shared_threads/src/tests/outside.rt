@@ -1,5 +1,5 @@
 //! User code is called with the lock given back: while a call goes on, another thread asks for the pool's status.
-ghost use Rattle.deadpool_shared.specs.Opens.{Opens};
+ghost use Rattle.deadpool.specs.Opens.{Opens};
 
 use deadpool::managed::{
     AsyncHook, Hook, HookError, HookResult, Manager, Metrics, NoHook, Object, Pool, PoolBuilder,

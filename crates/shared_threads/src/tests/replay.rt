@@ -1,8 +1,8 @@
 //! The journal of a pool, driven again on one thread.
 use deadpool::Moment;
-use deadpool::managed::{Core, Desk, Entry, Journal, Metrics, Retainer, Slot, Status};
-use deadpool_journal::by_number;
-use deadpool_managed::{Removal, Removals};
+use deadpool::managed::{
+    Core, Desk, Entry, Journal, Metrics, Removal, Removals, Retainer, Slot, Status, by_number,
+};
 use std::alloc::{AllocError, Global};
 
 /// A new pool that opens as the journal says makes each step of it. None if one of them is answered otherwise.

@@ -1,5 +1,5 @@
 //! Hooks in each of a pool's lists.
-ghost use Rattle.deadpool_managed.specs.HookLists.{CanCall};
+ghost use Rattle.deadpool.specs.HookLists.{CanCall};
 
 use deadpool::Moment;
 use deadpool::managed::{

@@ -1,5 +1,5 @@
 //! Timeouts of a pool and of its gets.
-ghost use Rattle.deadpool_managed.specs.declared.desk.Holding.{Holding};
+ghost use Rattle.deadpool.specs.Holding.{Holding};
 
 use deadpool::managed::{
     BackReply, BuildError, Core, CreatedReply, Desk, EnterReply, Environment, GetState, Hooks,
