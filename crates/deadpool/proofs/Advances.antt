@@ -107,7 +107,7 @@ module _ {V E C R S F A : Type 0} (may : May V E C R S F A) (fixed : Fixed F A) 
       let all = creation_answered begun until h deadline x made s t e a in
       (Gives-bind may (create begun) (λ y. Return (created n (party_at own (stage.Creating begun until)) now deadline pool y)) x _ g all.0, all.1)
 
-  -- a creation that was not begun, where something serves its timeout, or it has none
+  -- a creation that was not begun, if something serves its timeout, or it has none
   creation_begins : (until : Option Moment) (made : Made V) (s : Stage V C R S) (t : Turn V E) → slice_get gets n ≡ Some (get_at own (stage.Creating None until))
       → Makes core_desk core made core' → lacks_runtime fixed.runtime own.create ≡ false
       → (x : Poll (Result V E) × C) → Gives may (create None) x → AfterCreation now (deadline_after now own.create) x made s t → Goal (stage.Creating None until) core' s t

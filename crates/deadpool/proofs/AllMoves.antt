@@ -21,13 +21,13 @@ module _ {V : Type 0} where
   abbrev not_kept : List ℕ → List (Slot V) → List (Slot V)
   not_kept kept xs = filter (λ s. not (has_number s.number kept)) xs
 
--- where one of several handles goes, some are left
+-- when one of several handles goes, some are left
 some_left : (handles : ℕ) → (handles == 0) ≡ false → (handles == 1) ≡ false → ((if handles == most_handles then most_handles else handles - 1) == 0) ≡ false
 some_left handles some more =
     cond_both (handles == most_handles) _ _ (λ left. (left == 0) ≡ false) (λ top. refl) (λ other. grind (arith, nat_tests, some, more))
 
 module _ {V C R S : Type 0} where
-  -- where a party starts that is not queued, the same are queued
+  -- if a party starts that is not queued, the same are queued
   started_marked : (parties : List (Option (Party V C R S))) (new : Option (Party V C R S)) (n : ℕ) → is_queued (Some new) ≡ false
       → is_queued (slice_get parties n) ≡ is_queued (slice_get (parties ++ new ∷ []) n)
   started_marked [] new zero h = sym h
@@ -111,11 +111,11 @@ module _ {V E C R S F A : Type 0} where
       Follows (reach p) x.1 × Passes (sets_limit m) (named m) (may_leave m p) p x.1 × IsOutIfGiven m x.0 x.1 × IsIdleIfKept m x.0 x.1 × LeavesEnough m p x.1
 
 module _ {V C R S F A : Type 0} (E : Type 0) (p : Pool V C R S F A) (l : IsLawful p) where
-  -- nothing has changed
+  -- a move that changes nothing
   unchanged : (m : Move V) (answer : Reply V E) → IsOutIfGiven m answer p → IsIdleIfKept m answer p → LeavesEnough m p p → Moved {E = E} p m (answer, p)
   unchanged m answer gives keeps enough = (Follows-self p l, passes_self (sets_limit m) (named m) (may_leave m p) p, gives, keeps, enough)
 
-  -- a step needs a handle
+  -- a step that needs a handle: with none left nothing changes
   by_handle_moved : (m : Move V) (step : Pool V C R S F A → Reply V E × Pool V C R S F A) → IsIdleIfKept {E = E} m reply.NoHandle p → LeavesEnough m p p
       → ((p.handles == 0) ≡ false → Moved {E = E} p m (step p)) → Moved {E = E} p m (by_handle step p)
   by_handle_moved m step keeps enough has = cond_both (p.handles == 0) _ _ (Moved {E = E} p m) (λ none. unchanged m reply.NoHandle tt keeps enough) has

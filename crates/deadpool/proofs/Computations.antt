@@ -8,7 +8,7 @@ module _ {Q : Type 0} {Answer : Q → Type 0} {A : Type 0} where
   Always-more P more implies (Return x) always = implies x always
   Always-more P more implies (Ask q k) always = λ a. Always-more P more implies (k a) (always a)
 
-  -- what always holds after the first, where so much always holds of what that gave
+  -- what always holds after the first, if so much always holds of what that gave
   pub Always-then : {B : Type 0} (given : A → Type 0) (P : B → Type 0) (p : Program Q Answer A) (f : A → Program Q Answer B)
       → Always given p → ((a : A) → given a → Always P (f a)) → Always P (p >>= f)
   Always-then given P (Return x) f always next = next x always

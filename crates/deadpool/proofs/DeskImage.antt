@@ -27,7 +27,7 @@ module _ {V C R S : Type 0} where
   owned-same d d' gets o granted waiting = rw (granted, waiting) o
 
 module _ {V : Type 0} where
-  -- the queue of a desk where the first n that wait have a place
+  -- the queue of a desk in which the first n that wait have a place
   abbrev pub granting : ℕ → DeskState (Slot V) → DeskState (Slot V)
   granting n d = record d { granted = d.granted ++ take n d.waiting; waiting = drop n d.waiting }
 
@@ -56,7 +56,7 @@ module _ {V C R S F A : Type 0} (fixed : Fixed F A) where
       let l : length (map (owner has_ticket gets) d.granted) ≡ length d.granted = length-map d.granted (owner has_ticket gets) in
       omega (arith, l, k.creations, k.outside, k.going)
 
-  -- where the counts agree, the image of a settled desk is the image, settled
+  -- if the counts agree, the image of a settled desk is the image, settled
   pub settles : (core : DeskState (Slot V)) (gets : List (Option (Getting V C R S))) (out : List (Slot V)) → IsCounted core gets out
       → image_of fixed (settled core) gets out ≡ settle (image_of fixed core gets out)
   settles core gets out k =
@@ -74,7 +74,7 @@ module _ {V C R S F A : Type 0} where
       (λ is_open. elim (cases_lt (pool_places p) p.limit) [ inl free ↦ let none : length p.waiting ≡ 0 = ap length (nobody is_open free) in omega (arith, none) | inr full ↦ omega (arith, full) ])
       (λ shut. refl)
 
-  -- where nobody waits, settling changes nothing
+  -- if nobody waits, settling changes nothing
   pub settle-none : (p : Pool V C R S F A) → NobodyWaits p → settle p ≡ p
   settle-none p nobody =
       ap (λ k. record p { granted = p.granted ++ take k p.waiting; waiting = drop k p.waiting }) (grants-none p nobody)
@@ -97,7 +97,7 @@ module _ {V C R S : Type 0} where
   abbrev pub lasts : Option (Getting V C R S) → ℕ
   lasts x = cond (is_under_way x) 1 0
 
-  -- the desk's counts change as those of the gets do where one of them changes
+  -- the desk's counts change as those of the gets do when one of them changes
   pub record Shifts (d d' : DeskState (Slot V)) (old new : Option (Getting V C R S)) (out out' : List (Slot V)) : Type 0 where
     pub going : d'.going + goes old ≡ d.going + goes new
     pub creations : d'.creations + creates old ≡ d.creations + creates new

@@ -19,14 +19,14 @@ module _ {V E C R S F A : Type 0} (may : May V E C R S F A) (fixed : Fixed F A) 
   abbrev pool : Pool V C R S F A
   pool = image_of fixed core gets out
 
-  -- the pool where it stands elsewhere, and no object is given out
+  -- the pool when it stands elsewhere, and no object is given out
   abbrev after : DeskState (Slot V) → Stage V C R S → Pool V C R S F A
   after d s = image_of fixed d (set gets n (get_at own s)) out
 
   abbrev Counted : DeskState (Slot V) → Stage V C R S → Type 0
   Counted d s = IsCounted d (set gets n (get_at own s)) out
 
-  -- what is to be shown of an advance from one stage to another, where no object is given out
+  -- what is to be shown of an advance from one stage to another, if no object is given out
   abbrev Goal : Stage V C R S → DeskState (Slot V) → Stage V C R S → Turn V E → Type 0
   Goal old d s t =
       Gives may (advance_at (standing_of old) n (party_at own old) now pool) (reply_to t, image_of fixed d (set gets n (get_at own s)) (given t out))
@@ -50,7 +50,7 @@ module _ {V E C R S F A : Type 0} (may : May V E C R S F A) (fixed : Fixed F A) 
       }
 
   module _ (h : slice_get gets n ≡ Some (get_at own stage.Unpolled)) where
-    -- the counts where an entry is refused
+    -- the counts when an entry is refused
     entry_counted : Counted core stage.Finished
     entry_counted =
         IsCounted-set core core gets n (get_at own stage.Unpolled) (get_at own stage.Finished) out out h k
@@ -63,11 +63,11 @@ module _ {V E C R S F A : Type 0} (may : May V E C R S F A) (fixed : Fixed F A) 
         (ends_empty fixed core gets out n (get_at own stage.Finished) k nobody (get_at own stage.Unpolled) h (λ u. refl) (λ u. refl) entry_counted)
 
     module _ (runs : (is_positive own.wait && is_none fixed.runtime) ≡ false) where
-      -- the pool is full where the desk is
+      -- the pool is full if the desk is
       full_as : core.limit ≤ places core → nat_lt (pool_places pool) core.limit ≡ false
       full_as full = le-ltb (pool_places pool) core.limit (subst (λ m. core.limit ≤ m) (sym (places-image fixed core gets out k)) full)
 
-      -- and has a free place where the desk has one
+      -- and has a free place if the desk has one
       free_as : places core < core.limit → nat_lt (pool_places pool) core.limit ≡ true
       free_as free = lt-ltb (pool_places pool) core.limit (subst (λ m. m < core.limit) (sym (places-image fixed core gets out k)) free)
 
@@ -136,11 +136,11 @@ module _ {V E C R S F A : Type 0} (may : May V E C R S F A) (fixed : Fixed F A) 
     is_ours : (is_listed ticket core ≡ true) × (owner has_ticket gets ticket ≡ n)
     is_ours = k.tickets.listed n ticket waiter h (eq-eqb ticket ticket refl)
 
-    -- its party was granted a place where its ticket was
+    -- its party was granted a place if its ticket was
     tells_granted : has_number n (map (owner has_ticket gets) core.granted) ≡ has_number ticket core.granted
     tells_granted = granted-renamed has_ticket (queue_of core) gets k.tickets n waiter None h ticket is_ours.1 (λ u. refl)
 
-    -- the pool where it has left the queue
+    -- the pool when it has left the queue
     left_named : (new : Option (Getting V C R S)) → NoTicket new
         → put_off n (party_of new) pool ≡ image_of fixed without_ticket (set gets n new) out
     left_named new none = put_off-unqueued fixed core gets out k.tickets n waiter new h ticket is_ours.1 (λ u. refl) none
@@ -149,13 +149,13 @@ module _ {V E C R S F A : Type 0} (may : May V E C R S F A) (fixed : Fixed F A) 
     left_owned : (new : Option (Getting V C R S)) → NoTicket new → Owns without_ticket (set gets n new)
     left_owned new none = owned-leaves has_ticket (queue_of core) gets k.tickets n waiter new h ticket is_ours.1 (λ u. refl) none
 
-    -- the counts where it ends without a place
+    -- the counts when it ends without a place
     left_counted : Counted without_ticket stage.Finished
     left_counted =
         IsCounted-set core without_ticket gets n waiter (get_at own stage.Finished) out out h k (left_owned (get_at own stage.Finished) (λ u. refl))
         record { going = refl; creations = refl; outside = refl; room = omega arith }
 
-    -- it ends without a place
+    -- a get in the queue ends without a place
     left_refused : (cause : PoolError E) → NobodyWaits (after without_ticket stage.Finished)
         → ◌≡◌ {A = Reply V E × Pool V C R S F A} (fail n (party_at own (stage.Queued ticket deadline)) cause pool) (reply.Failed cause, after without_ticket stage.Finished)
     left_refused cause quiet =

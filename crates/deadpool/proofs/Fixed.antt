@@ -9,11 +9,11 @@ pub record Fixed (F A : Type 0) : Type 0 where
   pub first : ℕ
   pub most : ℕ
 
--- these
+-- the record of these five
 abbrev pub fixed_as : {F A : Type 0} → Option Runtime → HookLists F A → Timeouts → ℕ → ℕ → Fixed F A
 fixed_as runtime hooks timeouts first most = record { runtime = runtime; hooks = hooks; timeouts = timeouts; first = first; most = most }
 
--- the pool with them
+-- the pool of a desk, of its gets and of the objects out, as configured
 abbrev pub image_of : {V C R S F A : Type 0} → Fixed F A → DeskState (Slot V) → List (Option (Getting V C R S)) → List (Slot V) → Pool V C R S F A
 image_of fixed = image fixed.runtime fixed.hooks fixed.timeouts fixed.first fixed.most
 

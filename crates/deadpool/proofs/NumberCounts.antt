@@ -10,7 +10,7 @@ times n xs = length (filter (λ m. m == n) xs)
 pub times-cons : (n x : ℕ) (xs : List ℕ) → times n (x ∷ xs) ≡ one_if (x == n) + times n xs
 times-cons n x xs = length-cond (x == n) x (filter (λ m. m == n) xs)
 
--- of two lists
+-- in two lists together
 pub times-append : (n : ℕ) (xs ys : List ℕ) → times n (xs ++ ys) ≡ times n xs + times n ys
 times-append n xs ys = ap length (filter-append (λ m. m == n) xs ys) ∙ length-append (filter (λ m. m == n) xs) (filter (λ m. m == n) ys)
 
@@ -64,7 +64,7 @@ module _ {V : Type 0} where
   times-map n [] = refl
   times-map n (x ∷ xs) = elim (cases_Bool (x.number == n)) [ inl here ↦ rw here (ap suc (times-map n xs)) | inr other ↦ rw other (times-map n xs) ]
 
-  -- where one has the number, it is there
+  -- if one has the number, it is there
   pub has_number-held : (n : ℕ) (xs : List (Slot V)) → 1 ≤ held n xs → has_number n (map (λ s. s.number) xs) ≡ true
   has_number-held n xs some =
       elim (cases_Bool (has_number n (map (λ s. s.number) xs))) [

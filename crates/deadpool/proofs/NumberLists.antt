@@ -1,16 +1,16 @@
--- Further of lists of numbers: who is there where one is taken out or stands at the back, and lists whose numbers stand once.
+-- Further of lists of numbers: who is there when one is taken out or stands at the back, and lists whose numbers stand once.
 use Rattle.deadpool.proofs.Basics.{◌≡◌, ◌≢◌, ℕ, ◌+◌, List, [], ◌∷◌, ◌++◌, true, false, not, ◌||◌, ◌&&◌, length, refl, sym, ap, ◌∙◌, subst, arith, inl, inr, ◌==◌, and-true, and-false, or-true, or-false, eq-eqb, eqb-true, ne_eqb, cases_Bool, or_parts, has_number, without_number, IsOnce, has_number-append, has_number-without, without_number-same}
 
--- where one is taken out, any other is there as before
+-- when one is taken out, any other is there as before
 pub has_number-other : (n m : ℕ) (xs : List ℕ) → n ≢ m → has_number n (without_number m xs) ≡ has_number n xs
 has_number-other n m xs other = has_number-without n m xs ∙ ap (λ b. has_number n xs && not b) (ne_eqb n m other) ∙ and-true (has_number n xs)
 
--- and where one more stands at the back
+-- and when one more stands at the back
 pub has_number-push : (n m : ℕ) (xs : List ℕ) → n ≢ m → has_number n (xs ++ m ∷ []) ≡ has_number n xs
 has_number-push n m xs other =
     has_number-append n xs (m ∷ []) ∙ ap (λ b. has_number n xs || (b || false)) (ne_eqb m n (λ e. other (sym e))) ∙ or-false (has_number n xs)
 
--- which is there
+-- a number at the back of a list is there
 pub has_number-last : (n : ℕ) (xs : List ℕ) → has_number n (xs ++ n ∷ []) ≡ true
 has_number-last n xs = has_number-append n xs (n ∷ []) ∙ ap (λ b. has_number n xs || (b || false)) (eq-eqb n n refl) ∙ or-true (has_number n xs)
 
@@ -18,7 +18,7 @@ has_number-last n xs = has_number-append n xs (n ∷ []) ∙ ap (λ b. has_numbe
 pub without_number-gone : (n : ℕ) (xs : List ℕ) → has_number n (without_number n xs) ≡ false
 without_number-gone n xs = has_number-without n n xs ∙ (rw (eq-eqb n n refl) (and-false (has_number n xs)))
 
--- where it was there once, one fewer is left
+-- if it was there once, one fewer is left
 pub without_number-once : (n : ℕ) (xs : List ℕ) → IsOnce xs → has_number n xs ≡ true → length (without_number n xs) + 1 ≡ length xs
 without_number-once n [] once h = cc
 without_number-once n (x ∷ xs) once h =

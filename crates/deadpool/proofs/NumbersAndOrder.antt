@@ -45,7 +45,7 @@ module _ {V C R S F A : Type 0} where
       let more = count-append slot_number n p.idle (preparing p) in
       omega (arith, times-map n (p.idle ++ preparing p ++ p.out), count-append slot_number n (p.idle ++ preparing p) p.out, more, held-filter_map n prepared_by p.parties)
 
--- From p a step may lead to q. It sets another limit only where it may, changes no party but the one that it names, and
+-- From p a step may lead to q. It sets another limit only if it may, changes no party but the one that it names, and
 -- no objects leave but some of these.
 pub record Passes {V C R S F A : Type 0} (sets : Bool) (name : Option ℕ) (leaving : List (Slot V)) (p q : Pool V C R S F A) : Type 0 where
   pub limit : sets ≡ false → q.limit ≡ p.limit

@@ -17,7 +17,7 @@ module _ {X : Type 0} (f : X → Bool) where
       let other : (first == n) ≡ false = ne_eqb first n (λ e. omega (arith, e)) in
       elim (cases_Bool (f x)) [ inl here ↦ rw (here, other) rest | inr gone ↦ rw gone rest ]
 
-  -- a place stands there once where what is there passes the test, and not at all elsewhere
+  -- a place stands there once if what is there passes the test, and not at all elsewhere
   times-places : (xs : List X) (first k n : ℕ) → n ≡ first + k → times n (places_from first f xs) ≤ one_if (passes (slice_get xs k))
   times-places [] first k n e = omega arith
   times-places (x ∷ xs) first zero n e =
@@ -57,7 +57,7 @@ module _ {V C R S F A : Type 0} (p : Pool V C R S F A) (l : IsLawful p) where
         | inr gone ↦ let none = times-none n (queue p) gone in omega (arith, none)
       ]
 
-  -- of all the lists
+  -- a party is at most once in all the lists
   times-listed : (n : ℕ) → times n (listed p) ≤ 1
   times-listed n =
       let going_parties = places_from 0 is_going p.parties in

@@ -79,7 +79,7 @@ module _ {V E C R S F A : Type 0} (may : May V E C R S F A) (memory : (found : B
   taken n slot taking.Unknown answer here t given =
       absurd (omega (arith, one_outside core gets out n slot counted here, t.0))
 
-  -- what a resize asks, where a handle is left or not, and where the pool is open or not
+  -- what a resize asks, whether a handle is left or not, and whether the pool is open or not
   abbrev resizing : ℕ → Bool → Bool → Asking V E C R S F A (Reply V E × Pool V C R S F A)
   resizing n none open_ =
       cond none (Return (reply.NoHandle, before)) (cond (not open_) (Return (reply.Done, before))
@@ -106,7 +106,7 @@ module _ {V E C R S F A : Type 0} (may : May V E C R S F A) (memory : (found : B
             )
       ]
 
-  -- and nothing changed where memory was refused
+  -- and nothing changed if memory was refused
   pub resized_err : (n : ℕ) (e : _) → (core.handles == 0) ≡ false → Resizes core n (Err e) core' → Gives may (moved (move.Resize n) before) (reply.OutOfMemory, after) × IsCounted core' gets out
   resized_err n e some r =
       let more : nat_lt before.reserve n ≡ true = grind (arith, nat_tests, r.1) in

@@ -14,7 +14,7 @@ use Rattle.deadpool.proofs.Computations.{Always-then}
 use Rattle.deadpool.proofs.QueuesAndPlaces.{MarksOthers, IsOrderly, Follows, Follows-self, unqueued_gone, unqueued_orderly, unqueued_marks, not_queued, set_marks, counts, standing_at, holds, makes, left_follows, same_places_follow}
 use Rattle.deadpool.proofs.NumbersAndOrder.{Passes, prepares, passes_self, settle_passes, party_passes, order_left, order_pushed}
 
--- where no object is served, none is idle
+-- if no object is served, none is idle
 next_idle-none : {V : Type 0} (mode : QueueMode) (idle : List (Slot V)) → next_idle mode idle ≡ None → length idle ≡ 0
 next_idle-none mode [] h = refl
 next_idle-none Fifo (x ∷ xs) h = cc
@@ -134,7 +134,7 @@ module _ {V C R S F A : Type 0} (E : Type 0) (m : Move V) (n : ℕ) (timeouts : 
           (λ few. placed (creating None None) reply.More p.idle refl refl (omega arith) (inr (next_idle-none p.mode p.idle e)) (λ j. omega arith) tt (λ more. omega arith))
           (λ full. fails_from old NumbersExhausted granted waiting h order k marks)
 
-    -- who joins the queue where no place is free
+    -- who joins the queue if no place is free
     joined_has : (deadline : Option Moment) (found : Bool) → Stands unpolled → p.limit ≤ places p → Advanced unpolled (joined n (standing_at timeouts unpolled) deadline p found)
     joined_has deadline true h full =
         let k = (Follows-self p l).orderly in
@@ -258,7 +258,7 @@ module _ {V C R S F A : Type 0} (E : Type 0) (m : Move V) (n : ℕ) (timeouts : 
           (λ serves. Always-bind (Advanced (creating None deadline)) (create {R = R} {S = S} {F = F} {A = A} None) (λ x. Return (created n (standing_at timeouts (creating None deadline)) now after p x))
           (λ x. created_has None deadline after x h))
 
-      -- an advance, by where the party stands
+      -- an advance, by the standing of the party
       pub advanced : (old : Standing V C R S) → Stands old → Always (Advanced old) (advance_at old n (standing_at timeouts old) now p)
       advanced unpolled h = entered_has h
       advanced (queued deadline) h = inquired_has deadline h

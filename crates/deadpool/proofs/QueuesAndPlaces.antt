@@ -41,7 +41,7 @@ module _ {V C R S F A : Type 0} where
   abbrev granting : ℕ → Pool V C R S F A → Pool V C R S F A
   granting n p = record p { granted = p.granted ++ take n p.waiting; waiting = drop n p.waiting }
 
-  -- as many as are free, where the pool is open
+  -- as many as are free, if the pool is open
   granting_follows : (most n : ℕ) (p : Pool V C R S F A) → IsOrderly most p → MarksQueued p → n ≤ p.limit - places p → (p.is_open ≡ true → n ≡ min (length p.waiting) (p.limit - places p))
       → Follows most (granting n p)
   granting_follows most n p k marks few all =
@@ -88,7 +88,7 @@ module _ {V C R S F A : Type 0} where
       → has_number n (queue p) ≡ false
   not_queued n party p marks h other = marks n ∙ ap is_queued h ∙ other
 
-  -- where one party stands elsewhere, the marks of the others stay
+  -- when one party stands elsewhere, the marks of the others stay
   pub set_marks : (n : ℕ) (old new : Option (Party V C R S)) (p : Pool V C R S F A) → slice_get p.parties n ≡ Some old → MarksOthers n p → has_number n (queue p) ≡ is_queued (Some new)
       → MarksQueued (record p { parties = set p.parties n new })
   set_marks n old new p h marks here m =
@@ -107,7 +107,7 @@ module _ {V C R S : Type 0} where
       × (length (filter_map prepared_by (set parties n new)) + one_if (is_some (prepared_by old)) ≡ length (filter_map prepared_by parties) + one_if (is_some (prepared_by new)))
   counts parties n old new h = (count-set is_going parties n old new h, count-set is_creating parties n old new h, held-set prepared_by parties n old new h)
 
-  -- a party that stands so
+  -- the party with these timeouts and this standing
   abbrev pub standing_at : Timeouts → Standing V C R S → Party V C R S
   standing_at timeouts standing = record { timeouts = timeouts; standing = standing }
 

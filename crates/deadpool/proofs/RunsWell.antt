@@ -40,7 +40,7 @@ module _ {V E C R S F A : Type 0} (may : May V E C R S F A) where
   pub each_step : (P : Pool V C R S F A → Pool V C R S F A → Type 0) → ((q r : Pool V C R S F A) → Succeeds q r × WithinReach q r → P q r) → EachStep may P
   each_step P implies moves p after passed answers w ran = Neighbours-more (λ q r. Succeeds q r × WithinReach q r) P implies (all_states p passed) (runs_well moves p after passed answers w ran).1
 
-  -- What each move has holds of the states that one move passes, where an advance of a poll is as an advance.
+  -- What each move has holds of the states that one move passes, if an advance within a poll is as any other.
   pub each_move : (P : Move V → Pool V C R S F A → Pool V C R S F A → Type 0) → ((n : ℕ) (now : Moment) (q r : Pool V C R S F A) → P (move.Advance n now) q r → P (move.Poll n now) q r)
       → ((m : Move V) (p : Pool V C R S F A) (x : Reply V E × Pool V C R S F A) → IsWell p → IsWell x.1 → Moved p m x → P m p x.1) → EachMove may P
   each_move P polls keeps m p passed answer w made =
@@ -65,7 +65,7 @@ module _ {V E C R S F A : Type 0} (may : May V E C R S F A) where
       let steps = each_step Leaves (λ q r s. succeeds_leaves q r s.0) moves p after passed answers w ran in
       Later-more Leaves NoneReturns (λ q r k. k.1) (all_states p passed) (Later-of Leaves leaves_on (all_states p passed) steps)
 
-  -- where a run begins within its limit, and sets none, the size stays within it
+  -- if a run begins within its limit, and sets none, the size stays within it
   pub stays_within : StaysWithin may
   stays_within moves p after passed answers w within kept ran =
       let have = runs_have may (λ m. sets_limit m ≡ false) (λ q. IsWell q × (reach q ≤ q.limit)) (λ q r. Unit {0}) (λ n now same. refl)

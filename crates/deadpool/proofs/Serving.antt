@@ -8,12 +8,12 @@ use Rattle.deadpool.proofs.DeskImage.{Owns, NoTicket, settles, counted_settled, 
 use Rattle.deadpool.proofs.Fixed.{Fixed, image_of, get_at}
 
 module _ {T : Type 0} where
-  -- where nothing is idle, nothing is next
+  -- if nothing is idle, nothing is next
   next_idle-none : (mode : QueueMode) (idle : List (Slot T)) → idle ≡ [] → next_idle mode idle ≡ None
   next_idle-none Fifo idle e = rw e refl
   next_idle-none Lifo idle e = rw e refl
 
-  -- where something is idle, something is next
+  -- if something is idle, something is next
   next_idle-some : (mode : QueueMode) (idle : List (Slot T)) → idle ≢ [] → (slot : Slot T) × (next_idle mode idle ≡ Some slot)
   next_idle-some mode [] some = absurd (some refl)
   next_idle-some Fifo (s ∷ ss) some = (s, refl)
@@ -49,7 +49,7 @@ module _ {V C R S F A : Type 0} (fixed : Fixed F A) (n : ℕ) (core d : DeskStat
   creating_same : HasLeft → d.next + creating_count pool ≡ d.next + d.creations
   creating_same left = omega (arith, left.creations, k.creations)
 
-  -- the counts where it stands elsewhere
+  -- the counts when it stands elsewhere
   stood : HasLeft → (d' : DeskState (Slot V)) (s : Stage V C R S) → Owns d' (set gets n (get_at own s)) → d'.going ≡ d.going + goes (get_at own s)
       → d'.creations ≡ d.creations + creates (get_at own s) → d'.outside ≡ d.outside + prepares (get_at own s) → lasts (get_at own s) ≤ 1 → IsCounted d' (set gets n (get_at own s)) out
   stood left d' s o places creations outside room = IsCounted-set core d' gets n (get_at own old) (get_at own s) out out h k o record {
@@ -60,7 +60,7 @@ module _ {V C R S F A : Type 0} (fixed : Fixed F A) (n : ℕ) (core d : DeskStat
   }
 
   module _ {E : Type 0} (left : HasLeft) where
-    -- it has an idle object
+    -- the get is served an idle object
     served_object : (allowance : Option ℕ) (slot : Slot V) (more : ℕ) → next_idle d.mode d.idle ≡ Some slot → more + 1 ≡ unwrap_or allowance (length d.idle)
         → (serve {E = E} n party allowance pool
         ≡ (reply.More, after (record d { idle = other_idle d.mode d.idle; outside = d.outside + 1 }) (stage.Recycling (PreRecycle slot start) (Some more))))
@@ -88,7 +88,7 @@ module _ {V C R S F A : Type 0} (fixed : Fixed F A) (n : ℕ) (core d : DeskStat
           stood left (record d { going = d.going + 1 }) (stage.Going None) (left.owned (stage.Going None) (λ u. refl)) refl (omega arith) (omega arith) (omega arith),
         )
 
-    -- it begins a creation
+    -- nothing is idle, and the get begins a creation
     served_create : (allowance : Option ℕ) → d.idle ≡ [] → d.next + d.creations < largest_usize
         → (serve {E = E} n party allowance pool ≡ (reply.More, after (record d { creations = d.creations + 1 }) (stage.Creating None None)))
         × IsCounted (record d { creations = d.creations + 1 }) (set gets n (get_at own (stage.Creating None None))) out

@@ -46,7 +46,7 @@ module _ {V E C R S F A K : Type 0} (may : May V E C R S F A) (memory : (found :
     abbrev after : Pool V C R S F A
     after = image_of fixed core' gets out
 
-    -- what a retain asks, where a handle is left or not, and where something is idle or not
+    -- what a retain asks, whether a handle is left or not, and whether something is idle or not
     abbrev retaining : Bool → Bool → Asking V E C R S F A (Reply V E × Pool V C R S F A)
     retaining none empty =
         cond none (Return (reply.NoHandle, before)) (cond empty (Return (reply.Retained record { retained = 0; removed = [] }, before)) (ask Reserve >>= retain_with kept before))

@@ -17,7 +17,7 @@ no_handle b n is none = grind (arith, nat_tests)
 pub some_handle : (b : Bool) (n : ℕ) → b ≡ nat_lt 0 n → b ≡ true → (n == 0) ≡ false
 some_handle b n is some = grind (arith, nat_tests)
 
--- the objects out have room where the parties have theirs
+-- the objects out have room if the parties have theirs
 pub out_fits : {V C R S : Type 0} (core : DeskState (Slot V)) (gets : List (Option (Getting V C R S))) (n : ℕ) (x : Option (Getting V C R S)) (out : List (Slot V)) (len most capacity : ℕ)
     → IsCounted core (set gets n x) out → len ≡ length gets → len ≤ most → most ≤ capacity → length out ≤ capacity
 out_fits core gets n x out len most capacity k e l c =
@@ -51,7 +51,7 @@ module _ {M V E C R S F A : Type 0} (m : ManagerOf M V E C R) (f : SyncHookOf F 
         let made = Gives-same (may m f a manager) _ _ _ (ap (λ y. by_party y (advance n now) pool) (party_here (Some g) here)) all.0 in
         rw (x.get_is, ← same) (made, all.1, leads_to_well (move.Advance n now) _ _ _ well made)
 
-    -- none, where the party was cancelled: nothing has changed
+    -- none, if the party was cancelled: nothing has changed
     pub not_turned : (now : Moment) (get get' : Option (Getting V C R S)) (turn : Option (Turn V E)) → slice_get gets n ≡ Some get
         → AdvancesGet own_desk (may m f a manager) fixed.runtime fixed.hooks now get core get' core' turn → turn ≡ None
         → (slice_get gets n ≡ Some None) × (set gets n get' ≡ gets) × (core'.desk ≡ core.desk)

@@ -59,7 +59,7 @@ is_name None n = inr (λ e. cc)
 is_name (Some k) n = elim (eqb_tells k n) [ inl same ↦ inl (ap Some same.1) | inr other ↦ inr (λ e. other.1 cc) ]
 
 module _ {V C R S F A : Type 0} where
-  -- where the others are as they were, those that were queued are
+  -- if the others are as they were, those that were queued are
   pub others_stay_queued : (m : Move V) (p q : Pool V C R S F A) → IsLawful p → IsLawful q → OthersStand m p q → OthersStayQueued m p q
   others_stay_queued m p q l k others n there gone =
       elim (is_name (named m) n) [
@@ -76,7 +76,7 @@ module _ {V C R S F A : Type 0} where
           let after : is_queued (slice_get q.parties n) ≡ false = sym (k.marks n) ∙ gone in
           let same : slice_get q.parties n ≡ slice_get p.parties n = others n party other e ∙ sym e in cc
 
-  -- where no more leave than some of these, another's number stays
+  -- if no more leave than some of these, another's number stays
   pub others_stay : (leaving : List (Slot V)) (p q : Pool V C R S F A) → ((n : ℕ) → count n p ≤ count n q + held n leaving) → (n : ℕ) → has_number n (numbers p) ≡ true → has_number n (numbers q) ≡ false
       → has_number n (map (λ slot. slot.number) leaving) ≡ true
   others_stay leaving p q stay n there gone =
@@ -115,6 +115,6 @@ module _ {V E C R S F A : Type 0} where
       let all = passes_well (sets_limit m) (named m) (may_leave m p) p x.1 w (Follows-lawful (reach p) x.1 h.0) h.1 in (all.0, all.1, Follows-reach (reach p) x.1 h.0)
 
 module _ {V C R S F A : Type 0} (E : Type 0) where
-  -- every move
+  -- a pool that is well stays so by any move
   pub moved_well : (m : Move V) (p : Pool V C R S F A) → IsWell p → Always (WellAfter {E = E} p) (moved m p)
   moved_well m p w = Always-more (Moved p m) (WellAfter p) (λ x h. well_after m p x w h) (moved m p) (moved_has E p w.lawful m)

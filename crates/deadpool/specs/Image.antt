@@ -50,7 +50,7 @@ module _ {V C R S : Type 0} where
       not_finished stage.Finished = false
       not_finished _ = true
 
-  -- The desk's counts are the lengths of the lists, and the objects out have room where the parties have theirs.
+  -- The desk's counts are the lengths of the lists, and the objects out have room if the parties have theirs.
   pub record IsCounted (d : DeskState (Slot V)) (gets : List (Option (Getting V C R S))) (out : List (Slot V)) : Type 0 where
     pub tickets : IsOwned has_ticket (queue_of d) gets
     pub going : d.going ≡ length (filter is_going (map party_of gets))

@@ -21,7 +21,7 @@ module _ {V E : Type 0} where
   is_more _ = false
 
 module _ {V : Type 0} where
-  -- While so many are idle, and this least number is to be, an object stays that has one of the numbers, and any where no more
+  -- While so many are idle, and this least number is to be, an object stays that has one of the numbers, and any if no more
   -- are idle than that.
   abbrev pub stays : List ℕ → ℕ → ℕ → Slot V → Bool
   stays kept least idle slot = has_number slot.number kept || nat_le idle least
@@ -82,7 +82,7 @@ module _ {V E C R S F A : Type 0} where
       if stays kept least idle s then give_up kept least idle ss
       else (ask (Detach s.value) >>= λ v. give_up kept least (idle - 1) ss >>= λ vs. Return (v ∷ vs))
 
-  -- what follows where memory was found for the list of values, or not
+  -- what follows if memory was found for the list of values, or was not
   abbrev pub retain_with : List ℕ → Pool V C R S F A → Bool → Asking V E C R S F A (Reply V E × Pool V C R S F A)
   retain_with kept p false = Return (reply.OutOfMemory, p)
   retain_with kept p true =

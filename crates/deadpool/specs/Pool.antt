@@ -50,7 +50,7 @@ pub record Pool (V C R S F A : Type 0) : Type 0 where
   -- the configured ones
   pub timeouts : Timeouts
   pub most_parties : ℕ
-  -- by number, from 0; none where it was cancelled
+  -- by number, from 0; none if it was cancelled
   pub parties : List (Option (Party V C R S))
   -- front to back
   pub idle : List (Slot V)
@@ -139,7 +139,7 @@ module _ {V C R S F A : Type 0} where
   abbrev pub pending : Pool V C R S F A → ℕ
   pending p = length p.waiting + length p.granted + going_count p + creating_count p
 
-  -- how large the pool becomes where each place that was given leads to an object
+  -- how large the pool becomes if each place that was given leads to an object
   abbrev pub reach : Pool V C R S F A → ℕ
   reach p = size p + creating_count p + (length p.granted + going_count p - length p.idle)
 

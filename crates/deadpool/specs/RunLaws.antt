@@ -19,7 +19,7 @@ use Rattle.deadpool.specs.declared.replay.moves.Move.TheVariants as move
 use Rattle.deadpool.specs.declared.replay.moves.Reply.{Reply}
 use Rattle.deadpool.specs.declared.replay.moves.Reply.TheVariants as reply
 
--- the places at which the test holds, where the first is so
+-- the places of the elements that pass the test, if the first element's is this
 abbrev pub places_from : {X : Type 0} → ℕ → (X → Bool) → List X → List ℕ
 places_from n f [] = []
 places_from n f (x ∷ xs) = if f x then n ∷ places_from (n + 1) f xs else places_from (n + 1) f xs
@@ -104,7 +104,7 @@ sets_limit move.DropHandle = false
 sets_limit move.Upgrade = false
 sets_limit move.Status = false
 
--- the party that the move names, where it names one
+-- the party that the move names, if it names one
 abbrev pub named : {V : Type 0} → Move V → Option ℕ
 named (move.Start timeouts) = None
 named (move.Advance n now) = Some n
@@ -122,7 +122,7 @@ named move.Upgrade = None
 named move.Status = None
 
 module _ {V C R S : Type 0} where
-  -- the object that the party prepares, where it is there and prepares one
+  -- the object that the party prepares, if it is there and prepares one
   abbrev pub prepared_in : Option (Option (Party V C R S)) → List (Slot V)
   prepared_in None = []
   prepared_in (Some party) = filter_map prepared_by (party ∷ [])
@@ -207,7 +207,7 @@ module _ {V E C R S F A : Type 0} (may : May V E C R S F A) where
   EndsWell = (moves : List (Move V)) (p after : Pool V C R S F A) (passed : List (List (Pool V C R S F A))) (answers : List (Reply V E))
       → IsWell p → PoolRuns may p moves passed answers after → IsWell after
 
-  -- where such a run begins within its limit, and no move sets one, the size stays within it
+  -- if such a run begins within its limit, and no move sets one, the size stays within it
   abbrev pub StaysWithin : Type 0
   StaysWithin = (moves : List (Move V)) (p after : Pool V C R S F A) (passed : List (List (Pool V C R S F A))) (answers : List (Reply V E))
       → IsWell p → reach p ≤ p.limit → Each (λ m. sets_limit m ≡ false) moves → PoolRuns may p moves passed answers after → Each (λ q. size q ≤ q.limit) (all_states p passed)

@@ -49,7 +49,7 @@ pub data Kind : Type 0 where
   PostRecycle : Kind
   PostCreate : Kind
 
--- the value of the next creation, and the words left for each kind of call: where none is left, a call is fine
+-- the value of the next creation, and the words left for each kind of call: if none is left, a call is fine
 pub record Script : Type 0 where
   pub value : ℕ
   pub create : List Word
@@ -288,7 +288,7 @@ Played = (Reply ℕ (Unit {0}) × ScriptPool) × Script
 abbrev pub played : Asking ℕ (Unit {0}) (Unit {0}) (Unit {0}) (Unit {0}) (Unit {0}) Kind (Reply ℕ (Unit {0}) × ScriptPool) → Script → Played
 played step s = respond outside step s
 
--- A poll is advances up to the first that is not answered More, with so many left. It has More for an answer only where these
+-- A poll is advances up to the first that is not answered More, with so many left. It has More for an answer only if these
 -- do not suffice.
 abbrev pub polled : ℕ → ℕ → Moment → ScriptPool → Script → Played
 polled zero n now p s = played (moved (move.Advance n now) p) s

@@ -233,7 +233,7 @@ pub shrink-and-grow-with-objects-out : Plays (new_pool 2 Fifo None 0) (
     status ⇒ stands 1 1 1 0 ∷ [])
 shrink-and-grow-with-objects-out = refl
 
--- A shrink drops those that came back first, also where the last one is handed out first.
+-- A shrink drops those that came back first, also if the last one is handed out first.
 pub shrink-drops-the-oldest : Plays (new_pool 3 Lifo None 0) (
     start ⇒ party 0 ∷
     poll 0 0 ⇒ object 0 0 ∷

@@ -133,7 +133,7 @@ pub recycling-ready-at-its-deadline : Plays (new_pool 1 Fifo (Some Clock) 0) (
     poll 1 15 ⇒ object 0 0 ∷ [])
 recycling-ready-at-its-deadline = refl
 
--- Timeouts of a wait and of a creation end the get where no runtime is there. One of a recycling gives the object up.
+-- Timeouts of a wait and of a creation end the get if no runtime is there. One of a recycling gives the object up.
 pub timeouts-without-a-runtime : Plays (new_pool 1 Fifo None 0) (
     start_with (Some 5) None None ⇒ party 0 ∷
     poll 0 0 ⇒ failed NoRuntimeSpecified ∷

@@ -28,7 +28,7 @@ module _ {V : Type 0} where
   abbrev pub without_slot : ℕ → List (Slot V) → List (Slot V)
   without_slot n xs = without_numbered slot_number n xs
 
-  -- the objects, where the one with the number has another value
+  -- the objects, once the one with the number has another value
   abbrev pub with_put : ℕ → V → List (Slot V) → List (Slot V)
   with_put n v [] = []
   with_put n v (s ∷ ss) = if s.number == n then record s { value = v } ∷ ss else s ∷ with_put n v ss

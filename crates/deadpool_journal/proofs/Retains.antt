@@ -23,7 +23,7 @@ use Rattle.deadpool_journal.specs.declared.entry.Entry.TheVariants as entry
 use Rattle.deadpool_journal.proofs.ByNumber.{some_numbered}
 use Rattle.deadpool_journal.proofs.Kept.{step_full}
 
--- where nothing is removed, all remains
+-- if nothing is removed, all remains
 remaining-none : (at : ℕ) (xs : List ℕ) → remaining at [] xs ≡ xs
 remaining-none at [] = refl
 remaining-none at (x ∷ xs) = refl
@@ -40,7 +40,7 @@ module _ {T R : Type 0} (asks : RetainerOf R T) where
       let here : n.position ≡ at = ap (λ (m : Removal). m.position) same in
       omega (arith, here)
 
-  -- where the first is kept
+  -- if the first is kept
   pub kept_stands : (at x : ℕ) (xs ys : List ℕ) (noted : List Removal) → ((n : Removal) (ns : List Removal) → noted ≡ n ∷ ns → at + 1 ≤ n.position)
       → StandIn (at + 1) noted xs × (ys ≡ remaining (at + 1) noted xs) → StandIn at noted (x ∷ xs) × ((x ∷ ys) ≡ remaining at noted (x ∷ xs))
   kept_stands at x xs ys [] later h = (tt, ap (λ zs. x ∷ zs) (h.1 ∙ remaining-none (at + 1) xs))
@@ -99,7 +99,7 @@ module _ {T R : Type 0} (asks : RetainerOf R T) where
   pub refused_retain_numbered : (d d' : DeskState (Slot T)) (r r' : R) (e : AllocError) → RetainsNoting asks d r (Err e) d' r' → Makes (numbered d) (entry.Retain (Err e)) (numbered d')
   refused_retain_numbered d d' r r' e h = (some_numbered d.idle h.0, ap numbered h.1)
 
-  -- Where there is no room for the entry only the mark is set, and what the retain gave up could have been noted.
+  -- If there is no room for the entry only the mark is set, and what the retain gave up could have been noted.
   pub unnoted_retain : (j : Journaling T) (core : CoreState T) (r r' : R) (reply : Result (Retained T) AllocError) → core_steps.Retains asks j.core r reply core r'
       → nat_lt (length j.log.entries) j.log.most ≡ false → NotesRetain asks j r reply (record j { core = core; log = record j.log { is_full = true } }) r'
   unnoted_retain j core r r' (Ok given) h none = let all = retain_noted j.core.desk core.desk r r' given h.0 in (all.0, (all.1, h.1), rw none refl)

@@ -54,7 +54,7 @@ impl<S: Counted + Drop> Handle<S> {
         Handle { shared }
     }
 
-    /// One handle more. Where there is no memory for it, none was counted.
+    /// One handle more. If there is no memory for it, none was counted.
     pub fn clone(&self) -> Result<Self, AllocError>
         ensures { IfOk result (λ handle. handle ≡ self.now) }
     {

@@ -45,7 +45,7 @@ impl<L: Wakes, R: Wait> StepLock<L, R> {
         self.kept.lock(&self.rt)
     }
 
-    /// Gives the lock back after a step. Where the step left a task due to be woken, the wakers of all that are due are called,
+    /// Gives the lock back after a step. If the step left a task due to be woken, the wakers of all that are due are called,
     /// one at a time and none of them under the lock.
     pub fn end(&self, kept: MutexGuard<'_, L>) {
         let is_due = kept.is_wake_due();

@@ -18,7 +18,7 @@ pub trait Request<S: Counted>: Drop {
     // Holds of each output that it may give.
     ghost gives: { Self.Output → Type 0 } = { λ _. ⊤ };
 
-    /// One poll. The task has registered before it. It comes back where it is pending; otherwise there is its output.
+    /// One poll. The task has registered before it. It comes back if it is pending; otherwise there is its output.
     fn poll(
         self,
         shared: &S,
@@ -39,9 +39,9 @@ pub trait Request<S: Counted>: Drop {
 /// A request as a future, with a handle of its own. It registers before each poll of the request. One that has ended stays
 /// pending. Dropping it gives up a request that has not ended, and then its handle.
 pub struct RequestFuture<Q: Request<S>, S: Counted + Drop> {
-    // None where no handle was counted.
+    // None if no handle was counted.
     handle: Option<Handle<S>>,
-    // None where it has ended.
+    // None if it has ended.
     request: Option<Q>,
     // Of one without a handle, until its first poll.
     refusal: Option<Q::Refusal>,

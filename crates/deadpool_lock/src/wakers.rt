@@ -34,7 +34,7 @@ impl Wakers {
         }
     }
 
-    /// Sees that there is a place for a ticket of this number, as the gate names it to whom it lists next. Where memory is
+    /// Sees that there is a place for a ticket of this number, as the gate names it to whom it lists next. If memory is
     /// wanting, the places are as they were.
     pub fn make_room(&mut self, number: usize) -> Result<(), AllocError>
         ensures room { OnOk result (self.new ≡ with_room number self.old) }
@@ -51,7 +51,7 @@ impl Wakers {
         Ok(())
     }
 
-    /// Exchanges the waker of a ticket. False where the ticket has no place, and nothing has changed.
+    /// Exchanges the waker of a ticket. False if the ticket has no place, and nothing has changed.
     pub fn exchange(&mut self, ticket: Ticket, waker: &mut Option<Waker>) -> bool
         ensures has { result ≡ nat_lt ticket (length self.old) }
         ensures exchanged { IsTrue result → (self.new ≡ slice_set self.old ticket waker.old) × (waker.new ≡ waker_at ticket self.old) }
@@ -75,8 +75,8 @@ impl Wakers {
         waker
     }
 
-    /// Goes with one poll of a party, which had the ticket `before` and has the ticket `after`. Where it waits, its waker is
-    /// kept, in exchange for the one that was; where it waits no longer, the answer is the waker that was kept for it. A waker
+    /// Goes with one poll of a party, which had the ticket `before` and has the ticket `after`. If it waits, its waker is
+    /// kept, in exchange for the one that was; if it waits no longer, the answer is the waker that was kept for it. A waker
     /// that finds no place is the answer too.
     pub fn follow(
         &mut self,

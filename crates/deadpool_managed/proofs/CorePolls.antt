@@ -1,4 +1,4 @@
--- A poll over a core is one over the desk machine. Where its get does not come to wait, nobody comes to or leaves the queue.
+-- A poll over a core is one over the desk machine. If its get does not come to wait, nobody comes to or leaves the queue.
 use Rattle.std.proofs.Common.{◌≡◌, ◌≢◌, ◌<◌, ℕ, Bool, List, [], ◌∷◌, map, true, false, Option, Some, None, Result, Ok, Err, refl, sym, ap, ◌∙◌, subst, inl, inr, arith}
 use Rattle.std.specs.Prelude.{⊤}
 use Rattle.std.specs.declared.time.Duration.{Duration}
@@ -52,7 +52,7 @@ module _ {V C R S : Type 0} where
   stands_past stage next is past = subst (λ (s : Stage V C R S). StandsPast s) (sym is) past
 
 module _ {V E C R S : Type 0} where
-  -- where a get is served it does not come to wait
+  -- if a get is served it does not come to wait
   served_past : (by : Serving (Slot V)) (after : Stage V C R S) (turn : Turn V E) → AfterServing by after turn → StandsPast after
   served_past (serving.Object slot left) after turn h = stands_past after _ h.0 tt
   served_past serving.Create after turn h = stands_past after _ h.0 tt
@@ -130,7 +130,7 @@ module _ {V : Type 0} where
   makes_past c d d' (refusing reply) past h = (h, refl)
   makes_past c d d' (cancelling what reply) past h = absurd past
 
-  -- the step of a get that enters where a place is free
+  -- the step of a get that enters when a place is free
   entered_free : (c c' : CoreState V) (wait : Bool) (reply : EnterReply (Slot V)) → c.desk.is_open ≡ true → places c.desk < c.desk.limit → Makes own_desk c (entering wait reply) c'
       → (c'.untold ≡ c.untold) × ((by : Serving (Slot V)) × (reply ≡ enter.Served by))
   entered_free c c' wait enter.Closed opens free h = absurd (let shut = h.0.0 in cc)
@@ -182,7 +182,7 @@ module _ {V E C R S F A : Type 0} (may : May V E C R S F A) (runtime : Option Ru
   pub polls_untold : (c c' : CoreState V) (stage : Stage V C R S) → StandsPast stage → PollsOver own_desk may runtime hooks now timeouts c stage c' stage' turn → c'.untold ≡ c.untold
   polls_untold c c' stage past (steps, ran) = advances_untold c c' stage steps past ran
 
-  -- the first advance of a new get, where a place is free
+  -- the first advance of a new get, when a place is free
   first_untold : (c d : CoreState V) (made : Made V) (next : Stage V C R S) (came : Turn V E) → c.desk.is_open ≡ true → places c.desk < c.desk.limit
       → Makes own_desk c made d → AdvancesFrom may runtime hooks now timeouts Unpolled made next came → (d.untold ≡ c.untold) × StandsPast next
   first_untold c d no_step next came opens free makes h = (ap (λ (b : CoreState V). b.untold) makes, stands_past next _ h.1 tt)
@@ -203,7 +203,7 @@ module _ {V E C R S F A : Type 0} (may : May V E C R S F A) (runtime : Option Ru
           let first = first_untold c x.desk x.made x.stage More opens free h.0 h.1 in
           advances_untold x.desk c' x.stage (y ∷ zs) first.1 h.2 ∙ first.0
 
-  -- and a poll over the desk machine is one over a core, where that leaves those that were not told
+  -- and a poll over the desk machine is one over a core, if that leaves those that were not told
 
   module _ (c' : CoreState V) where
     abbrev over : Advanced (DeskState (Slot V)) V C R S → Advanced (CoreState V) V C R S
@@ -238,7 +238,7 @@ module _ {V E C R S F A : Type 0} (may : May V E C R S F A) (runtime : Option Ru
             let first = begins x.desk x.made x.stage More h.0 h.1 in
             (over x ∷ map over (y ∷ zs), (first.0, h.1, advances_over x.desk x.stage (y ∷ zs) first.1 h.2))
 
-    -- a new get, where a place is free and its wait lacks no runtime
+    -- a new get, when a place is free and its wait lacks no runtime
     pub first_poll_over : (c : CoreState V) → c.desk.is_open ≡ true → places c.desk < c.desk.limit → cannot_wait runtime timeouts.wait ≡ false → c'.untold ≡ c.untold
         → PollsOver core_desk may runtime hooks now timeouts c.desk Unpolled c'.desk stage' turn → PollsOver own_desk may runtime hooks now timeouts c Unpolled c' stage' turn
     first_poll_over c opens free waits same = polls_over c Unpolled begins
@@ -252,7 +252,7 @@ module _ {V E C R S F A : Type 0} (may : May V E C R S F A) (runtime : Option Ru
             (served.0, served_past by next came after)
         begins d _ next came makes h = absurd h
 
-    -- a creation that begins, where it is not pending
+    -- a creation that begins, if it is not pending
     pub creation_poll_over : (c : CoreState V) → AtOnce may → c'.untold ≡ c.untold
         → PollsOver core_desk may runtime hooks now timeouts c.desk (Creating None None) c'.desk stage' turn → PollsOver own_desk may runtime hooks now timeouts c (Creating None None) c' stage' turn
     creation_poll_over c once same = polls_over c (Creating None None) begins

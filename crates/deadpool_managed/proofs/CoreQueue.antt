@@ -14,34 +14,34 @@ module _ {T : Type 0} (pool : Inside T) (gate : Line) where
   abbrev with_gate : Inside T
   with_gate = record pool { gate = gate }
 
-  -- a pool keeps what it has to where no more of its line have a place than before
+  -- a pool keeps what it has to if no more of its line have a place than before
   pub IsSound-gate : IsSound pool → length (granted_tickets gate.waiters) ≤ length (granted_tickets pool.gate.waiters) → IsSound with_gate
   IsSound-gate sound fewer = record { within = sound.within; small = sound.small; held = omega (arith, fewer, sound.held); numbered = sound.numbered }
 
-  -- the same where a waiter leaves
+  -- the same when a waiter leaves
   pub IsSound-without : (t : ℕ) → IsSound pool → IsLine pool.gate.is_closed pool.gate.waiters → gate.waiters ≡ without_waiter t pool.gate.waiters → IsSound with_gate
   IsSound-without t sound line gone =
       let fewer = without_number-shorter t (granted_tickets pool.gate.waiters) in
       IsSound-gate sound (rw (gone, granted_tickets-without_waiter t pool.gate.waiters line.apart) fewer)
 
-  -- where the one that leaves had a place, that is free then
+  -- if the one that leaves had a place, that is free then
   pub places-without : (t : ℕ) → IsSound pool → IsLine pool.gate.is_closed pool.gate.waiters → has_number t (granted_tickets pool.gate.waiters) ≡ true
       → gate.waiters ≡ without_waiter t pool.gate.waiters → places (desk_of with_gate) + 1 ≤ pool.ring.capacity
   places-without t sound line has gone =
       let fewer = without_number-fewer t (granted_tickets pool.gate.waiters) has in
       rw (gone, granted_tickets-without_waiter t pool.gate.waiters line.apart) (omega (arith, fewer, sound.held))
 
-  -- the state where the line is as it was
+  -- the state when the line is as it was
   pub desk_of-same : gate.waiters ≡ pool.gate.waiters → gate.is_closed ≡ pool.gate.is_closed → desk_of with_gate ≡ desk_of pool
   desk_of-same same closed = rw (same, closed) refl
 
-  -- where a waiter left
+  -- when a waiter left
   pub desk_of-unqueued : (t : ℕ) → IsLine pool.gate.is_closed pool.gate.waiters → gate.waiters ≡ without_waiter t pool.gate.waiters → gate.is_closed ≡ pool.gate.is_closed
       → desk_of with_gate ≡ unqueued t (desk_of pool)
   desk_of-unqueued t line gone closed =
       rw (gone, closed, granted_tickets-without_waiter t pool.gate.waiters line.apart, waiting_tickets-without_waiter t pool.gate.waiters line.apart) refl
 
-  -- where one that waits was told
+  -- when one that waits was told
   pub IsSound-told : (is_closed : Bool) → IsSound pool → gate.waiters ≡ tell_next is_closed pool.gate.waiters → IsSound with_gate
   IsSound-told is_closed sound told = IsSound-gate sound (rw (told, granted_tickets-told (is_due is_closed) pool.gate.waiters) (omega arith))
 
@@ -49,12 +49,12 @@ module _ {T : Type 0} (pool : Inside T) (gate : Line) where
   desk_of-told is_closed told closed =
       rw (told, closed, granted_tickets-told (is_due is_closed) pool.gate.waiters, waiting_tickets-told (is_due is_closed) pool.gate.waiters) refl
 
-  -- where a waiter came
+  -- when a waiter came
   pub desk_of-arrived : (t : ℕ) → gate.waiters ≡ pool.gate.waiters ++ arrived t ∷ [] → gate.is_closed ≡ pool.gate.is_closed
       → desk_of with_gate ≡ record (desk_of pool) { waiting = waiting_tickets pool.gate.waiters ++ t ∷ [] }
   desk_of-arrived t longer closed = rw (longer, closed, granted_tickets-arrived t pool.gate.waiters, waiting_tickets-arrived t pool.gate.waiters) refl
 
-  -- where the free places went to those that wait
+  -- when the free places went to those that wait
   pub desk_of-settled : (n room : ℕ) → room ≡ pool.limit - places (desk_of pool) → n ≡ grant_count pool.gate.is_closed room pool.gate.waiters
       → granted_tickets gate.waiters ≡ granted_tickets pool.gate.waiters ++ take n (waiting_tickets pool.gate.waiters) → waiting_tickets gate.waiters ≡ drop n (waiting_tickets pool.gate.waiters)
       → gate.is_closed ≡ pool.gate.is_closed → desk_of with_gate ≡ settled (desk_of pool)

@@ -51,7 +51,7 @@ module _ {O : Type 0} where
   other_idle-within Fifo idle = let l = length-drop 1 idle in omega (arith, l)
   other_idle-within Lifo idle = let l = length-take (length idle - 1) idle in omega (arith, l)
 
-  -- where places are given to those that wait
+  -- when places are given to those that wait
   settles : (d : DeskState O) → length d.idle ≤ d.limit → IsOnce (d.granted ++ d.waiting) → IsSettled (settled d)
   settles d within once = record {
     nobody_waits = λ is_open free.
@@ -63,7 +63,7 @@ module _ {O : Type 0} where
     once = rw (append_assoc d.granted (take (grants d) d.waiting) (drop (grants d) d.waiting), take-append-drop (grants d) d.waiting) once;
   }
 
-  -- where the queue is as it was, no place is given back, and nothing comes to the idle objects
+  -- if the queue is as it was, no place is given back, and nothing comes to the idle objects
   stays : (d d' : DeskState O) → d'.is_open ≡ d.is_open → d'.limit ≡ d.limit → d'.granted ≡ d.granted → d'.waiting ≡ d.waiting → places d ≤ places d' → length d'.idle ≤ length d.idle
       → IsSettled d → IsSettled d'
   stays d d' opens limits grants_are waits more fewer s = record {
@@ -93,7 +93,7 @@ module _ {O : Type 0} where
   place-unqueued d ticket s has =
       let one = without_number-one ticket d.granted (IsOnce-front d.granted d.waiting s.once) in omega (arith, one)
 
-  -- or without
+  -- or without one
   no_place-unqueued : (d : DeskState O) (ticket : ℕ) → has_number ticket d.granted ≡ false → places (unqueued ticket d) ≡ places d
   no_place-unqueued d ticket has = let same = ap length (without_number-same ticket d.granted has) in omega (arith, same)
 
@@ -211,7 +211,7 @@ module _ {O : Type 0} where
   upgrade_settled d d' true h s = rw h.1 record { nobody_waits = s.nobody_waits; within = s.within; once = s.once }
   upgrade_settled d d' false h s = rw h.1 s
 
-  -- a new pool
+  -- a new pool is settled
   pub new_settled : (limit : ℕ) (mode : QueueMode) (first floor : ℕ) → IsSettled (new_core {O = O} limit mode first floor)
   new_settled limit mode first floor = record { nobody_waits = λ is_open free. refl; within = omega arith; once = tt }
 

@@ -5,7 +5,7 @@ use Rattle.std.specs.Prelude.{slice_get, filter, filter_map, is_some}
 use Rattle.std.proofs.lemmas.Bool.{cond_both}
 use Rattle.std.proofs.lemmas.List.Elements.{filter-append, filter_map-append}
 
--- 1 where the test holds
+-- 1 if the test holds
 abbrev pub one_if : Bool → ℕ
 one_if b = cond b 1 0
 

@@ -23,7 +23,7 @@ grant_count-length false room ws = rw (← waiting_count-length ws) (omega arith
 pub unlisted : (t : ℕ) (ws : List Waiter) → find_waiter t ws ≡ None → has_ticket t ws ≡ false
 unlisted t ws is = let none = has_number_unlisted t ws is in rw (none.0, none.1) refl
 
--- where nobody has the ticket, nobody leaves
+-- if nobody has the ticket, nobody leaves
 without_waiter-none : (t : ℕ) (ws : List Waiter) → find_waiter t ws ≡ None → without_waiter t ws ≡ ws
 without_waiter-none t [] none = refl
 without_waiter-none t (w ∷ ws) none =

@@ -4,7 +4,7 @@ use Rattle.std.specs.Option.{option_map}
 use Rattle.deadpool_parts.specs.Gate.{Waiter, find_waiter, without_waiter, asked}
 use Rattle.deadpool_parts.proofs.GateListed.{remove_first_none}
 
--- nobody does where nobody is listed
+-- nobody does if nobody is listed
 pub without_waiter_unlisted : (is_closed : Bool) (key : ℕ) (ws : List Waiter) → None ≡ option_map (λ (w : Waiter). w.granted) (find_waiter key ws) → without_waiter key ws ≡ asked is_closed key ws
 without_waiter_unlisted c key ws none = by_cases (find_waiter key ws) refl
   where

@@ -89,7 +89,7 @@ module _ (p : Waiter → Bool) where
         | inr fails ↦ rw fails (moved_on-elsewhere (Some x.ticket) w.ticket (first_ticket ys None) (λ is. let same : x.ticket ≡ w.ticket = cc in differs same))
       ]
 
-  -- a waiter is replaced by one with the same ticket that passes just where it did
+  -- a waiter is replaced by one with the same ticket that passes exactly if the old one did
   first_failing-replaced : (xs : List Waiter) (v w : Waiter) (ys : List Waiter) → w.ticket ≡ v.ticket → p w ≡ p v → first_failing p (xs ++ w ∷ ys) ≡ first_failing p (xs ++ v ∷ ys)
   first_failing-replaced [] v w ys ticket same =
       elim (cases_Bool (p v)) [
@@ -208,7 +208,7 @@ listed-between : (g : Inside) (ws : List Waiter) (key : ℕ) (node : Node) → S
 listed-between g ws key node shows found =
     found_between (λ v. eqb v.ticket key) ws (waiter_at key node) (Shows-find g ws key shows ∙ ap (option_map (waiter_at key)) (sym found))
 
--- it is counted
+-- the gate counts the node, as granted or as waiting
 pub record IsCounted (g : Inside) (node : Node) : Type 0 where
   pub granted : one_if node.granted ≤ g.granted
   pub waiting : one_if (not node.granted) ≤ g.waiting
@@ -284,7 +284,7 @@ fails_first p ws key first = by_cases (find (λ v. not (p v)) ws) refl
         let between = found_between (λ v. not (p v)) ws w is in
         record { waiter = w; between = between; ticket = cc; fails = not-true (p w) between.passes }
 
--- it has a node
+-- the earliest that fails has a node
 fails_first-node : (g : Inside) (p : Waiter → Bool) (ws : List Waiter) (key : ℕ) → Shows g ws → first_failing p ws ≡ Some key → get g.store.nodes key ≢ None
 fails_first-node g p ws key shows first none =
     let at : FailsFirst p ws key = fails_first p ws key first in
@@ -371,7 +371,7 @@ pub Shows-none_waiting : (g : Inside) (ws : List Waiter) → Shows g ws → g.fi
 Shows-none_waiting g ws shows first =
     change_first_none (λ v. not v.granted) with_place ws (first_failing_none (λ v. v.granted) ws (sym shows.first_waiting ∙ first))
 
--- where one waits the count of those is not 0, and one more can be granted
+-- if one waits the count of those is not 0, and one more can be granted
 pub record OneWaits (g : Inside) : Type 0 where
   pub waits : 1 ≤ g.waiting
   pub room : g.granted + 1 < 2 ^ 64
@@ -392,11 +392,11 @@ none_due : (is_closed : Bool) (ws : List Waiter) → find (λ v. not v.told) ws 
 none_due c ws told =
     find_none-stronger (is_due c) (λ v. not v.told) (λ v due. (and_parts (v.granted || c) (not v.told) due).1) ws told
 
--- nobody is, where all were told
+-- nobody is, if all were told
 pub Shows-all_told : (g : Inside) (ws : List Waiter) → Shows g ws → g.first_untold ≡ None → find (is_due g.is_closed) ws ≡ None
 Shows-all_told g ws shows first = none_due g.is_closed ws (first_failing_none (λ v. v.told) ws (sym shows.first_untold ∙ first))
 
--- nor is anybody in an open gate, where the earliest that was not told has no place
+-- nor is anybody in an open gate, if the earliest that was not told has no place
 pub Shows-none_due : (g : Inside) (ws : List Waiter) (key : ℕ) → Shows g ws → g.is_closed ≡ false → g.first_untold ≡ Some key → g.first_waiting ≡ Some key → find (is_due g.is_closed) ws ≡ None
 Shows-none_due g ws key shows is_open untold waiting =
     let at : FailsFirst (λ v. v.told) ws key = fails_first (λ v. v.told) ws key (sym shows.first_untold ∙ untold) in

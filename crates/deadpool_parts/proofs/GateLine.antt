@@ -123,7 +123,7 @@ has_place false ended = ended
 is_due-granted : (w : Waiter) → is_due false w ≡ true → w.granted ≡ true
 is_due-granted w due = has_place w.granted (and_parts (w.granted || false) (not w.told) due).0
 
--- where nobody has a place in an open line, nobody is due
+-- if nobody has a place in an open line, nobody is due
 pub none_due-open : (is_closed : Bool) (ws : List Waiter) → is_closed ≡ false → NonePass (λ w. w.granted) ws → find (is_due is_closed) ws ≡ None
 none_due-open c ws is none = rw is (find_none-none_pass (is_due false) (λ w. w.granted) is_due-granted ws none)
 

@@ -4,7 +4,7 @@ use Rattle.std.specs.List.{find}
 use Rattle.std.proofs.lemmas.Bool.{cases_Bool, both_ways}
 use Rattle.deadpool_parts.specs.Gate.{Waiter, remove_first, change_first, NonePass, IsFront}
 
--- where nothing is found, neither the first nor any later one passes
+-- if nothing is found, neither the first nor any later one passes
 pub find_none-head : (test : Waiter → Bool) (x : Waiter) (xs : List Waiter) → find test (x ∷ xs) ≡ None → test x ≡ false
 find_none-head test x xs none =
     elim (cases_Bool (test x)) [
@@ -93,7 +93,7 @@ module _ (test : Waiter → Bool) where
           | inr fails ↦ rw fails (find_none-none_pass xs none.1)
         ]
 
-  -- behind one that fails nobody passes, where those that pass are the front
+  -- behind one that fails nobody passes, if those that pass are the front
   pub none_pass-behind : (xs : List Waiter) (w : Waiter) (ys : List Waiter) → test w ≡ false → IsFront test (xs ++ w ∷ ys) → NonePass test ys
   none_pass-behind [] w ys fails front = front.0 fails
   none_pass-behind (x ∷ xs) w ys fails front = none_pass-behind xs w ys fails front.1

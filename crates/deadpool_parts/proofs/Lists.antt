@@ -23,20 +23,20 @@ module _ {X : Type 0} where
   get-set_other (x ∷ xs) (suc n) zero new h = refl
   get-set_other (x ∷ xs) (suc n) (suc m) new h = get-set_other xs n m new (λ e. h (ap suc e))
 
-  -- an element stays where more are added at the back
+  -- an element stays when more are added at the back
   pub get-append : (xs ys : List X) (n : ℕ) (x : X) → slice_get xs n ≡ Some x → slice_get (xs ++ ys) n ≡ Some x
   get-append [] ys n x h = cc
   get-append (y ∷ xs) ys zero x h = h
   get-append (y ∷ xs) ys (suc n) x h = get-append xs ys n x h
 
-  -- where one is added, any other is that one
+  -- when one is added, any other is that one
   pub get-pushed : (xs : List X) (y : X) (n : ℕ) (x : X) → slice_get (xs ++ y ∷ []) n ≡ Some x → (slice_get xs n ≡ Some x) ⊎ (x ≡ y)
   get-pushed [] y zero x h = inr (let same : x ≡ y = cc in same)
   get-pushed [] y (suc n) x h = cc
   get-pushed (z ∷ xs) y zero x h = inl h
   get-pushed (z ∷ xs) y (suc n) x h = get-pushed xs y n x h
 
-  -- a list that is gone through ends where none is left
+  -- a list that is gone through ends when none is left
   pub none_left : (xs : List X) (n : ℕ) → n ≡ length xs → n ≡ 0 → xs ≡ []
   none_left [] n e z = refl
   none_left (x ∷ xs) n e z = cc

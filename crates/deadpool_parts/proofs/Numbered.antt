@@ -34,7 +34,7 @@ module _ {A : Type 0} (number : A → ℕ) where
         | inr is_not_less ↦ rw (is_not_less, one-add) (ap (λ zs. y ∷ zs) (inserted_at_place x ys))
       ]
 
-  -- one more is there
+  -- a list with one more is one longer
   pub length-with_numbered : (x : A) (xs : List A) → length (with_numbered number x xs) ≡ length xs + 1
   length-with_numbered x [] = refl
   length-with_numbered x (y ∷ ys) =
@@ -43,7 +43,7 @@ module _ {A : Type 0} (number : A → ℕ) where
         | inr is_not_less ↦ rw is_not_less (omega (arith, length-with_numbered x ys))
       ]
 
-  -- one less is there
+  -- a list without one that is found is one shorter
   pub length-without_numbered : (n : ℕ) (xs : List A) (x : A) → find_numbered number n xs ≡ Some x → length (without_numbered number n xs) + 1 ≡ length xs
   length-without_numbered n [] x h = cc
   length-without_numbered n (y ∷ ys) x h =

@@ -11,7 +11,7 @@ module _ {A : Type 0} (number : A → ℕ) (n : ℕ) where
   pub count-cons : (x : A) (xs : List A) → count_numbered number n (x ∷ xs) ≡ one_if (number x == n) + count_numbered number n xs
   count-cons x xs = length-cond (number x == n) x (filter (λ y. number y == n) xs)
 
-  -- of two lists
+  -- in two lists together
   pub count-append : (xs ys : List A) → count_numbered number n (xs ++ ys) ≡ count_numbered number n xs + count_numbered number n ys
   count-append xs ys =
       ap length (filter-append (λ x. number x == n) xs ys) ∙ length-append (filter (λ x. number x == n) xs) (filter (λ x. number x == n) ys)

@@ -1,4 +1,4 @@
--- Lists of numbers: who is in them, and what is left where one is taken out.
+-- Lists of numbers: who is in them, and what is left when one is taken out.
 use Rattle.std.proofs.Common.{◌≡◌, ◌≢◌, ℕ, ◌+◌, ◌≤◌, List, [], ◌∷◌, ◌++◌, Bool, true, false, cond, not, ◌||◌, ◌&&◌, eqb, length, map, take, drop, refl, sym, ap, ◌∙◌, arith, inl, inr}
 use Rattle.std.specs.Prelude.{◌==◌}
 use Rattle.std.proofs.Math.Bool.{or_assoc, or-false, and-or_distrib_right}
@@ -37,14 +37,14 @@ has_number-cond false n x xs = refl
 without-step : (n m x : ℕ) (a b : Bool) → a ≡ (b && not (n == m)) → cond (not (x == m)) ((x == n) || a) a ≡ (((x == n) || b) && not (n == m))
 without-step n m x a b h = grind (arith, nat_tests)
 
--- who is left where m is taken out
+-- who is left when m is taken out
 pub has_number-without : (n m : ℕ) (xs : List ℕ) → has_number n (without_number m xs) ≡ (has_number n xs && not (n == m))
 has_number-without n m [] = refl
 has_number-without n m (x ∷ xs) =
     has_number-cond (not (x == m)) n x (without_number m xs)
     ∙ without-step n m x (has_number n (without_number m xs)) (has_number n xs) (has_number-without n m xs)
 
--- where it was not there, nothing changes
+-- if it was not there, nothing changes
 pub without_number-same : (n : ℕ) (xs : List ℕ) → has_number n xs ≡ false → without_number n xs ≡ xs
 without_number-same n [] h = refl
 without_number-same n (x ∷ xs) h =
@@ -58,7 +58,7 @@ without_number-shorter n (x ∷ xs) =
     let rest = without_number-shorter n xs in
     cond_both (not (x == n)) _ _ (λ ys. length ys ≤ length (x ∷ xs)) (λ y. omega (arith, rest)) (λ y. omega (arith, rest))
 
--- and fewer where it was there
+-- and fewer if it was there
 pub without_number-fewer : (n : ℕ) (ns : List ℕ) → has_number n ns ≡ true → length (without_number n ns) + 1 ≤ length ns
 without_number-fewer n [] has = cc
 without_number-fewer n (m ∷ ns) has =
@@ -67,7 +67,7 @@ without_number-fewer n (m ∷ ns) has =
       | inr other ↦ rw other (omega (arith, without_number-fewer n ns (rw other at has)))
     ]
 
--- but for one, where no number stands twice
+-- but for one, if no number stands twice
 pub without_number-one : (n : ℕ) (ns : List ℕ) → IsOnce ns → length ns ≤ length (without_number n ns) + 1
 without_number-one n [] once = omega arith
 without_number-one n (m ∷ ns) once =

@@ -7,12 +7,12 @@ use Rattle.deadpool_parts.specs.Numbers.{has_number, without_number}
 use Rattle.deadpool_parts.specs.Orders.{IsOnce, KeepsOrder}
 use Rattle.deadpool_parts.proofs.Numbers.{differs_sym, has_number-append, has_number-without}
 
--- where all pass the test nothing goes
+-- if all pass the test nothing goes
 pub filter-all : (xs : List ℕ) → filter (λ n. true) xs ≡ xs
 filter-all [] = refl
 filter-all (x ∷ xs) = ap (λ ys. x ∷ ys) (filter-all xs)
 
--- what is left where one is taken out stands there once
+-- what is left when one is taken out stands there once
 pub IsOnce-without : (n : ℕ) (xs : List ℕ) → IsOnce xs → IsOnce (without_number n xs)
 IsOnce-without n [] once = tt
 IsOnce-without n (x ∷ xs) once =

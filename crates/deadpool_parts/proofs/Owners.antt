@@ -57,7 +57,7 @@ module _ {X : Type 0} (has : ℕ → X → Bool) where
       let rest : owner has (set xs n new) t ≡ n = owner-new xs n old new t h is (λ m y k. f (suc m) y k) in
       ap (λ b. cond b 0 (owner has (set xs n new) t + 1)) (f zero x refl) ∙ (rw rest (omega arith))
 
-  -- an owner stays where one more is added at the back
+  -- an owner stays when one more is added at the back
   owner-push : (xs : List X) (y : X) (u : ℕ) → owner has xs u < length xs → owner has (xs ++ y ∷ []) u ≡ owner has xs u
   owner-push [] y u within = absurd (omega (arith, within))
   owner-push (x ∷ xs) y u within =
@@ -191,7 +191,7 @@ module _ {X : Type 0} (has : ℕ → X → Bool) (q : Queue) (xs : List X) (o : 
               ]
         ]
 
-    -- it is among the granted by its number exactly where its ticket is
+    -- it is among the granted by its number exactly if its ticket is
     pub granted-renamed : (t : ℕ) → owner has xs t ≡ n → OneTicket has t old → has_number n (map (owner has xs) q.granted) ≡ has_number t q.granted
     granted-renamed t mine one = has_number-map (owner has xs) n t q.granted (tells t mine one q.granted (λ u k. or_left _ _ k))
 

@@ -29,7 +29,7 @@ module _ {X : Type 0} (test : X → Bool) where
   pub place_within : (xs : List X) (at : ℕ) → position test xs ≡ Some at → at < length xs
   place_within xs at h = let w = place_is xs at h in w.1
 
-  -- the place, or the end where there is none
+  -- the place, or the end if there is none
   pub place_or_end : (xs : List X) → unwrap_or (position test xs) (length xs) ≡ position_or_len test xs
   place_or_end xs =
       elim (cases_Bool (nat_lt (position_or_len test xs) (length xs))) [
@@ -45,6 +45,6 @@ module _ {X : Type 0} (test : X → Bool) where
       let w = place_is xs at h in
       find_at test xs ∙ ap (slice_get xs) w.0 ∙ slice_get_read xs (length xs) at x refl w.1 e
 
-  -- where there is no place, nothing is found
+  -- if there is no place, nothing is found
   pub nothing_found : (xs : List X) → position test xs ≡ None → find test xs ≡ None
   nothing_found xs h = find_at test xs ∙ slice_get_past xs (position_or_len test xs) (place_past xs h)

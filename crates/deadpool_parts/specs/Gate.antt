@@ -16,7 +16,7 @@ pub record Waiter : Type 0 where
   pub told : Bool
 
 -- a gate: its waiters, and how many it can list before it has to find memory; the number on the next ticket; how many
--- accesses to waiters it has made so far, and where that count stood when its last call began
+-- accesses to waiters it has made so far, and what that count was when its last call began
 pub record Line : Type 0 where
   pub waiters : List Waiter
   pub is_closed : Bool

@@ -51,7 +51,7 @@ abbrev pub moved_on : Option ℕ → ℕ → Option ℕ → Option ℕ
 moved_on None key behind = None
 moved_on (Some at) key behind = if at == key then behind else Some at
 
--- the node under a key is changed; nothing is, where there is no key
+-- the node under a key is changed; nothing is, if there is no key
 abbrev pub ChangesAt : Option ℕ → (Node → Node) → Slab Node → Slab Node → Type 0
 ChangesAt None change old new = SameValues old new
 ChangesAt (Some key) change old new = Updates old new key (option_map change (get old key))

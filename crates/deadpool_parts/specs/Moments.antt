@@ -13,7 +13,7 @@ largest_moment = 340282366920938463463374607431768211455
 abbrev pub moment_after : Moment → Duration → Moment
 moment_after now d = record { 0 = min (now.0 + as_nanos d) largest_moment }
 
--- the deadline of a phase that begins now, where it has one
+-- the deadline of a phase that begins now, if it has one
 abbrev pub deadline_after : Moment → Option Duration → Option Moment
 deadline_after now timeout = option_map (moment_after now) timeout
 
@@ -34,6 +34,6 @@ lacks_runtime runtime timeout = is_some timeout && not (is_some runtime)
 abbrev pub cannot_wait : Option Runtime → Option Duration → Bool
 cannot_wait runtime wait = is_positive wait && is_none runtime
 
--- how long after a moment another is, in nanoseconds: zero where it is earlier, and at most the longest duration
+-- how long after a moment another is, in nanoseconds: zero if it is earlier, and at most the longest duration
 abbrev pub nanos_between : Moment → Moment → ℕ
 nanos_between from now = min (now.0 - from.0) max_nanos

@@ -1,4 +1,4 @@
--- Computations that ask the outside, and go on at each answer. A definition of what code does is such a computation where
+-- Computations that ask the outside, and go on at each answer. A definition of what code does is such a computation when
 -- the code calls somebody else's.
 use Rattle.std.specs.Prelude.{◌≡◌}
 
@@ -28,7 +28,7 @@ module _ {Q : Type 0} {Answer : Q → Type 0} where
   Always P (Return a) = P a
   Always P (Ask q k) = (a : Answer q) → Always P (k a)
 
-  -- the result where an outside with a state of its own answers
+  -- the result when an outside with a state of its own answers
   abbrev pub respond : {A W : Type 0} → (W → (q : Q) → Answer q × W) → Program Q Answer A → W → A × W
   respond outside (Return a) w = (a, w)
   respond outside (Ask q k) w = let (a, v) = outside w q in respond outside (k a) v

@@ -1,7 +1,7 @@
 -- Runs of a machine, with every state that they pass.
 use Rattle.std.specs.Prelude.{◌≡◌, List, [], ◌∷◌, ◌++◌, ⊤}
 
--- the last of the states after x, or x itself where there is none
+-- the last of the states after x, or x itself if there is none
 abbrev pub last_of : {X : Type 0} → X → List X → X
 last_of x [] = x
 last_of x (y ∷ ys) = last_of y ys

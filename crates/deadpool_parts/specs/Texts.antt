@@ -1,4 +1,4 @@
--- What `{}` writes for each error. `output` gives the text of the cause that a program brings, where it is known.
+-- What `{}` writes for each error. `output` gives the text of the cause that a program brings, if it is known.
 use Rattle.std.specs.Prelude.{ℕ, List, ◌++◌, Option, Some, option_map, codes}
 use Rattle.std.specs.Cow.{cow_str_bytes}
 use Rattle.deadpool_parts.specs.declared.errors.BuildError.{BuildError}

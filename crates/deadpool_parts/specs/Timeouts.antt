@@ -37,7 +37,7 @@ pub record FitsTimeouts (l : Limits) : Type 0 where
 abbrev pub number_at : List ℕ → Data → Option ℕ
 number_at key d = option_and_then as_u64 (option_and_then as_number (get key d))
 
--- both parts together, where they are in range and the seconds still are after the carry
+-- both parts together, if they are in range and the seconds still are after the carry
 abbrev pub nanoseconds_of : ℕ → ℕ → Option ℕ
 nanoseconds_of secs nanos = if nat_lt nanos (2 ^ 32) && nat_lt (secs + nanos / 1_000_000_000) (2 ^ 64) then Some (secs * 1_000_000_000 + nanos) else None
 

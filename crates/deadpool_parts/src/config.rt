@@ -197,7 +197,7 @@ fn min_idle_of(value: &Value) -> Result<usize, ConfigError>
     usize::try_from(min_idle).map_err(|_| ConfigError::BadMinIdle)
 }
 
-/// The timeout at a key of an object: not set where the key is missing or null.
+/// The timeout at a key of an object: not set if the key is missing or null.
 pub fn timeout_at(value: &Value, key: &str) -> Result<Option<Duration>, ConfigError>
     ensures { result_map (option_map as_nanos) result ≡ read_timeout (get key.now (view value.now)) }
 {
@@ -261,7 +261,7 @@ fn written_timeouts(alloc: Global, timeouts: Timeouts) -> Result<Value, AllocErr
     json!(in alloc; {"wait": wait, "create": create, "recycle": recycle})
 }
 
-/// A timeout in JSON: null where it is not set. Its nanoseconds stay below a second.
+/// A timeout in JSON: null if it is not set. Its nanoseconds stay below a second.
 pub fn written_timeout(alloc: Global, timeout: Option<Duration>) -> Result<Value, AllocError>
     ensures written { IfOk result (λ v. view v ≡ written_timeout (option_map as_nanos timeout)) }
     ensures reads_back { IfOk result

@@ -13,7 +13,7 @@ pub fn moment_after(now: Moment, duration: Duration) -> Moment
     Moment(now.0.saturating_add(duration.as_nanos()))
 }
 
-/// The deadline of a phase that begins now, where it has a timeout.
+/// The deadline of a phase that begins now, if it has a timeout.
 pub fn deadline_after(now: Moment, timeout: Option<Duration>) -> Option<Moment>
     ensures { result ≡ deadline_after now timeout }
 {

@@ -151,8 +151,8 @@ impl Gate {
         }
     }
 
-    /// Asks for one place where `room` of them are free, and joins the end of the list where none is and `wait` is set.
-    /// A free place is taken without a look at the list, so settle first where others wait. A place that a listed waiter
+    /// Asks for one place if `room` of them are free, and joins the end of the list if none is and `wait` is set.
+    /// A free place is taken without a look at the list, so settle first if others wait. A place that a listed waiter
     /// has is not free. After any answer but `Waiting` the list is as it was, and the caller may enter again.
     pub fn enter(&mut self, room: usize, wait: bool) -> Entry
         ensures at_once { IfSome (entry_at_once self.old.is_closed room wait) (λ answer. result ≡ answer) }

@@ -54,7 +54,7 @@ module _ {V : Type 0} (runtime : Option Runtime) (most next : ℕ) (d : State (I
     abbrev new_visitor : Option (Visitor V)
     new_visitor = Some (visitor.Add (Unpolled item))
 
-    -- it ends
+    -- the add ends at its first poll
     new_ended : image runtime most next d (set visitors n over) out ≡ ended n before
     new_ended =
         let gone = left-none runtime most next d visitors out k n new_visitor over here (λ u. refl) (λ u. refl) in
@@ -110,14 +110,14 @@ module _ {V : Type 0} (runtime : Option Runtime) (most next : ℕ) (d : State (I
     mine : (is_listed t d.adds ≡ true) × (owner has_add visitors t ≡ n)
     mine = k.adds.listed n t queued_visitor here (eq-eqb t t refl)
 
-    -- it ends
+    -- the add ends and leaves the queue
     queued_ended : image runtime most next (without_add t d) (set visitors n over) out ≡ ended n before
     queued_ended = image-without_add runtime most next d visitors out k n queued_visitor over here t mine.1 (λ u. refl) (λ u. refl) (λ u. refl) (λ u. refl)
 
     queued_counted : IsCounted (without_add t d) (set visitors n over) out
     queued_counted = counted-without_add runtime most next d visitors out k n queued_visitor over here t mine.1 (λ u. refl) (λ u. refl) (λ u. refl) (λ u. refl)
 
-    -- it was granted room exactly where its ticket was
+    -- it was granted room exactly if its ticket was
     granted_here : has_number n before.adds.granted ≡ has_number t d.adds.granted
     granted_here = granted-renamed has_add d.adds visitors k.adds n queued_visitor over here t mine.1 (λ u. refl)
 
@@ -143,7 +143,7 @@ module _ {V : Type 0} (runtime : Option Runtime) (most next : ℕ) (d : State (I
         by_settling (move.Poll n now) before well (reply.Added item.number) runtime most next (stored item (without_add t d)) (set visitors n over) out
         (record { gets = queued_counted.gets; adds = queued_counted.adds; outside = queued_counted.outside }) true makes d' e.2
 
-  -- whatever an add is
+  -- the poll of an add at any stage
   pub add_polled : (stage : AddStage (Item V)) → slice_get visitors n ≡ Some (Some (visitor.Add stage)) → (turn : Poll (Result (Unit {0}) (Item V × PoolError))) (after : AddStage (Item V)) (d' : State (Item V))
       → PollsAdd stage d turn after d' → AddPolled (reply_to (added (held_by stage) turn)) d' (Some (visitor.Add after)) (given (added (held_by stage) turn) out)
   add_polled (Unpolled item) here turn after d' polls = rw (polls.1.1, polls.1.2) (entered_so item here polls.0 d' polls.1.0)

@@ -1,4 +1,4 @@
--- How many objects have a number, where the last of them goes out.
+-- How many objects have a number, when the last of them goes out.
 use Rattle.std.proofs.Common.{◌≡◌, ℕ, ◌+◌, ◌-◌, zero, suc, List, [], ◌∷◌, ◌==◌, length, take, arith, Some}
 use Rattle.std.specs.List.{slice_get}
 use Rattle.deadpool_unmanaged.specs.RunLaws.{so_many}
@@ -8,7 +8,7 @@ use Rattle.deadpool_parts.proofs.Counts.{one_if}
 use Rattle.deadpool_parts.proofs.NumberedCounts.{count-cons}
 
 module _ {V : Type 0} (n : ℕ) where
-  -- 1 where the object has the number
+  -- 1 if the object has the number
   abbrev pub one : Item V → ℕ
   one item = one_if (item.number == n)
 

@@ -14,11 +14,11 @@ use Rattle.deadpool_unmanaged.specs.StateSteps.{without_get, without_add, with_g
 use Rattle.deadpool_unmanaged.specs.Steps.{last_idle}
 use Rattle.deadpool_unmanaged.specs.declared.state.PoolState.TheInside.{Inside}
 
--- one leaves
+-- the queue when a waiter leaves
 pub queue-without : (t : ℕ) (ws : List Waiter) → IsApart ws → queue_of (without_waiter t ws) ≡ without t (queue_of ws)
 queue-without t ws apart = rw (granted_tickets-without_waiter t ws apart, waiting_tickets-without_waiter t ws apart) refl
 
--- one comes
+-- and when one comes
 pub queue-joined : (t : ℕ) (ws : List Waiter) → queue_of (ws ++ arrived t ∷ []) ≡ joined t (queue_of ws)
 queue-joined t ws = rw (granted_tickets-arrived t ws, waiting_tickets-arrived t ws) refl
 
@@ -32,7 +32,7 @@ past_end [] n none = omega arith
 past_end (x ∷ xs) zero none = cc
 past_end (x ∷ xs) (suc n) none = let rest = past_end xs n none in omega (arith, rest)
 
--- so nothing goes out only where nothing is idle
+-- so nothing goes out only if nothing is idle
 pub none_idle : {T : Type 0} (idle : List T) → last_idle idle ≡ None → idle ≡ []
 none_idle [] none = refl
 none_idle (x ∷ xs) none = let past = past_end (x ∷ xs) (length (x ∷ xs) - 1) none in absurd (let least : length xs + 1 ≤ length xs = omega (arith, past) in omega arith)
@@ -101,7 +101,7 @@ module _ {T : Type 0} (core : Inside T) (gate : Line) where
       → state_of with_adds ≡ record (state_of core) { untold_adds = still_untold named (untold_tickets core.adds.waiters) }
   adds-told named granted waiting untold = rw (granted, waiting, untold) refl
 
-  -- where an add is told, or leaves, a core keeps what it has to
+  -- when an add is told, or leaves, a core keeps what it has to
   pub IsSound-adds_told : IsSound core → granted_tickets gate.waiters ≡ granted_tickets core.adds.waiters → gate.is_closed ≡ core.adds.is_closed → IsSound with_adds
   IsSound-adds_told sound granted closed = record { together = closed ∙ sound.together; held = rw granted sound.held; reserve = sound.reserve }
 
@@ -114,7 +114,7 @@ module _ {T : Type 0} (core : Inside T) (gate : Line) where
         reserve = sound.reserve;
       }
 
-  -- and where it had room, that is free
+  -- and if it had room, that is free
   pub room-left : (t : ℕ) → IsSound core → IsApart core.adds.waiters → has_number t (granted_tickets core.adds.waiters) ≡ true → gate.waiters ≡ without_waiter t core.adds.waiters
       → 0 < free_room (state_of with_adds)
   room-left t sound apart has gone =

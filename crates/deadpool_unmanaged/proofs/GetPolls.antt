@@ -70,7 +70,7 @@ module _ {V : Type 0} (runtime : Option Runtime) (most next : ℕ) (d : State (I
     abbrev new_visitor : Option (Visitor V)
     new_visitor = Some (visitor.Get (Unpolled wait))
 
-    -- it ends
+    -- the get ends at its first poll
     new_ended : image runtime most next d (set visitors n over) out ≡ ended n pool
     new_ended =
         let gone = left-none runtime most next d visitors out k n new_visitor over here (λ u. refl) (λ u. refl) in
@@ -136,14 +136,14 @@ module _ {V : Type 0} (runtime : Option Runtime) (most next : ℕ) (d : State (I
     mine : (is_listed t d.gets ≡ true) × (owner has_get visitors t ≡ n)
     mine = k.gets.listed n t queued_visitor here (eq-eqb t t refl)
 
-    -- it ends
+    -- the get ends and leaves the queue
     queued_ended : image runtime most next (without_get t d) (set visitors n over) out ≡ ended n pool
     queued_ended = image-without_get runtime most next d visitors out k n queued_visitor over here t mine.1 (λ u. refl) (λ u. refl) (λ u. refl) (λ u. refl)
 
     queued_counted : IsCounted (without_get t d) (set visitors n over) out
     queued_counted = counted-without_get runtime most next d visitors out k n queued_visitor over here t mine.1 (λ u. refl) (λ u. refl) (λ u. refl) (λ u. refl)
 
-    -- it was granted an object exactly where its ticket was
+    -- it was granted an object exactly if its ticket was
     granted_here : has_number n pool.gets.granted ≡ has_number t d.gets.granted
     granted_here = granted-renamed has_get d.gets visitors k.gets n queued_visitor over here t mine.1 (λ u. refl)
 
@@ -177,7 +177,7 @@ module _ {V : Type 0} (runtime : Option Runtime) (most next : ℕ) (d : State (I
           room = subst Waits (sym (renamed-set has_add d.adds visitors k.adds n queued_visitor over here (λ u. refl) (λ u. refl))) nobody.room;
         })
 
-  -- whatever a get is
+  -- the poll of a get at any stage
   pub get_polled : (stage : GetStage) → slice_get visitors n ≡ Some (Some (visitor.Get stage)) → (turn : Poll (Result (Item V) PoolError)) (after : GetStage) (d' : State (Item V))
       → PollsGet runtime now stage d turn after d' → Polled (reply_to (got turn)) d' (Some (visitor.Get after)) (given (got turn) out)
   get_polled (Unpolled wait) here turn after d' polls = new_polled wait here turn after d' polls

@@ -64,7 +64,7 @@ module _ {T : Type 0} where
       some_idle [] v e = cc
       some_idle (x ∷ xs) v e = omega arith
 
-  -- one comes in, where there is room
+  -- one comes in, if there is room
   owed-stored : (d : State T) (value : T) → 0 < free_room d → Owed d → Owed (stored value d)
   owed-stored d value free owed = let more = length-append d.idle (value ∷ []) in record { within = omega (arith, more, free); gets = owed.gets; adds = owed.adds }
 

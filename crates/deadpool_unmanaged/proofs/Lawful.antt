@@ -54,7 +54,7 @@ module _ {V : Type 0} where
         | inr is_not_less ↦ rw is_not_less (omega (arith, length-with_item s xs))
       ]
 
-  -- and one less
+  -- without one that is found there is one less
   pub length-without_item : (n : ℕ) (xs : List (Item V)) (item : Item V) → find_item n xs ≡ Some item → length (without_item n xs) + 1 ≡ length xs
   length-without_item n [] item h = cc
   length-without_item n (x ∷ xs) item h =
@@ -88,7 +88,7 @@ module _ {V : Type 0} where
   hand_out_keeps : (p q : Pool V) → Keeps p q → Keeps p (hand_out q).1
   hand_out_keeps p q kept = let out = handed_keeps (last_idle q.idle) q refl kept.room in record { room = out.room; limit = out.limit ∙ kept.limit }
 
-  -- an object comes in, where there is room
+  -- an object comes in, if there is room
   store_keeps : (item : Item V) (p q : Pool V) → q.limit ≡ p.limit → size q + length q.adds.granted + 1 ≤ q.limit → Keeps p (store item q).1
   store_keeps item p q limit room = let more = length-append q.idle (item ∷ []) in record { room = omega (arith, more, room); limit = limit }
 

@@ -38,11 +38,11 @@ module _ {V : Type 0} (asks : Option (Option (Party V)) → Bool) where
       ⊎ (((n : ℕ) × ((r ≡ without n q) × (named ≡ Some n) × (asks (slice_get ys n) ≡ false) × Others n xs ys))
       ⊎ ((n : ℕ) × ((r ≡ joined n q) × (asks (slice_get xs n) ≡ false) × (asks (slice_get ys n) ≡ true) × Others n xs ys)))
 
-  -- the others are as they were where one is set
+  -- the others are as they were when one is set
   pub set_others : (xs : List (Option (Party V))) (n : ℕ) (x : Option (Party V)) → Others n xs (set xs n x)
   set_others xs n x m other = ap asks (get-set_other xs n m x other)
 
-  -- all are, where the one that is set asks as the one before it
+  -- all are, if the one that is set asks as the one before it
   pub set_quiet : (xs : List (Option (Party V))) (n : ℕ) (old new : Option (Party V)) → slice_get xs n ≡ Some old → asks (Some new) ≡ asks (Some old) → (m : ℕ)
       → asks (slice_get (set xs n new) m) ≡ asks (slice_get xs m)
   set_quiet xs n old new here same m =
@@ -51,7 +51,7 @@ module _ {V : Type 0} (asks : Option (Option (Party V)) → Bool) where
         | inr other ↦ set_others xs n new m other.1
       ]
 
-  -- or where one more is added at the back, who does not ask
+  -- or when one more is added at the back, who does not ask
   pub push_quiet : (xs : List (Option (Party V))) (x : Option (Party V)) → asks None ≡ false → asks (Some x) ≡ false → (m : ℕ) → asks (slice_get (xs ++ x ∷ []) m) ≡ asks (slice_get xs m)
   push_quiet xs x none quiet m = by_cases (slice_get xs m) refl
     where
@@ -67,7 +67,7 @@ module _ {V : Type 0} (asks : Option (Option (Party V)) → Bool) where
       by_cases None e = past e (slice_get (xs ++ x ∷ []) m) refl ∙ sym none ∙ ap asks (sym e)
       by_cases (Some y) e = ap asks (get-append xs (x ∷ []) m y e ∙ sym e)
 
-  -- who is left where n leaves
+  -- who is left when n leaves
   left_marks : (q : Queue) (xs ys : List (Option (Party V))) (n : ℕ) → IsLined asks q xs → asks (slice_get ys n) ≡ false → Others n xs ys
       → (m : ℕ) → has_number m (without_number n (members q)) ≡ asks (slice_get ys m)
   left_marks q xs ys n lined gone others m =
@@ -77,7 +77,7 @@ module _ {V : Type 0} (asks : Option (Option (Party V)) → Bool) where
         | inr other ↦ (rw other.0 (and-true (has_number m (members q)))) ∙ lined.marks m ∙ sym (others m other.1)
       ])
 
-  -- and where n joins
+  -- and when n joins
   joined_marks : (q : Queue) (xs ys : List (Option (Party V))) (n : ℕ) → IsLined asks q xs → has_number n (members q) ≡ false → asks (slice_get ys n) ≡ true → Others n xs ys
       → (m : ℕ) → has_number m (members q ++ n ∷ []) ≡ asks (slice_get ys m)
   joined_marks q xs ys n lined fresh there others m =

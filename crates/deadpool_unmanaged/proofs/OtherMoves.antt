@@ -35,7 +35,7 @@ use Rattle.deadpool_unmanaged.proofs.Follows.{Follows, by_settling, by_resting}
 use Rattle.deadpool_unmanaged.proofs.Lawful.{length-without_item}
 use Rattle.deadpool_unmanaged.proofs.Visitors.{objects-image, room-image, hands_out, counted-handed}
 
--- a number is not zero where it is above
+-- a number is not zero if it is above
 above_zero : (n : ℕ) → 0 < n → eqb n 0 ≡ false
 above_zero n some = grind (arith, nat_tests)
 
@@ -185,7 +185,7 @@ module _ {V : Type 0} (runtime : Option Runtime) (most next : ℕ) (d : State (I
   upgrades true d' e = more move.Upgrade (reply.Upgraded true) d' e.1 (rw (above_zero d.handles e.0) refl)
   upgrades false d' e = same move.Upgrade (reply.Upgraded false) d' e.1 (rw (is_zero d.handles e.0) refl)
 
-  -- one handle less, and where it was the last the room of the idle objects is free
+  -- one handle less, and if it was the last the room of the idle objects is free
   pub drops : (r : HandleReply) (d' : State (Item V)) → DropsHandle d r d' → Leaves move.DropHandle (reply_to_handle r) next d' out
   drops handle.NoHandle d' e = same move.DropHandle reply.NoHandle d' e.1 (rw (is_zero d.handles e.0) refl)
   drops handle.Done d' e =

@@ -61,7 +61,7 @@ module _ {V : Type 0} where
   }
 
   module _ (n : ℕ) (party : Party V) (p : Pool V) (well : IsWell p) (here : slice_get p.parties n ≡ Some (Some party)) where
-    -- what it brought
+    -- the object that the add brought, if any
     abbrev its : List (Item V)
     its = brought_in (Some (Some party))
 

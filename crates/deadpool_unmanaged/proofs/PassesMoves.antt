@@ -20,7 +20,7 @@ use Rattle.deadpool_unmanaged.proofs.Lined.{push_quiet}
 use Rattle.deadpool_unmanaged.proofs.Passes.{Passes, none_drawn, same_passes, cancelled_passes, hand_out_passes, poll_passes}
 use Rattle.deadpool_parts.proofs.NumberedCounts.{count-push, count-without, count-found, count-push_held}
 
--- one is left, where it is not none
+-- one is left, if it is not none
 some_left : (n : ℕ) → eqb n 0 ≡ false → 0 < n
 some_left n h = grind (arith, nat_tests)
 
@@ -30,7 +30,7 @@ none_left n h = grind (arith, nat_tests)
 differs : (n m : ℕ) → eqb n m ≡ false → eqb m n ≡ false
 differs n m h = grind (arith, nat_tests)
 
--- a handle that is dropped was the last one where none is left
+-- a handle that is dropped was the last one if none is left
 one_left : (n : ℕ) → eqb n 0 ≡ false → eqb (if n == most_handles then most_handles else n - 1) 0 ≡ true → eqb n 1 ≡ true
 one_left n some none =
     elim (cases_Bool (n == most_handles)) [
@@ -209,7 +209,7 @@ module _ {V : Type 0} where
         let same = same_passes None [] p well in
         record { counts = none_drawn p (cloned p) refl (λ n. omega arith); stays = λ n. omega arith; parties = same.parties; promises = λ is left. well.promises is (some_left p.handles some); closed = well.closed; gets = same.gets; adds = same.adds }
 
-    -- the idle objects, where the last handle goes
+    -- the idle objects, when the last handle goes
     abbrev taken_by_last : List (Item V)
     taken_by_last = if p.handles == 1 then p.idle else []
 

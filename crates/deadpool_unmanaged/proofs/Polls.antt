@@ -33,7 +33,7 @@ module _ {V : Type 0} (runtime : Option Runtime) (most next : ℕ) (d : State (I
       (subst (λ (t : Turn V). Polled runtime most next d visitors out k well n now (reply_to t) d' (Some (visitor.Add polls.left)) (given t out)) same
       (add_polled runtime most next d visitors out k well n now stage here polls.polled polls.left d' polls.polls))
 
-  -- where nobody is there, nothing changes
+  -- if nobody is there, nothing changes
   pub not_polled : (old after : Option (Visitor V)) (came_to : Option (Turn V)) (d' : State (Item V)) → slice_get visitors n ≡ Some old → came_to ≡ None → PollsVisitor runtime now old d came_to after d'
       → (slice_get visitors n ≡ Some None) × (set visitors n after ≡ visitors) × (d' ≡ d)
   not_polled None after came_to d' here is polls = (here, rw polls.1 (set-same visitors n None here), polls.2)

@@ -47,7 +47,7 @@ module _ {V : Type 0} where
         subst P (sym whole) ((good, later.0), next_one Next p q rest next.1 later.1, later.2)
     runs_have _ p after _ _ good ran = absurd ran
 
-  -- what holds of each where something else does
+  -- what holds of each if something else does
   pub Each-more : (P more : Pool V → Type 0) → ((p : Pool V) → P p → more p) → (ps : List (Pool V)) → Each P ps → Each more ps
   Each-more P more implies [] all = tt
   Each-more P more implies (p ∷ ps) all = (implies p all.0, Each-more P more implies ps all.1)

@@ -20,7 +20,7 @@ renamed-served f is_open free q =
     let same : length (map f q.waiting) ≡ length q.waiting = length-map q.waiting f in
     rw (same, map-append f q.granted (take k q.waiting), ← take-map f k q.waiting, ← drop-map f k q.waiting) refl
 
--- nobody is granted anything where nobody waits or nothing is free
+-- nobody is granted anything if nobody waits or nothing is free
 pub served-none : (is_open : Bool) (free : ℕ) (q : Queue) → (is_open ≡ true → 0 < free → q.waiting ≡ []) → served is_open free q ≡ q
 served-none is_open free q nobody =
     let none : cond is_open (min (length q.waiting) free) 0 ≡ 0 =

@@ -66,7 +66,7 @@ module _ {V : Type 0} (runtime : Option Runtime) (most next : ℕ) where
     pub left-none : NoTicket has_get old → NoTicket has_add old → left n (image runtime most next d visitors out) ≡ image runtime most next d visitors out
     left-none get_old add_old = rw (absent has_get d.gets visitors k.gets n old new here get_old, absent has_add d.adds visitors k.adds n old new here add_old) refl
 
-    -- nobody waits where nobody did
+    -- nobody waits if nobody did
     pub nobody-set : NoTicket has_get old → NoTicket has_get new → NoTicket has_add old → NoTicket has_add new → NobodyWaits (image runtime most next d visitors out)
         → NobodyWaits (image runtime most next d (set visitors n new) out)
     nobody-set get_old get_new add_old add_new nobody =

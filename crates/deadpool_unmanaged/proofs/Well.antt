@@ -28,7 +28,7 @@ module _ {V : Type 0} where
   asks_once (Some (Some (queued_add item))) is = cc
   asks_once (Some (Some finished)) is = cc
 
-  -- the numbers stay once where they are drawn one by one
+  -- the numbers stay once if they are drawn one by one
   numbered_after : (p q : Pool V) → IsNumbered p → CountsOn p q → IsNumbered q
   numbered_after p q numbered counts = record {
     once = λ n.

@@ -26,7 +26,7 @@ module _ {T : Type 0} where
   ticket_of (Queued ticket value) = Some ticket
   ticket_of _ = None
 
-  -- where an add stands whose entry was answered so, and what its poll comes to
+  -- the stage of an add whose entry was answered so, and what its poll comes to
   abbrev pub stage_entered : AddEnterReply T → AddStage T
   stage_entered (entered.Waiting ticket value) = Queued ticket value
   stage_entered _ = Finished
@@ -43,7 +43,7 @@ module _ {T : Type 0} where
   IsWithoutMemory (Ready (Err (value, OutOfMemory))) = Unit {0}
   IsWithoutMemory _ = ⊥
 
-  -- the same where it asked
+  -- the same if it asked
   abbrev pub stage_asked : ℕ → AddAskReply T → AddStage T
   stage_asked ticket (asked.Waiting value) = Queued ticket value
   stage_asked ticket _ = Finished

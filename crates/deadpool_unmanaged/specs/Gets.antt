@@ -27,7 +27,7 @@ deadline_of (Queued ticket deadline) = deadline
 deadline_of _ = None
 
 module _ {T : Type 0} where
-  -- where a get stands whose entry was answered so, and what its poll comes to
+  -- the stage of a get whose entry was answered so, and what its poll comes to
   abbrev pub stage_entered : Option Moment → GetEnterReply T → GetStage
   stage_entered deadline (entered.Waiting ticket) = Queued ticket deadline
   stage_entered deadline _ = Finished
@@ -39,7 +39,7 @@ module _ {T : Type 0} where
   turn_entered (entered.Waiting ticket) = Pending
   turn_entered entered.OutOfMemory = Ready (Err OutOfMemory)
 
-  -- the same where it asked
+  -- the same if it asked
   abbrev pub stage_asked : ℕ → Option Moment → GetAskReply T → GetStage
   stage_asked ticket deadline asked.Waiting = Queued ticket deadline
   stage_asked ticket deadline _ = Finished

@@ -27,7 +27,7 @@ pub record Pool (V : Type 0) : Type 0 where
   -- the number that the next object gets: so many were drawn
   pub next : ℕ
   pub most_parties : ℕ
-  -- by number, from 0; none where it was cancelled
+  -- by number, from 0; none if it was cancelled
   pub parties : List (Option (Party V))
   -- the last is the next to go out
   pub idle : List (Item V)

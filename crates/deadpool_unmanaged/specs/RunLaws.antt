@@ -53,7 +53,7 @@ module _ {V : Type 0} where
   abbrev pub copies : ℕ → Pool V → ℕ
   copies n p = so_many n p.idle + so_many n (filter_map brings p.parties) + so_many n p.out
 
-  -- each number stands at most once, and only where it was drawn
+  -- each number stands at most once, and only if it was drawn
   pub record IsNumbered (p : Pool V) : Type 0 where
     pub once : (n : ℕ) → copies n p ≤ 1
     pub drawn : (n : ℕ) → p.next ≤ n → copies n p ≡ 0
@@ -65,7 +65,7 @@ module _ {V : Type 0} where
     pub step : q.next ≤ p.next + 1
     pub others : (n : ℕ) → (n == p.next) ≡ false → copies n q ≤ copies n p
 
-  -- where no object has a number that was drawn, it stays so
+  -- if no object has a number that was drawn, it stays so
   abbrev pub NoneReturns : Pool V → Pool V → Type 0
   NoneReturns p q = (n : ℕ) → n < p.next → copies n p ≡ 0 → copies n q ≡ 0
 
@@ -117,7 +117,7 @@ module _ {V : Type 0} where
     pub counts : CountsOn p q
     pub queues : KeepsQueues p q
 
--- the party that the move names, where it names one
+-- the party that the move names, if it names one
 abbrev pub named : {V : Type 0} → Move V → Option ℕ
 named (move.Get wait) = None
 named (move.Add v) = None
@@ -134,7 +134,7 @@ named move.DropHandle = None
 named move.Upgrade = None
 
 module _ {V : Type 0} where
-  -- the object that the party is to add, where it is there and is to add one
+  -- the object that the party is to add, if it is there and is to add one
   abbrev pub brought_in : Option (Option (Party V)) → List (Item V)
   brought_in None = []
   brought_in (Some party) = filter_map brings (party ∷ [])

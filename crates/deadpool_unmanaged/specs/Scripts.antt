@@ -51,7 +51,7 @@ pub add-and-remove-sizes : Plays (new_pool 2 None) (
     Status ⇒ stands 2 0 0 0 ∷ [])
 add-and-remove-sizes = refl
 
--- A get that was granted an object is not passed by a try. Where the last handle takes the object with it, the get ends.
+-- A get that was granted an object is not passed by a try. If the last handle takes the object with it, the get ends.
 pub granted-get-is-not-passed : Plays (new_pool 1 None) (
     get None ⇒ party 0 ∷
     poll 0 0 ⇒ pending ∷

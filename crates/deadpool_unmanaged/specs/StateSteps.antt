@@ -53,7 +53,7 @@ module _ {T : Type 0} where
       (d.is_open ≡ true) × (free_objects d ≡ 0) × (wait ≡ true) × (is_listed ticket d.gets ≡ false) × (d' ≡ with_get ticket d)
   GetEnters d wait get.OutOfMemory d' = (d.is_open ≡ true) × (free_objects d ≡ 0) × (wait ≡ true) × (d' ≡ d)
 
-  -- A get in the queue. In an open pool one that was granted an object finds none only where nothing is idle.
+  -- A get in the queue. In an open pool one that was granted an object finds none only if nothing is idle.
   abbrev pub GetAsks : State T → ℕ → Bool → GetAskReply T → State T → Type 0
   GetAsks d ticket expired get_ask.Unknown d' = (is_listed ticket d.gets ≡ false) × (d' ≡ d)
   GetAsks d ticket expired get_ask.Closed d' =

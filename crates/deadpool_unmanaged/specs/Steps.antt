@@ -75,7 +75,7 @@ module _ {V : Type 0} where
       else if found then (reply.Pending, to n (queued_get deadline) (record p { gets = joined n p.gets }))
       else (reply.Failed OutOfMemory, ended n p)
 
-  -- A later poll of a get. One that was granted an object finds none only where the last handle took it.
+  -- A later poll of a get. One that was granted an object finds none only if the last handle took it.
   abbrev pub inquire_get : ℕ → Option Moment → Moment → Pool V → Reply V × Pool V
   inquire_get n deadline now p =
       if not p.is_open then (reply.Failed Closed, ended n p)
@@ -112,7 +112,7 @@ module _ {V : Type 0} where
       else if nat_lt 0 (free_objects p) then hand_out p
       else (reply.Failed Timeout, p)
 
-  -- an object that is handed in now, where there is room for it
+  -- an object that is handed in now, if there is room for it
   abbrev pub try_store : Item V → Pool V → Reply V × Pool V
   try_store item p =
       if not p.is_open then (reply.Refused Closed item.value, p)

@@ -90,7 +90,7 @@ impl<T: Drop> AddState<T> {
         }
     }
 
-    /// Brings the object to the pool, with at most one step. Where the add is refused, the object comes back with the
+    /// Brings the object to the pool, with at most one step. If the add is refused, the object comes back with the
     /// cause. An add that joins the queue has the ticket that `next_add` told. An add that has ended stays pending.
     pub fn poll(&mut self, core: &mut Core<T>) -> Poll<Result<(), (T, PoolError)>>
         ensures polls { PollsAdd self.old core.old.pool result self.new core.new.pool }

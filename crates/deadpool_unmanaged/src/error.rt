@@ -1,7 +1,7 @@
 //! Why a get or an add was refused. The error's text is the `output` of its `Display`.
 use std::fmt;
 
-/// Why a get ended without an object, or an add with its object. It then holds nothing of the pool's, where each of its polls
+/// Why a get ended without an object, or an add with its object. It then holds nothing of the pool's, if each of its polls
 /// was with the same core.
 #[derive(Clone, Copy, Debug, PartialEq, Eq)]
 pub enum PoolError {

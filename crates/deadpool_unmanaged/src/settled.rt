@@ -127,8 +127,8 @@ impl<T: Drop> Core<T> {
         self.state.has_handle()
     }
 
-    /// A new get asks for an object, and joins the queue where none is free and `wait` says so. `OutOfMemory` comes only
-    /// where the queue had no room left.
+    /// A new get asks for an object, and joins the queue if none is free and `wait` says so. `OutOfMemory` comes only
+    /// if the queue had no room left.
     pub fn get_enter(&mut self, wait: bool) -> GetEnterReply<T>
         ensures enters { GetEnters self.old.pool wait result self.new.pool }
         ensures memory { result ≡ GetEnterReply.OutOfMemory → IsFull self.old.gets_room self.old.pool.gets }
@@ -151,8 +151,8 @@ impl<T: Drop> Core<T> {
         self.state.get_cancel(ticket)
     }
 
-    /// A new add brings an object, and joins the queue where there is no room and `wait` says so. The object stays with the
-    /// caller until it is stored. `OutOfMemory` comes only where the queue had no room left.
+    /// A new add brings an object, and joins the queue if there is no room and `wait` says so. The object stays with the
+    /// caller until it is stored. `OutOfMemory` comes only if the queue had no room left.
     pub fn add_enter(&mut self, value: T, wait: bool) -> AddEnterReply<T>
         ensures enters { AddEnters self.old.pool value wait result self.new.pool }
         ensures memory { result ≡ AddEnterReply.OutOfMemory value → IsFull self.old.adds_room self.old.pool.adds }
@@ -219,7 +219,7 @@ impl<T: Drop> Core<T> {
         self.state.drop_handle()
     }
 
-    /// There is one more handle, for an owner that has none: true exactly where one is left. Otherwise nothing changes.
+    /// There is one more handle, for an owner that has none: true exactly if one is left. Otherwise nothing changes.
     pub fn upgrade(&mut self) -> bool
         ensures { Upgrades self.old.pool result self.new.pool }
     {

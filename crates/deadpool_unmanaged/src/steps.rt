@@ -1,5 +1,5 @@
-//! The replies to a pool's steps. A step that names a ticket answers `Unknown` where nobody is under it, and a step on an
-//! object that is out where none is. Where no handle is left, `clone_handle` and `drop_handle` answer `NoHandle`. Then nothing
+//! The replies to a pool's steps. A step that names a ticket answers `Unknown` if nobody is under it, and a step on an
+//! object that is out if none is. If no handle is left, `clone_handle` and `drop_handle` answer `NoHandle`. Then nothing
 //! changes.
 use deadpool_parts::gate::Ticket;
 
@@ -30,7 +30,7 @@ pub enum GetAskReply<T> {
     Unknown,
 }
 
-/// The reply to a new add. Where it is not stored, the object comes back.
+/// The reply to a new add. If it is not stored, the object comes back.
 #[derive(Drop)]
 pub enum AddEnterReply<T> {
     Stored,
@@ -43,7 +43,7 @@ pub enum AddEnterReply<T> {
     OutOfMemory(T),
 }
 
-/// The reply to an add in the queue. Where it is not stored, the object comes back.
+/// The reply to an add in the queue. If it is not stored, the object comes back.
 #[derive(Drop)]
 pub enum AddAskReply<T> {
     Stored,

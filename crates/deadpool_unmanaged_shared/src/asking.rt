@@ -19,7 +19,7 @@ pub struct Getting<T: Drop, C: Clock + Drop, R: Wait + Drop> {
 }
 
 impl<T: Drop, C: Clock + Drop, R: Wait + Drop> Getting<T, C, R> {
-    // One poll, which comes back where it is pending.
+    // One poll, which comes back if it is pending.
     fn ask(
         self,
         shared: &Shared<T, C, R>,
@@ -120,7 +120,7 @@ pub struct Adding<T: Drop> {
 }
 
 impl<T: Drop> Adding<T> {
-    // One poll, which comes back where it is pending. What is refused is the add's own object.
+    // One poll, which comes back if it is pending. What is refused is the add's own object.
     fn ask<C: Clock + Drop, R: Wait + Drop>(
         self,
         shared: &Shared<T, C, R>,

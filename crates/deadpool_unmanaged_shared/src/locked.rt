@@ -37,7 +37,7 @@ impl<T: Drop> Locked<T> {
         }
     }
 
-    /// One poll of a get, and the waker that is to be let go with the lock given back. While it waits its waker is kept. Where it
+    /// One poll of a get, and the waker that is to be let go with the lock given back. While it waits its waker is kept. If it
     /// would join the queue and there is no memory for its waker, no step is made and it has ended.
     pub fn poll_get(
         &mut self,
@@ -74,7 +74,7 @@ impl<T: Drop> Locked<T> {
         spare
     }
 
-    /// One poll of an add, and the waker that is to be let go with the lock given back. While it waits its waker is kept. Where it
+    /// One poll of an add, and the waker that is to be let go with the lock given back. While it waits its waker is kept. If it
     /// would join the queue and there is no memory for its waker, no step is made, and its object comes back.
     pub fn poll_add(
         &mut self,
@@ -111,7 +111,7 @@ impl<T: Drop> Locked<T> {
         (state.cancel(core), spare)
     }
 
-    /// An object at once, where one is free.
+    /// An object at once, if one is free.
     pub fn try_get(&mut self) -> Result<T, PoolError>
         ensures { TriesGet self.old.core.pool result self.new.core.pool }
     {
@@ -123,7 +123,7 @@ impl<T: Drop> Locked<T> {
         }
     }
 
-    /// An object joins at once, where there is room. Otherwise it comes back.
+    /// An object joins at once, if there is room. Otherwise it comes back.
     pub fn try_add(&mut self, value: T) -> Result<(), (T, PoolError)>
         ensures { TriesAdd self.old.core.pool value result self.new.core.pool }
     {

@@ -107,7 +107,7 @@ impl<T: Drop, C: Clock + Drop, R: Wait + Drop> Pool<T, C, R> {
         self.timeout_get(self.inner.shared().timeout)
     }
 
-    /// A get that may wait so long; none set is without an end. A wait of zero tries once. The get takes a handle now; where
+    /// A get that may wait so long; none set is without an end. A wait of zero tries once. The get takes a handle now; if
     /// that finds no memory, its first poll answers `OutOfMemory`.
     pub fn timeout_get(&self, timeout: Option<Duration>) -> Get<T, C, R>
         ensures asks { IfSome result.request (λ get. get.state ≡ GetStage.Unpolled timeout) }
@@ -120,7 +120,7 @@ impl<T: Drop, C: Clock + Drop, R: Wait + Drop> Pool<T, C, R> {
         }
     }
 
-    /// An object at once. `Timeout` where none is free, also where one is idle that a get was granted.
+    /// An object at once. `Timeout` if none is free, also if one is idle that a get was granted.
     pub fn try_get(&self) -> Result<Object<T, C, R>, PoolError> {
         let Ok(home) = self.inner.uncounted() else {
             return Err(PoolError::OutOfMemory);
@@ -129,7 +129,7 @@ impl<T: Drop, C: Clock + Drop, R: Wait + Drop> Pool<T, C, R> {
         Ok(Object { home, value })
     }
 
-    /// An add, which waits for room without an end. Where it is refused the object comes back.
+    /// An add, which waits for room without an end. If it is refused the object comes back.
     pub fn add(&self, value: T) -> Add<T, C, R>
         ensures asks { IfSome result.request (λ add. add.state ≡ AddStage.Unpolled value) }
         ensures begun { IsSome result.request ⊎ (result.refusal ≡ Some value) }
@@ -146,7 +146,7 @@ impl<T: Drop, C: Clock + Drop, R: Wait + Drop> Pool<T, C, R> {
         }
     }
 
-    /// Adds an object at once. `Timeout` where there is no room, also where there is some that an add was granted.
+    /// Adds an object at once. `Timeout` if there is no room, also if there is some that an add was granted.
     pub fn try_add(&self, value: T) -> Result<(), (T, PoolError)> {
         self.inner.shared().try_add(value)
     }

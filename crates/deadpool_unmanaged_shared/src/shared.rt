@@ -47,7 +47,7 @@ impl<T: Drop, C: Clock + Drop, R: Wait + Drop> Shared<T, C, R> {
         added
     }
 
-    /// An object comes back. Where the pool has no use for it, it is dropped with the lock given back.
+    /// An object comes back. If the pool has no use for it, it is dropped with the lock given back.
     pub fn back(&self, value: T) {
         let mut locked = self.lock.begin();
         let reply = locked.back(value);

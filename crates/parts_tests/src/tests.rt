@@ -1,4 +1,4 @@
-//! What no clause says: printed texts, success where memory is there, and the gate beside one that searches.
+//! What no clause says: printed texts, success if memory is there, and the gate beside one that searches.
 mod configuration;
 mod errors;
 mod gate;

@@ -68,7 +68,7 @@ impl<'a> Engine<'a> {
         }
     }
 
-    // Does what a line says, and keeps the reply, which is empty where the line has none. Before there is a pool, only the
+    // Does what a line says, and keeps the reply, which is empty if the line has none. Before there is a pool, only the
     // lines that make one are in the language; after that, only those of its kind.
     fn play_line(&mut self, line: &[u8], cx: &mut Context<'_>) -> Result<(), LineError> {
         self.reply.clear();

@@ -94,7 +94,7 @@ impl Answers {
     }
 }
 
-/// What the manager says where it refuses.
+/// What the manager says when it refuses.
 #[derive(Clone, Copy, Debug, PartialEq, Eq)]
 pub struct Refused;
 
@@ -138,7 +138,7 @@ impl<'a> Manager for ScriptManager<'a> {
         match self.answers.next(Kind::Create) {
             Answer::Pending => Poll::Pending,
             Answer::Refuse => Poll::Ready(Err(Refused)),
-            // A script says `add` only where there is a value.
+            // A script says `add` only if there is a value.
             Answer::Accept | Answer::Add => {
                 let value = self.next_value.get();
                 self.next_value.set(value.saturating_add(1));

@@ -32,7 +32,7 @@ where
     match obey(rt, reader, writer) {
         Ok(()) => ExitCode::SUCCESS,
         Err(fault) => {
-            // Where this is not written either, the status still says it.
+            // If this is not written either, the status still says it.
             let _ = writeln!(errors, "{fault}");
             let _ = errors.flush();
             ExitCode::from(fault.status())

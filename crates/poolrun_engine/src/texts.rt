@@ -97,7 +97,7 @@ pub fn write_status(text: &mut String, status: Status) -> Result<(), AllocError>
     )
 }
 
-/// Ends the line of a reply, where its text has not ended it.
+/// Ends the line of a reply, if its text has not ended it.
 pub fn end_line(text: &mut String) -> Result<(), AllocError> {
     if !text.as_str().ends_with('\n') {
         text.push('\n')?;

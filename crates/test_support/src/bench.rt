@@ -59,7 +59,7 @@ impl<M: Manager + Drop, F: SyncHook<M> + Drop, A: AsyncHook<M> + Drop> Bench<M, 
         }
     }
 
-    /// Polls a get at a moment. None where it is pending.
+    /// Polls a get at a moment. None if it is pending.
     pub fn poll(
         &mut self,
         party: usize,

@@ -3,7 +3,7 @@ use deadpool::managed::{Manager, Metrics, RecycleError, RecycleResult};
 use futures::task::{Context, Poll};
 use std::cell::Cell;
 
-/// What they say where they refuse.
+/// What they say when they refuse.
 #[derive(Clone, Copy, Debug, PartialEq, Eq)]
 pub struct Refused;
 
@@ -81,7 +81,7 @@ impl Manager for FortyTwo {
     }
 }
 
-/// Refuses to recycle, and to create where it is told so. It counts its calls.
+/// Refuses to recycle, and to create if it is told so. It counts its calls.
 #[derive(Drop)]
 pub struct Unreliable<'a> {
     pub creates: bool,

@@ -1,4 +1,4 @@
-//! What no clause says: printed texts, success where memory is there, and runs step by step.
+//! What no clause says: printed texts, success if memory is there, and runs step by step.
 mod configuration;
 mod errors;
 mod many;

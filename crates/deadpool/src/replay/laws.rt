@@ -81,7 +81,7 @@ pub fn party_in_one_list<M: Manager, F: SyncHook<M>, A: AsyncHook<M>>()
     ensures { (manager : M) → EachState (may M.Manager F.SyncHook A.AsyncHook manager) IsListedOnce }
 {}
 
-/// Where a run begins with its reach within the limit, and no move may set a limit, the size never passes the limit.
+/// If a run begins with its reach within the limit, and no move may set a limit, the size never passes the limit.
 pub fn size_within_limit<M: Manager, F: SyncHook<M>, A: AsyncHook<M>>()
     ensures { (manager : M) → StaysWithin (may M.Manager F.SyncHook A.AsyncHook manager) }
 {}

@@ -36,7 +36,7 @@ pub struct Trial<M: Manager + Drop, F: SyncHook<M> + Drop, A: AsyncHook<M> + Dro
     core: Core<M::Type>,
     environment: Environment<M, F, A>,
     timeouts: Timeouts,
-    // By number; none where the party was cancelled.
+    // By number; none if the party was cancelled.
     parties: Vec<Option<GetState<M, A>>>,
     // By rising number.
     out: Vec<Slot<M::Type>>,
@@ -68,7 +68,7 @@ impl<M: Manager + Drop, F: SyncHook<M> + Drop, A: AsyncHook<M> + Drop, C: Drop> 
 }
 
 impl<M: Manager + Drop, F: SyncHook<M> + Drop, A: AsyncHook<M> + Drop, C: Drop> Trial<M, F, A, C> {
-    /// A new pool, with room for so many parties, whose first object gets this number. Where it is not made, the builder
+    /// A new pool, with room for so many parties, whose first object gets this number. If it is not made, the builder
     /// is dropped with all that it has.
     pub fn new(
         builder: PoolBuilder<M, F, A, C>,
@@ -427,7 +427,7 @@ fn after_back<M: Manager + Drop, F: SyncHook<M> + Drop, A: AsyncHook<M> + Drop>(
     }
 }
 
-// Gives the value of an object that has left the pool, detached where that is due.
+// Gives the value of an object that has left the pool, detached if that is due.
 fn after_take<M: Manager + Drop, F: SyncHook<M> + Drop, A: AsyncHook<M> + Drop>(
     environment: &Environment<M, F, A>,
     slot: Slot<M::Type>,

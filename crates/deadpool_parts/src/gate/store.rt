@@ -99,7 +99,7 @@ impl NodeStore {
         }
     }
 
-    /// Puts a node in, under a key that had none: one access. Where memory is wanting only the count changes. Half of
+    /// Puts a node in, under a key that had none: one access. If no memory is found only the count changes. Half of
     /// all numbers is taken to be more nodes than any memory has.
     pub fn put(&mut self, node: Node) -> Result<usize, AllocError>
         ensures next { IfOk result (λ key. key ≡ self.old.nodes.vacant_key) }

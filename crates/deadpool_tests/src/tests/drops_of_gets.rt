@@ -74,7 +74,7 @@ fn an_idle_object_that_is_given_up(rt: HostRuntime) -> Result<(), Fail> {
     let task = task(&rt)?;
     let calls = Calls::new();
     for (recycling, timeouts, knows, polled) in [
-        // One that is refused or late is dropped in the poll, and where the step is known another is out.
+        // One that is refused or late is dropped in the poll, and if the step is known another is out.
         (Answer::Refuses, NO_TIMEOUTS, true, (1, 0)),
         (Answer::Refuses, NO_TIMEOUTS, false, (0, 0)),
         (Answer::Stalls, AT_ONCE, true, (1, 0)),

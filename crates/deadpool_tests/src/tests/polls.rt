@@ -8,7 +8,7 @@ use std::random::RandomSource;
 use std::test::Fail;
 use test_support::answering::Answering;
 
-/// Polls a get over a desk once: what it ended with, or none where it is pending.
+/// Polls a get over a desk once: what it ended with, or none if it is pending.
 pub fn poll<M: Manager + Drop, D: Desk<M::Type>>(
     state: &mut GetState<M, Answering>,
     desk: &mut D,

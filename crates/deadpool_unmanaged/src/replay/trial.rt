@@ -45,7 +45,7 @@ pub(crate) enum Turn<T> {
 pub struct Trial<T> {
     core: Core<Item<T>>,
     runtime: Option<Runtime>,
-    // By number; none where the party was cancelled.
+    // By number; none if the party was cancelled.
     visitors: Vec<Option<Visitor<T>>>,
     // By rising number.
     out: Vec<Item<T>>,
@@ -310,7 +310,7 @@ impl<T: Drop> Trial<T> {
     }
 }
 
-// Gives an object that is handed in the next number, or the value back where no number is left.
+// Gives an object that is handed in the next number, or the value back if no number is left.
 fn draw<T: Drop>(next: &mut usize, value: T) -> Result<Item<T>, T>
     ensures { MatchResult result
         (λ item. (next.old ≢ largest_usize) × (item ≡ record { number = next.old; value = value }) × (next.new ≡ next.old + 1))

@@ -69,7 +69,7 @@ impl Answers {
     }
 }
 
-/// What they say where they refuse.
+/// What they say when they refuse.
 #[derive(Clone, Copy, Debug, PartialEq, Eq)]
 pub struct Refused;
 

@@ -195,7 +195,7 @@ fn a_key_that_is_given_again_stands_last(rt: HostRuntime) -> Result<(), Fail> {
     Ok(())
 }
 
-// Where each allocation is refused in turn, one of these entries is answered so, and comes again.
+// When each allocation is refused in turn, one of these entries is answered so, and comes again.
 #[test]
 fn an_entry_without_memory_leaves_the_gate_as_it_was(rt: HostRuntime) -> Result<(), Fail> {
     let mut gate = Gate::new(rt.alloc());

@@ -8,7 +8,7 @@ use std::time::Duration;
 /// The words of a line, which one space each parts. A further space makes an empty word, which nothing allows.
 pub type Words<'a> = Split<'a, char>;
 
-/// The words of a line, where it is text.
+/// The words of a line, if it is text.
 pub fn words_of(line: &[u8]) -> Result<Words<'_>, LineError> {
     Ok(text_of(line)?.split(' '))
 }

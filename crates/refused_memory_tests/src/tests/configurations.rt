@@ -27,7 +27,7 @@ fn config() -> PoolConfig {
 const TEXT: &str =
     r#"{"max_size":42,"min_idle":1,"queue_mode":"Lifo","timeouts":{"create":null,"recycle":{"nanos":5,"secs":0},"wait":{"nanos":0,"secs":1}}}"#;
 
-// What was written while so much memory was left. None where it was refused.
+// What was written while so much memory was left. None if it was refused.
 fn written_as<R: AllocGlobal + Abort>(
     rt: &R,
     written: Result<Value, ConfigError>,

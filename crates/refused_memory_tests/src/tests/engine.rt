@@ -112,7 +112,7 @@ fn are_same(one: &Run, other: &Run) -> bool {
     one.0.as_str() == other.0.as_str() && one.1 == other.1
 }
 
-// What is replied where memory is refused to a pool line.
+// What is replied when memory is refused to a pool line.
 fn pool_refusal(line: &str) -> &'static str {
     if line.starts_with("unmanaged ") {
         "error Out of memory\n"

@@ -53,7 +53,7 @@ fn is_start(line: &str) -> bool {
     }
 }
 
-/// What is replied where memory is refused to a line of a script. An add hands its object back.
+/// What is replied when memory is refused to a line of a script. An add hands its object back.
 pub fn refusal_of(alloc: Global, lines: &[&'static str], line: &str) -> Result<String, AllocError> {
     let Some(party) = party_of(line) else {
         return String::from_str(alloc, "out of memory\n");

@@ -43,7 +43,7 @@ pub struct World {
 /// What a script has in common with the parts of its pool.
 pub type SharedWorld = Rc<World, Global>;
 
-/// What they say where they refuse.
+/// What they say when they refuse.
 #[derive(Clone, Copy, Debug, PartialEq, Eq)]
 pub struct Refused;
 
@@ -102,7 +102,7 @@ impl World {
         }
     }
 
-    // Takes the first answer that is left. Where none is, all is accepted.
+    // Takes the first answer that is left. If none is, all is accepted.
     fn answer(&self, kind: Kind) -> Poll<Result<(), Refused>> {
         let left = self.of_kind(kind);
         let mut answers = left.replace(VecDeque::new(self.alloc));

@@ -182,7 +182,7 @@ fn try_move<P: Player, R: RandomSource + AllocGlobal + Abort>(
         let ended = case.end::<P, R>(rt, hoard, left)?;
         tally.count(ended);
         if ended == Ended::Amply {
-            // The list of its replies finds no memory where none is left.
+            // The list of its replies finds no memory if none is left.
             assert!(rt;
                 left > 0 || case.line.starts_with("answer "),
                 "{}",

@@ -311,7 +311,7 @@ impl<R: Wait + Drop, G: Ledger, N: Ledger, O: Ledger> Bench<R, G, N, O> {
         Ok(())
     }
 
-    /// How the pool stands, seen through a handle of its own. None where it has no handle left.
+    /// How the pool stands, seen through a handle of its own. None if it has no handle left.
     pub fn status(&self) -> Result<String, Fail> {
         let reply = match self.weak.upgrade()? {
             Some(pool) => Reply::Stands(pool.status()),
@@ -320,7 +320,7 @@ impl<R: Wait + Drop, G: Ledger, N: Ledger, O: Ledger> Bench<R, G, N, O> {
         Ok(text_of(self.alloc, &reply, None)?)
     }
 
-    /// The pool's journal as text. Empty where the bench has no handle left.
+    /// The pool's journal as text. Empty if the bench has no handle left.
     pub fn journal(&self) -> Result<String, Fail> {
         match self.pools.last() {
             Some(pool) => Ok(pool.journal()?.to_string(self.alloc)?),
@@ -347,7 +347,7 @@ impl<R: Wait + Drop, G: Ledger, N: Ledger, O: Ledger> Bench<R, G, N, O> {
         self.gets.len()
     }
 
-    /// The number of the object that is out at a position. 0 where there is none.
+    /// The number of the object that is out at a position. 0 if there is none.
     pub fn number_at(&self, position: usize) -> usize {
         match self.out.get(position) {
             Some(out) => out.number,

@@ -82,7 +82,7 @@ where
     word.parse::<N>().map_err(|_| Fail::new("not a number"))
 }
 
-/// The next word, a number of nanoseconds. None at the end, and where it is a dash.
+/// The next word, a number of nanoseconds. None at the end, and if it is a dash.
 pub fn next_timeout(words: &mut Words<'_>) -> Result<Option<Duration>, Fail> {
     match words.next() {
         None => Ok(None),

@@ -146,7 +146,7 @@ impl Outside {
     }
 }
 
-/// What the manager says where it refuses.
+/// What the manager says when it refuses.
 #[derive(Clone, Copy, Debug, PartialEq, Eq)]
 pub struct Refused;
 

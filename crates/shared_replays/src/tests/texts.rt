@@ -5,7 +5,7 @@ use deadpool::managed::RetainResult;
 use deadpool::replay::Reply;
 use std::alloc::{AllocError, Global};
 
-/// The reply to a move, with the value of the object that it hands out. It is empty where a shared pool says nothing:
+/// The reply to a move, with the value of the object that it hands out. It is empty if a shared pool says nothing:
 /// at a start, a cancel, a return that is not detached, a put, a close, and a handle's clone and drop.
 pub fn text_of(
     alloc: Global,

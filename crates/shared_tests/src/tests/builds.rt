@@ -1,4 +1,4 @@
-//! What a pool is built of, what becomes of that where it is not built, and when it goes.
+//! What a pool is built of, what becomes of that if it is not built, and when it goes.
 ghost use Rattle.deadpool.specs.Opens.{Opens};
 
 use deadpool::managed::{

@@ -8,7 +8,7 @@ use std::alloc::{AllocError, Global};
 use std::sync::Arc;
 use std::sync::atomic::{AtomicBool, AtomicU64, AtomicUsize, Ordering};
 
-/// What they say where they refuse.
+/// What they say when they refuse.
 #[derive(Clone, Copy, Debug, PartialEq, Eq)]
 pub struct Refused;
 

@@ -162,7 +162,7 @@ fn what_the_owner_gives_up(rt: HostRuntime) -> Result<(), Fail> {
     assert!(rt; matches!(bench.make(Move::Resize(1)), Reply::Done));
     assert_eq!(rt; bench.status()?, stands(1, 1, 0, 0));
 
-    // Nor is one that comes back, or is taken, where no handle is left.
+    // Nor is one that comes back, or is taken, if no handle is left.
     assert!(rt; matches!(bench.make(Move::Resize(2)), Reply::Done));
     let fifth = bench.object()?;
     assert!(rt; matches!(bench.make(Move::DropHandle), Reply::Done));

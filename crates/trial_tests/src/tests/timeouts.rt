@@ -107,7 +107,7 @@ fn a_get_has_the_configured_timeouts_or_its_own(rt: HostRuntime) -> Result<(), F
 
 type Plain<M> = Environment<M, NoHook, NoHook>;
 
-// One poll over any desk: the object, or none where the get is pending.
+// One poll over any desk: the object, or none if the get is pending.
 fn poll_over<M: Manager + Drop, D: Desk<M::Type>>(
     state: &mut GetState<M, NoHook>,
     desk: &mut D,

@@ -59,7 +59,7 @@ impl Watch {
             .store(narrow(now.0 & low_half), Ordering::SeqCst);
     }
 
-    /// The last moment for which a wake was asked; 0 where none was.
+    /// The last moment for which a wake was asked; 0 if none was.
     pub fn asked(&self) -> u64 {
         self.face.asked.load(Ordering::SeqCst)
     }

@@ -68,7 +68,7 @@ fn a_hundred_jobs_over_ten_threads(rt: HostRuntime) -> Result<(), Fail> {
 
 const TIMES: u64 = 1_000;
 
-// Tries an add once at most, and gives it up where it has to wait. Whether it was added.
+// Tries an add once at most, and gives it up if it has to wait. Whether it was added.
 fn adds_at_once<R: Host>(rt: &R, pool: &Numbers<R>, value: u64, draw: &mut Draw) -> bool {
     let mut add = pool.add(value);
     let Ok(task) = MockTask::new(rt) else {
@@ -90,7 +90,7 @@ fn adds_all<R: Host>(rt: R, pool: Numbers<R>, first: u64) -> bool {
     true
 }
 
-// Tries a removal once, and gives it up where it has to wait.
+// Tries a removal once, and gives it up if it has to wait.
 fn removes_at_once<R: Host>(rt: &R, pool: &Numbers<R>, draw: &mut Draw) -> Option<u64> {
     let mut removal = pool.remove();
     let Ok(task) = MockTask::new(rt) else {

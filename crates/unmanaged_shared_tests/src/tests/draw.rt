@@ -11,7 +11,7 @@ impl Draw {
         Draw { state: seed }
     }
 
-    /// The next number, below this one; 0 where there is none below.
+    /// The next number, below this one; 0 if there is none below.
     pub fn below(&mut self, limit: u64) -> u64 {
         self.state = self
             .state

@@ -9,12 +9,12 @@ use Rattle.deadpool_parts.proofs.GateFields.{Joining, KeepsLinks, IsHeld-shows, 
 use Rattle.deadpool_parts.proofs.GateLinks.{Stores-unlisted}
 use Rattle.deadpool_parts.proofs.gate.Gate.enter.Goals as goal
 
--- what holds, holds where there is no answer at once
+-- what holds, holds if there is no answer at once
 no_answer : (o : Option Entry) (P : Type 0) → P → IfNone o P
 no_answer None P holds = holds
 no_answer (Some answer) P holds = tt
 
--- the fields where memory was wanting
+-- the fields when no memory was found
 abbrev refused : goal.In_default → Inside
 refused c = record c.self.inside { store = c.put.new.self; mark = c.accesses-self-inside.result }
 

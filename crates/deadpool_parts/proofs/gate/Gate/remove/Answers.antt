@@ -29,7 +29,7 @@ returns-in_err-node-clause-waiters c =
     } in
     rw (remove_first_none _ c.args.self.now.waiters unlisted) (Shows-is after _ (Shows-kept c.self.inside after c.args.self.now.waiters keeps shows.line shows))
 
--- a number that is one where a flag is set, and none where it is not
+-- a number that is one if a flag is set, and none if it is not
 one_if_is : (flag : Bool) (n : ℕ) → (flag ≡ true → n ≡ 1) → (flag ≡ false → n ≡ 0) → n ≡ one_if flag
 one_if_is true n set clear = set refl
 one_if_is false n set clear = clear refl

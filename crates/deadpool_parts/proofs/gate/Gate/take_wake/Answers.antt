@@ -16,7 +16,7 @@ use Rattle.deadpool_parts.proofs.Pointers.{points_there, points_elsewhere}
 use Rattle.deadpool_parts.proofs.gate.Gate.take_wake.Goals as goal
 use Rattle.deadpool_parts.proofs.gate.Gate.take_wake.Goals.{else-not-self-via-then-not-self+else-eq, else-not-self-via-else-not-self}
 
--- a call at these fields, seen as this line, where nobody is due
+-- a call at these fields, seen as this line, if nobody is due
 module _ (g : Inside) (line : Line) (seen : line_of g ≡ line) (none : find (is_due g.is_closed) line.waiters ≡ None) where
   nobody : find (is_due line.is_closed) line.waiters ≡ None
   nobody = let same : g.is_closed ≡ line.is_closed = ap (λ (l : Line). l.is_closed) seen in rw same at none
