@@ -34,8 +34,8 @@ impl Wakers {
         }
     }
 
-    /// Sees that there is a place for a ticket of this number, as the gate names it to whom it lists next. If memory is
-    /// wanting, the places are as they were.
+    /// Sees that there is a place for a ticket of this number, as the gate names it to whom it lists next. If no
+    /// memory is found, the places are as they were.
     pub fn make_room(&mut self, number: usize) -> Result<(), AllocError>
         ensures room { OnOk result (self.new ≡ with_room number self.old) }
         ensures memory { OnErr result (self.new ≡ self.old) }

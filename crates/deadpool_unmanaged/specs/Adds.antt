@@ -38,7 +38,7 @@ module _ {T : Type 0} where
   turn_entered (entered.Waiting ticket value) = Pending
   turn_entered (entered.OutOfMemory value) = Ready (Err (value, OutOfMemory))
 
-  -- it ends for want of memory
+  -- it ends because no memory was found
   abbrev pub IsWithoutMemory : Poll (Result (Unit {0}) (T × PoolError)) → Type 0
   IsWithoutMemory (Ready (Err (value, OutOfMemory))) = Unit {0}
   IsWithoutMemory _ = ⊥

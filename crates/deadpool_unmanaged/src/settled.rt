@@ -37,7 +37,7 @@ impl<T> Model for Core<T> {
 
 impl<T: Drop> Core<T> {
     /// An open pool with nothing idle and one handle. It has room for `max_size` objects from now on: only `get_enter` and
-    /// `add_enter` answer want of memory, for an entry in a queue that has no room left, and no other step does.
+    /// `add_enter` answer `OutOfMemory`, for an entry in a queue that has no room left.
     pub fn new(alloc: Global, max_size: usize) -> Result<Core<T>, AllocError>
         ensures { IfOk result (λ core. core.pool ≡ opened max_size []) }
     {

@@ -37,8 +37,8 @@ impl<T: Drop> Locked<T> {
         }
     }
 
-    /// One poll of a get, and the waker that is to be let go with the lock given back. While it waits its waker is kept. If it
-    /// would join the queue and there is no memory for its waker, no step is made and it has ended.
+    /// One poll of a get, and the waker that is to be let go with the lock given back. While it waits its waker is kept.
+    /// If it would join the queue and there is no memory for its waker, no step is made and it has ended.
     pub fn poll_get(
         &mut self,
         state: &mut GetState,
@@ -74,8 +74,8 @@ impl<T: Drop> Locked<T> {
         spare
     }
 
-    /// One poll of an add, and the waker that is to be let go with the lock given back. While it waits its waker is kept. If it
-    /// would join the queue and there is no memory for its waker, no step is made, and its object comes back.
+    /// One poll of an add, and the waker that is to be let go with the lock given back. While it waits its waker is kept.
+    /// If it would join the queue and there is no memory for its waker, no step is made, and its object comes back.
     pub fn poll_add(
         &mut self,
         state: &mut AddState<T>,

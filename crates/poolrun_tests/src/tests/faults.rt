@@ -24,7 +24,7 @@ fn faults_have_their_texts(rt: HostRuntime) -> Result<(), Fail> {
     Ok(())
 }
 
-// All kinds of error but want of memory.
+// All kinds of error but that of memory that is not there.
 const KINDS: [ErrorKind; 41] = [
     ErrorKind::NotFound,
     ErrorKind::PermissionDenied,
