@@ -4,7 +4,7 @@ use Rattle.std.specs.Duration.{FitsDuration}
 use Rattle.deadpool_parts.specs.declared.config.QueueMode.{QueueMode}
 use Rattle.deadpool_parts.specs.declared.config.QueueMode.TheVariants.{Fifo, Lifo}
 use Rattle.deadpool_parts.specs.PoolConfig.{ReadsWritten, mode_name, read_min_idle, read_queue_mode, read_size}
-use Rattle.deadpool_parts.specs.Timeouts.{Limits, FitsTimeouts, read_duration, read_limits, read_timeout, written_duration, written_limits, written_timeout}
+use Rattle.deadpool_parts.specs.Timeouts.{Durations, FitsTimeouts, read_duration, read_timeouts, read_timeout, written_duration, written_timeouts, written_timeout}
 use Rattle.serde_json.specs.Data.{number, string, unsigned}
 
 pub read_duration-written_duration : (n : ℕ) → FitsDuration n → read_duration (written_duration n) ≡ Some n
@@ -14,8 +14,8 @@ pub read_timeout-written_timeout : (t : Option ℕ) → IfSome t FitsDuration �
 read_timeout-written_timeout None fits = refl
 read_timeout-written_timeout (Some n) fits = rw (read_duration-written_duration n fits)
 
-pub read_limits-written_limits : (l : Limits) → FitsTimeouts l → read_limits (Some (written_limits l)) ≡ Ok l
-read_limits-written_limits l fits =
+pub read_timeouts-written_timeouts : (l : Durations) → FitsTimeouts l → read_timeouts (Some (written_timeouts l)) ≡ Ok l
+read_timeouts-written_timeouts l fits =
     rw (read_timeout-written_timeout l.wait fits.wait, read_timeout-written_timeout l.create fits.create, read_timeout-written_timeout l.recycle fits.recycle)
 
 pub read_size-written : (n : ℕ) → n < 2 ^ 64 → read_size (Some (number (unsigned n))) ≡ Ok n
@@ -30,4 +30,4 @@ read_queue_mode-mode_name Lifo = refl
 
 pub reads_written : ReadsWritten
 reads_written s fits =
-    rw (read_size-written s.max_size fits.max_size, read_limits-written_limits s.limits fits.limits, read_queue_mode-mode_name s.queue_mode, read_min_idle-written s.min_idle fits.min_idle)
+    rw (read_size-written s.max_size fits.max_size, read_timeouts-written_timeouts s.timeouts fits.timeouts, read_queue_mode-mode_name s.queue_mode, read_min_idle-written s.min_idle fits.min_idle)

@@ -4,7 +4,7 @@ use Rattle.std.specs.Option.{ok_or}
 use Rattle.serde_json.specs.Data.{Data, number, object, string, unsigned, member, no_members}
 use Rattle.serde_json.specs.Find.{get, as_number, as_object, as_str, as_u64}
 use Rattle.deadpool_parts.specs.Result.{result_map, result_and_then}
-use Rattle.deadpool_parts.specs.Timeouts.{Limits, FitsTimeouts, limits_of, read_limits, written_limits}
+use Rattle.deadpool_parts.specs.Timeouts.{Durations, FitsTimeouts, durations_of, read_timeouts, written_timeouts}
 use Rattle.deadpool_parts.specs.declared.config.PoolConfig.{PoolConfig}
 use Rattle.deadpool_parts.specs.declared.config.QueueMode.{QueueMode}
 use Rattle.deadpool_parts.specs.declared.config.QueueMode.TheVariants.{Fifo, Lifo}
@@ -14,17 +14,17 @@ use Rattle.deadpool_parts.specs.declared.errors.ConfigError.TheVariants.{BadMinI
 -- a configuration, its durations in nanoseconds
 pub record Settings : Type 0 where
   pub max_size : ℕ
-  pub limits : Limits
+  pub timeouts : Durations
   pub queue_mode : QueueMode
   pub min_idle : ℕ
 
 abbrev pub settings_of : PoolConfig → Settings
-settings_of c = record { max_size = c.max_size; limits = limits_of c.timeouts; queue_mode = c.queue_mode; min_idle = c.min_idle }
+settings_of c = record { max_size = c.max_size; timeouts = durations_of c.timeouts; queue_mode = c.queue_mode; min_idle = c.min_idle }
 
 -- a `PoolConfig` can have these
 pub record FitsPoolConfig (s : Settings) : Type 0 where
   pub max_size : s.max_size < 2 ^ 64
-  pub limits : FitsTimeouts s.limits
+  pub timeouts : FitsTimeouts s.timeouts
   pub min_idle : s.min_idle < 2 ^ 64
 
 -- ---- reading
@@ -58,10 +58,10 @@ read_min_idle (Some d) = ok_or (option_and_then as_size (option_and_then as_u64 
 -- Faults are looked for in the order of these steps.
 abbrev pub read_config : Data → Result Settings ConfigError
 read_config d =
-    result_and_then (λ n. result_and_then (λ l. result_and_then (λ mode. result_map (λ floor. record { max_size = n; limits = l; queue_mode = mode; min_idle = floor })
+    result_and_then (λ n. result_and_then (λ l. result_and_then (λ mode. result_map (λ floor. record { max_size = n; timeouts = l; queue_mode = mode; min_idle = floor })
     (read_min_idle (get (codes "min_idle") d)))
     (read_queue_mode (get (codes "queue_mode") d)))
-    (read_limits (get (codes "timeouts") d)))
+    (read_timeouts (get (codes "timeouts") d)))
     (read_max_size d)
 
 -- ---- writing
@@ -71,7 +71,7 @@ mode_name Fifo = codes "Fifo"
 mode_name Lifo = codes "Lifo"
 
 abbrev pub written_config : Settings → Data
-written_config s = object (member (codes "max_size") (number (unsigned s.max_size)) (member (codes "min_idle") (number (unsigned s.min_idle)) (member (codes "queue_mode") (string (mode_name s.queue_mode)) (member (codes "timeouts") (written_limits s.limits) no_members))))
+written_config s = object (member (codes "max_size") (number (unsigned s.max_size)) (member (codes "min_idle") (number (unsigned s.min_idle)) (member (codes "queue_mode") (string (mode_name s.queue_mode)) (member (codes "timeouts") (written_timeouts s.timeouts) no_members))))
 
 -- each configuration in range is read as it was written
 abbrev pub ReadsWritten : Type 0

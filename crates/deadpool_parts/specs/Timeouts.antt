@@ -11,22 +11,22 @@ use Rattle.deadpool_parts.specs.declared.errors.ConfigError.{ConfigError}
 use Rattle.deadpool_parts.specs.declared.errors.ConfigError.TheVariants.{BadDuration, NotAnObject}
 
 -- how long each phase may last
-pub record Limits : Type 0 where
+pub record Durations : Type 0 where
   pub wait : Option ℕ
   pub create : Option ℕ
   pub recycle : Option ℕ
 
-abbrev pub limits_of : Timeouts → Limits
-limits_of t = record { wait = option_map as_nanos t.wait; create = option_map as_nanos t.create; recycle = option_map as_nanos t.recycle }
+abbrev pub durations_of : Timeouts → Durations
+durations_of t = record { wait = option_map as_nanos t.wait; create = option_map as_nanos t.create; recycle = option_map as_nanos t.recycle }
 
-abbrev pub no_limits : Limits
-no_limits = record { wait = None; create = None; recycle = None }
+abbrev pub no_durations : Durations
+no_durations = record { wait = None; create = None; recycle = None }
 
 abbrev pub no_timeouts : Timeouts
 no_timeouts = record { wait = None; create = None; recycle = None }
 
--- a `Timeouts` can have these limits
-pub record FitsTimeouts (l : Limits) : Type 0 where
+-- a `Timeouts` can have these durations
+pub record FitsTimeouts (l : Durations) : Type 0 where
   pub wait : IfSome l.wait FitsDuration
   pub create : IfSome l.create FitsDuration
   pub recycle : IfSome l.recycle FitsDuration
@@ -54,9 +54,9 @@ read_timeout None = Ok None
 read_timeout (Some d) = if is_some (as_null d) then Ok None else result_map Some (ok_or (read_duration d) BadDuration)
 
 -- what stands at `timeouts`, with the first fault in it
-abbrev pub read_limits : Option Data → Result Limits ConfigError
-read_limits None = Ok no_limits
-read_limits (Some d) =
+abbrev pub read_timeouts : Option Data → Result Durations ConfigError
+read_timeouts None = Ok no_durations
+read_timeouts (Some d) =
     if is_some (as_object d)
     then result_and_then (λ w. result_and_then (λ c. result_map (λ r. record { wait = w; create = c; recycle = r }) (read_timeout (get (codes "recycle") d))) (read_timeout (get (codes "create") d))) (read_timeout (get (codes "wait") d))
     else Err NotAnObject
@@ -70,5 +70,5 @@ abbrev pub written_timeout : Option ℕ → Data
 written_timeout None = null
 written_timeout (Some n) = written_duration n
 
-abbrev pub written_limits : Limits → Data
-written_limits l = object (member (codes "create") (written_timeout l.create) (member (codes "recycle") (written_timeout l.recycle) (member (codes "wait") (written_timeout l.wait) no_members)))
+abbrev pub written_timeouts : Durations → Data
+written_timeouts l = object (member (codes "create") (written_timeout l.create) (member (codes "recycle") (written_timeout l.recycle) (member (codes "wait") (written_timeout l.wait) no_members)))

@@ -10,7 +10,7 @@ ghost use Rattle.serde_json.specs.Find.{get};
 ghost use Rattle.serde_json.specs.View.{view};
 ghost use Rattle.deadpool_parts.specs.PoolConfig.{ReadsWritten, mode_name, read_config, read_max_size, read_min_idle, read_queue_mode, settings_of, written_config};
 ghost use Rattle.deadpool_parts.specs.Result.{result_map};
-ghost use Rattle.deadpool_parts.specs.Timeouts.{limits_of, no_timeouts, number_at, read_duration, read_limits, read_timeout, written_limits, written_timeout};
+ghost use Rattle.deadpool_parts.specs.Timeouts.{durations_of, no_timeouts, number_at, read_duration, read_timeouts, read_timeout, written_timeouts, written_timeout};
 
 use crate::errors::ConfigError;
 use serde_json::{Value, json};
@@ -156,7 +156,7 @@ pub fn max_size_of(value: &Value) -> Result<usize, ConfigError>
 }
 
 fn timeouts_of(value: &Value) -> Result<Timeouts, ConfigError>
-    ensures { result_map limits_of result ≡ read_limits (get (codes "timeouts") (view value.now)) }
+    ensures { result_map durations_of result ≡ read_timeouts (get (codes "timeouts") (view value.now)) }
 {
     let Some(timeouts) = value.get("timeouts") else {
         return Ok(Timeouts::new());
@@ -251,9 +251,9 @@ fn written_config(alloc: Global, config: PoolConfig) -> Result<Value, AllocError
 }
 
 fn written_timeouts(alloc: Global, timeouts: Timeouts) -> Result<Value, AllocError>
-    ensures written { IfOk result (λ v. view v ≡ written_limits (limits_of timeouts)) }
+    ensures written { IfOk result (λ v. view v ≡ written_timeouts (durations_of timeouts)) }
     ensures reads_back { IfOk result
-        (λ v. read_limits (Some (view v)) ≡ Ok (limits_of timeouts)) }
+        (λ v. read_timeouts (Some (view v)) ≡ Ok (durations_of timeouts)) }
 {
     let wait = written_timeout(alloc, timeouts.wait)?;
     let create = written_timeout(alloc, timeouts.create)?;
