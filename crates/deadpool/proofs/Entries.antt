@@ -1,6 +1,6 @@
 -- Advances of a get that was not polled, that is in the queue, or that holds a place and nothing else.
 use Rattle.deadpool.proofs.Basics.{◌+◌, cond-true, cond-false, ◌≡◌, ℕ, ◌-◌, ◌<◌, ◌≤◌, List, Bool, true, false, not, ◌&&◌, set, map, refl, sym, ap, ◌∙◌, subst, arith, Option, Some, None, Err, is_none, nat_lt, option_map, eq-eqb, lt-ltb, le-ltb, slice_get, slice_get-map, has_number, without_number, Gives, owner, set-same, owned-set, owned-joins, owned-leaves, granted-renamed, not-true, not-false}
-use Rattle.deadpool.proofs.Words.{Standing, deadline_after, is_reached, is_positive, Moment, Timeouts, PoolError, Timeout, Closed, NoRuntimeSpecified, OutOfMemory, DeskState, desk_places as places, is_listed, desk_unqueued as unqueued, Enters, Asks, GoesOn, Getting, May, Reserve, AfterEntered, AfterAsked, AfterGoingOn, Pool, unpolled, queued, going, places as pool_places, unqueued as pool_unqueued, fail, advance_at, NobodyWaits, party_of, standing_of, has_ticket, queue_of, IsCounted, given, reply_to, Slot, Stage, Turn, EnterReply, AskReply, AgainReply, Reply}
+use Rattle.deadpool.proofs.Words.{Standing, deadline_after, is_reached, is_positive, Moment, Timeouts, PoolError, Timeout, Closed, NoRuntimeSpecified, OutOfMemory, DeskState, desk_places as places, is_listed, desk_unqueued as unqueued, Enters, Asks, AsksAgain, Getting, May, Reserve, AfterEntered, AfterAsked, AfterAskedAgain, Pool, unpolled, queued, going, places as pool_places, unqueued as pool_unqueued, fail, advance_at, NobodyWaits, party_of, standing_of, has_ticket, queue_of, IsCounted, given, reply_to, Slot, Stage, Turn, EnterReply, AskReply, AgainReply, Reply}
 use Rattle.deadpool_parts.specs.declared.errors.TimeoutType.TheVariants as phase
 use Rattle.deadpool_managed.specs.declared.get.Stage.TheVariants as stage
 use Rattle.deadpool_managed.specs.declared.get.Turn.TheVariants as turn
@@ -118,7 +118,7 @@ module _ {V E C R S F A : Type 0} (may : May V E C R S F A) (fixed : Fixed F A) 
 
   module _ (allowance : Option ℕ) (h : slice_get gets n ≡ Some (get_at own (stage.Going allowance))) where
     -- a get that holds a place and nothing else
-    pub from_going : (reply : AgainReply (Slot V)) (s : Stage V C R S) (t : Turn V E) → GoesOn core allowance reply core' → AfterGoingOn reply s t → Goal (stage.Going allowance) core' s t
+    pub from_going : (reply : AgainReply (Slot V)) (s : Stage V C R S) (t : Turn V E) → AsksAgain core allowance reply core' → AfterAskedAgain reply s t → Goal (stage.Going allowance) core' s t
     from_going (again.Served served) s t e a =
         serves fixed n core (record core { going = core.going - 1 }) gets out own (stage.Going allowance) (going allowance) (map (owner has_ticket gets) core.granted) (map (owner has_ticket gets) core.waiting) h k
         (place_left (stage.Going allowance) (going allowance) (core.going - 1) h (λ u. refl) (omega (arith, e.0)) refl refl refl) core' allowance served s t e.1 a

@@ -1,6 +1,6 @@
 -- Each advance of a get over the desk is an advance of its party in the pool.
 use Rattle.deadpool.proofs.Basics.{◌≡◌, ℕ, List, Bool, set, subst, Option, Some, slice_get, Gives}
-use Rattle.deadpool.proofs.Words.{named, Moment, Timeouts, DeskState, Asks, GoesOn, Getting, May, Reserve, Made, no_step, entering, asking, going_on, DeskMakes as Makes, AdvancesFrom, Pool, advance_at, NobodyWaits, standing_of, IsCounted, given, reply_to, Slot, Stage, Turn, core_desk}
+use Rattle.deadpool.proofs.Words.{named, Moment, Timeouts, DeskState, Asks, AsksAgain, Getting, May, Reserve, Made, no_step, entering, asking, asking_again, DeskMakes as Makes, AdvancesFrom, Pool, advance_at, NobodyWaits, standing_of, IsCounted, given, reply_to, Slot, Stage, Turn, core_desk}
 use Rattle.deadpool_managed.specs.declared.get.Stage.TheVariants as stage
 use Rattle.deadpool.proofs.Entries.{from_entered, from_unrun, from_going, from_queued}
 use Rattle.deadpool.proofs.Advances.{from_creating, from_recycling, from_checking, from_finished}
@@ -23,9 +23,9 @@ module _ {V E C R S F A : Type 0} (may : May V E C R S F A) (memory : (found : B
   get_advanced own (stage.Queued ticket deadline) s t (asking named expired reply) k nobody h e a =
       from_queued may fixed n now core core' gets out own k nobody ticket deadline h expired reply s t a.1
       (subst (λ u. Asks core u expired reply core') a.0 e) a.2
-  get_advanced own (stage.Going allowance) s t (going_on asked reply) k nobody h e a =
+  get_advanced own (stage.Going allowance) s t (asking_again asked reply) k nobody h e a =
       from_going may fixed n now core core' gets out own k nobody allowance h reply s t
-      (subst (λ o. GoesOn core o reply core') a.0 e) a.1
+      (subst (λ o. AsksAgain core o reply core') a.0 e) a.1
   get_advanced own (stage.Creating begun until) s t made k nobody h e a = from_creating may fixed n now core core' gets out own k begun until made s t h e a
   get_advanced own (stage.Recycling preparation allowance) s t made k nobody h e a = from_recycling may fixed n now core core' gets out own k preparation allowance made s t h e a.0 a.1.0 a.1.1
   get_advanced own (stage.Checking slot at) s t made k nobody h e a = from_checking may fixed n now core core' gets out own k slot at made s t h e a.0 a.1.0 a.1.1

@@ -17,8 +17,8 @@ pub use Rattle.deadpool_managed.specs.Answers.{LeavesOrKeeps}
 pub use Rattle.deadpool_managed.specs.Calls.{start, pass}
 pub use Rattle.deadpool_managed.specs.CoreState.{CoreState}
 pub use Rattle.deadpool_managed.specs.DeskState.{DeskState, settled, places as desk_places, grants as desk_grants, size as desk_size, pending as desk_pending, status_of as desk_status_of, next_idle, other_idle, least_idle as desk_least_idle}
-pub use Rattle.deadpool_managed.specs.DeskSteps.{Fails, is_listed, unqueued as desk_unqueued, Refuses, Cancels as DeskCancels, Enters, Asks, GoesOn, TakesBack, given_up as desk_given_up, Takes, Resizes, Closes, Clones, DropsHandle, Upgrades, resized as desk_resized, Serves}
-pub use Rattle.deadpool_managed.specs.Get.{Made, no_step, discarding, creating as by_creation, failing, refusing, Makes as DeskMakes, AfterCreation, AfterPrepared, AfterChecked, AdvancesCreation, ended_by, cancelling, CancelsFrom, GivesUp, AfterEntered, AfterAsked, AfterGoingOn, AfterServing, entering, asking, going_on, AdvancesFrom}
+pub use Rattle.deadpool_managed.specs.DeskSteps.{Fails, is_listed, unqueued as desk_unqueued, Refuses, Cancels as DeskCancels, Enters, Asks, AsksAgain, TakesBack, given_up as desk_given_up, Takes, Resizes, Closes, Clones, DropsHandle, Upgrades, resized as desk_resized, Serves}
+pub use Rattle.deadpool_managed.specs.Get.{Made, no_step, discarding, creating as by_creation, failing, refusing, Makes as DeskMakes, AfterCreation, AfterPrepared, AfterChecked, AdvancesCreation, ended_by, cancelling, CancelsFrom, GivesUp, AfterEntered, AfterAsked, AfterAskedAgain, AfterServing, entering, asking, asking_again, AdvancesFrom}
 pub use Rattle.deadpool_managed.specs.HookLists.{HookLists}
 pub use Rattle.deadpool_managed.specs.Metrics.{new_metrics}
 pub use Rattle.deadpool_managed.specs.Outside.{May, Asking, may, Reserve, Detach}

@@ -14,7 +14,7 @@ use Rattle.deadpool_parts.specs.declared.replies.StepReply.TheVariants as step
 use Rattle.deadpool_parts.specs.declared.replies.HandleReply.{HandleReply}
 use Rattle.deadpool_parts.specs.declared.replies.HandleReply.TheVariants as handle
 use Rattle.deadpool_managed.specs.DeskState.{DeskState, next_idle, other_idle, settled, status_of}
-use Rattle.deadpool_managed.specs.DeskSteps.{Serves, Enters, Asks, GoesOn, Discards, Creates, Fails, Refuses, TakesBack, Cancels, Stands, Takes, Resizes, Closes, Clones, DropsHandle, Upgrades, unqueued, given_up, resized}
+use Rattle.deadpool_managed.specs.DeskSteps.{Serves, Enters, Asks, AsksAgain, Discards, Creates, Fails, Refuses, TakesBack, Cancels, Stands, Takes, Resizes, Closes, Clones, DropsHandle, Upgrades, unqueued, given_up, resized}
 use Rattle.deadpool_managed.specs.declared.slot.Slot.{Slot}
 use Rattle.deadpool_managed.specs.declared.desk.Serving.{Serving}
 use Rattle.deadpool_managed.specs.declared.desk.Serving.TheVariants as serving
@@ -73,7 +73,7 @@ module _ {T : Type 0} where
   ask_numbered d d' ticket expired ask.Expired h = (h.0, h.1, h.2, h.3, ap numbered h.4)
   ask_numbered d d' ticket expired ask.Waiting h = (h.0, h.1, h.2, h.3, ap numbered h.4)
 
-  pub again_numbered : (d d' : DeskState (Slot T)) (allowance : Option ℕ) (reply : AgainReply (Slot T)) → GoesOn d allowance reply d' → Makes (numbered d) (entry.Again allowance (numbered_again reply)) (numbered d')
+  pub again_numbered : (d d' : DeskState (Slot T)) (allowance : Option ℕ) (reply : AgainReply (Slot T)) → AsksAgain d allowance reply d' → Makes (numbered d) (entry.Again allowance (numbered_again reply)) (numbered d')
   again_numbered d d' allowance again.Unknown h = (h.0, ap numbered h.1)
   again_numbered d d' allowance (again.Served s) h = (h.0, serves_numbered (record d { going = d.going - 1 }) d' allowance s h.1)
 

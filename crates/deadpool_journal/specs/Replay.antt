@@ -3,7 +3,7 @@ use Rattle.std.specs.Prelude.{◌≡◌, ◌≢◌, ℕ, ◌+◌, ◌-◌, ◌�
 use Rattle.deadpool_parts.specs.declared.replies.StepReply.TheVariants as step
 use Rattle.deadpool_parts.specs.declared.replies.HandleReply.TheVariants as handle
 use Rattle.deadpool_managed.specs.DeskState.{DeskState, least_idle, other_idle, settled}
-use Rattle.deadpool_managed.specs.DeskSteps.{Enters, Asks, GoesOn, Discards, Creates, Fails, Refuses, TakesBack, Cancels, Stands, Takes, Resizes, Closes, Clones, DropsHandle, Upgrades, unqueued, resized, one_handle_more, one_handle_less}
+use Rattle.deadpool_managed.specs.DeskSteps.{Enters, Asks, AsksAgain, Discards, Creates, Fails, Refuses, TakesBack, Cancels, Stands, Takes, Resizes, Closes, Clones, DropsHandle, Upgrades, unqueued, resized, one_handle_more, one_handle_less}
 use Rattle.deadpool_managed.specs.declared.desk.Serving.{Serving}
 use Rattle.deadpool_managed.specs.declared.desk.Serving.TheVariants as serving
 use Rattle.deadpool_managed.specs.declared.desk.EnterReply.TheVariants as enter
@@ -22,7 +22,7 @@ use Rattle.deadpool_journal.specs.declared.entry.Entry.TheVariants.{Enter, Ask, 
 abbrev pub Makes : DeskState ℕ → Entry → DeskState ℕ → Type 0
 Makes d (Enter wait reply) d' = Enters d wait reply d'
 Makes d (Ask ticket expired reply) d' = Asks d ticket expired reply d'
-Makes d (Again allowance reply) d' = GoesOn d allowance reply d'
+Makes d (Again allowance reply) d' = AsksAgain d allowance reply d'
 Makes d (Discard reply) d' = Discards d reply d'
 Makes d (Created reply) d' = Creates d reply d'
 Makes d (Failed reply) d' = Fails d reply d'

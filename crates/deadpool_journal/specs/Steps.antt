@@ -4,7 +4,7 @@ use Rattle.std.specs.declared.alloc.AllocError.{AllocError}
 use Rattle.deadpool_parts.specs.declared.replies.HandleReply.{HandleReply}
 use Rattle.deadpool_parts.specs.declared.replies.StepReply.{StepReply}
 use Rattle.deadpool_parts.specs.declared.status.Status.{Status}
-use Rattle.deadpool_managed.specs.CoreSteps.{Enters, Asks, GoesOn, Discards, Creates, Fails, Refuses, TakesBack, Cancels, Stands, Takes, Resizes, Retains, RetainsNoting, Closes, Clones, DropsHandle, Upgrades, Tells}
+use Rattle.deadpool_managed.specs.CoreSteps.{Enters, Asks, AsksAgain, Discards, Creates, Fails, Refuses, TakesBack, Cancels, Stands, Takes, Resizes, Retains, RetainsNoting, Closes, Clones, DropsHandle, Upgrades, Tells}
 use Rattle.deadpool_managed.specs.Retained.{Retained}
 use Rattle.deadpool_managed.specs.declared.desk.AgainReply.{AgainReply}
 use Rattle.deadpool_managed.specs.declared.desk.AskReply.{AskReply}
@@ -30,9 +30,9 @@ module _ {T : Type 0} where
       Asks j.core ticket expired reply j'.core
       × Notes (entry.Ask ticket expired (numbered_ask reply)) j j'
 
-  abbrev pub GoesOnNoted : Journaling T → Option ℕ → AgainReply (Slot T) → Journaling T → Type 0
-  GoesOnNoted j allowance reply j' =
-      GoesOn j.core allowance reply j'.core
+  abbrev pub AsksAgainNoted : Journaling T → Option ℕ → AgainReply (Slot T) → Journaling T → Type 0
+  AsksAgainNoted j allowance reply j' =
+      AsksAgain j.core allowance reply j'.core
       × Notes (entry.Again allowance (numbered_again reply)) j j'
 
   abbrev pub DiscardsNoted : Journaling T → StepReply → Journaling T → Type 0

@@ -42,7 +42,7 @@ pub fn asking<T>(reply: &AskReply<Slot<T>>) -> AskReply<usize>
 }
 
 /// The reply to a get that goes on.
-pub fn going_on<T>(reply: &AgainReply<Slot<T>>) -> AgainReply<usize>
+pub fn asking_again<T>(reply: &AgainReply<Slot<T>>) -> AgainReply<usize>
     ensures { result ≡ numbered_again reply.now }
 {
     match reply {

@@ -7,7 +7,7 @@ ghost use Rattle.deadpool_managed.specs.Settled.{NobodyWaits};
 ghost use Rattle.deadpool_journal.specs.Copies.{HasSteps};
 ghost use Rattle.deadpool_journal.specs.Kept.{IsKept};
 ghost use Rattle.deadpool_journal.specs.LogState.{no_entries};
-ghost use Rattle.deadpool_journal.specs.Steps.{EntersNoted, AsksNoted, GoesOnNoted, DiscardsNoted, CreatesNoted, FailsNoted, RefusesNoted, TakesBackNoted, CancelsNoted, StandsNoted, TakesNoted, ResizesNoted, RetainsNoted, ClosesNoted, ClonesNoted, DropsHandleNoted, UpgradesNoted, TellsUnnoted};
+ghost use Rattle.deadpool_journal.specs.Steps.{EntersNoted, AsksNoted, AsksAgainNoted, DiscardsNoted, CreatesNoted, FailsNoted, RefusesNoted, TakesBackNoted, CancelsNoted, StandsNoted, TakesNoted, ResizesNoted, RetainsNoted, ClosesNoted, ClonesNoted, DropsHandleNoted, UpgradesNoted, TellsUnnoted};
 
 use crate::log::Log;
 use crate::{Entry, Journal};
@@ -145,7 +145,7 @@ impl<T: Drop> Desk<T> for Journaled<T> {
 
     ghost asks = { AsksNoted };
 
-    ghost goes_on = { GoesOnNoted };
+    ghost asks_again = { AsksAgainNoted };
 
     ghost discards = { DiscardsNoted };
 

@@ -85,7 +85,7 @@ impl Log {
         if self.is_full {
             return;
         }
-        self.add(Entry::Again(allowance, by_number::going_on(reply)));
+        self.add(Entry::Again(allowance, by_number::asking_again(reply)));
     }
 
     /// One entry more, of an object that comes back.

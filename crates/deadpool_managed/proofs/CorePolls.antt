@@ -14,7 +14,7 @@ use Rattle.deadpool_managed.specs.CoreState.{CoreState}
 use Rattle.deadpool_managed.specs.DeskState.{DeskState, places}
 use Rattle.deadpool_managed.specs.HookLists.{HookLists}
 use Rattle.deadpool_managed.specs.Outside.{May}
-use Rattle.deadpool_managed.specs.Get.{Made, no_step, entering, asking, going_on, discarding, creating, failing, refusing, cancelling, Makes, AfterServing, AfterCreation, AfterDiscard, AfterPrepared, AfterChecked, AdvancesCreation, AdvancesFrom, Advanced, Advances, PollsOver}
+use Rattle.deadpool_managed.specs.Get.{Made, no_step, entering, asking, asking_again, discarding, creating, failing, refusing, cancelling, Makes, AfterServing, AfterCreation, AfterDiscard, AfterPrepared, AfterChecked, AdvancesCreation, AdvancesFrom, Advanced, Advances, PollsOver}
 use Rattle.deadpool_managed.specs.declared.slot.Slot.{Slot}
 use Rattle.deadpool_managed.specs.declared.prepare.Prepared.{Prepared}
 use Rattle.deadpool_managed.specs.declared.prepare.Prepared.TheVariants as prepared
@@ -97,8 +97,8 @@ module _ {V E C R S F A : Type 0} (may : May V E C R S F A) (runtime : Option Ru
   stays_past : (stage : Stage V C R S) (made : Made V) (after : Stage V C R S) (turn : Turn V E) → StandsPast stage → AdvancesFrom may runtime hooks now timeouts stage made after turn → IsPast made × StandsPast after
   stays_past Unpolled made after turn past h = absurd past
   stays_past (Queued ticket deadline) made after turn past h = absurd past
-  stays_past (Going allowance) (going_on given (again.Served by)) after turn past h = (tt, served_past by after turn h.1)
-  stays_past (Going allowance) (going_on given again.Unknown) after turn past h = (tt, stands_past after _ h.1.0 tt)
+  stays_past (Going allowance) (asking_again given (again.Served by)) after turn past h = (tt, served_past by after turn h.1)
+  stays_past (Going allowance) (asking_again given again.Unknown) after turn past h = (tt, stands_past after _ h.1.0 tt)
   stays_past (Creating begun deadline) made after turn past h = creation_past timeouts.create begun deadline made after turn h
   stays_past (Recycling preparation allowance) made after turn past h = prepared_past allowance h.0 made after turn h.1.1
   stays_past (Checking slot at) made after turn past h = checked_past slot h.0 made after turn h.1.1
@@ -111,7 +111,7 @@ module _ {V : Type 0} where
   untold_past c c' no_step past h = ap (λ b. b.untold) h
   untold_past c c' (entering wait reply) past h = absurd past
   untold_past c c' (asking ticket expired reply) past h = absurd past
-  untold_past c c' (going_on allowance reply) past h = h.1
+  untold_past c c' (asking_again allowance reply) past h = h.1
   untold_past c c' (discarding reply) past h = h.1
   untold_past c c' (creating reply) past h = h.1
   untold_past c c' (failing reply) past h = h.1
@@ -123,7 +123,7 @@ module _ {V : Type 0} where
   makes_past c d d' no_step past h = ap (λ (b : DeskState (Slot V)). record c { desk = b }) h
   makes_past c d d' (entering wait reply) past h = absurd past
   makes_past c d d' (asking ticket expired reply) past h = absurd past
-  makes_past c d d' (going_on allowance reply) past h = (h, refl)
+  makes_past c d d' (asking_again allowance reply) past h = (h, refl)
   makes_past c d d' (discarding reply) past h = (h, refl)
   makes_past c d d' (creating reply) past h = (h, refl)
   makes_past c d d' (failing reply) past h = (h, refl)
@@ -261,7 +261,7 @@ module _ {V E C R S F A : Type 0} (may : May V E C R S F A) (runtime : Option Ru
         moves d no_step past moved h = absurd (moved refl)
         moves d (entering wait reply) past moved h = absurd past
         moves d (asking ticket expired reply) past moved h = absurd past
-        moves d (going_on allowance reply) past moved h = (h, same)
+        moves d (asking_again allowance reply) past moved h = (h, same)
         moves d (discarding reply) past moved h = (h, same)
         moves d (creating reply) past moved h = (h, same)
         moves d (failing reply) past moved h = (h, same)

@@ -15,7 +15,7 @@ use Rattle.deadpool_parts.specs.declared.replies.HandleReply.TheVariants as hand
 use Rattle.deadpool_parts.proofs.Numbers.{has_number-append, without_number-append, without_number-same, without_number-one}
 use Rattle.deadpool_parts.proofs.Orders.{IsOnce-without, IsOnce-push, IsOnce-front}
 use Rattle.deadpool_managed.specs.DeskState.{DeskState, least_idle, new_core, other_idle, places, grants, settled}
-use Rattle.deadpool_managed.specs.DeskSteps.{Serves, Enters, Asks, GoesOn, Discards, Creates, Fails, Refuses, TakesBack, Cancels, Stands, Takes, Resizes, Closes, Clones, DropsHandle, Upgrades, unqueued, given_up, resized}
+use Rattle.deadpool_managed.specs.DeskSteps.{Serves, Enters, Asks, AsksAgain, Discards, Creates, Fails, Refuses, TakesBack, Cancels, Stands, Takes, Resizes, Closes, Clones, DropsHandle, Upgrades, unqueued, given_up, resized}
 use Rattle.deadpool_managed.specs.Retained.{Retained}
 use Rattle.deadpool_managed.specs.Retains.{Retains, RetainsNoting}
 use Rattle.deadpool_managed.specs.Settled.{IsSettled}
@@ -129,7 +129,7 @@ module _ {O : Type 0} where
       }
   ask_settled d d' ticket expired ask.Waiting h s = rw h.4 s
 
-  pub again_settled : (d d' : DeskState O) (allowance : Option ℕ) (reply : AgainReply O) → GoesOn d allowance reply d' → IsSettled d → IsSettled d'
+  pub again_settled : (d d' : DeskState O) (allowance : Option ℕ) (reply : AgainReply O) → AsksAgain d allowance reply d' → IsSettled d → IsSettled d'
   again_settled d d' allowance again.Unknown h s = rw h.1 s
   again_settled d d' allowance (again.Served by) h s =
       let some = h.0 in

@@ -1,7 +1,7 @@
 -- The desk machine as a desk.
 use Rattle.std.specs.Prelude.{⊤}
 use Rattle.deadpool_managed.specs.DeskState.{DeskState}
-use Rattle.deadpool_managed.specs.DeskSteps.{Enters, Asks, GoesOn, Discards, Creates, Fails, Refuses, TakesBack, Cancels, Takes, Resizes, Stands, Closes, Clones, DropsHandle, Upgrades}
+use Rattle.deadpool_managed.specs.DeskSteps.{Enters, Asks, AsksAgain, Discards, Creates, Fails, Refuses, TakesBack, Cancels, Takes, Resizes, Stands, Closes, Clones, DropsHandle, Upgrades}
 use Rattle.deadpool_managed.specs.Retains.{Retains}
 use Rattle.deadpool_managed.specs.declared.slot.Slot.{Slot}
 use Rattle.deadpool_managed.specs.declared.desk.Desk.{Ghosts as DeskOf}
@@ -12,7 +12,7 @@ core_desk = record {
   holds = λ _ _. ⊤;
   enters = Enters;
   asks = Asks;
-  goes_on = GoesOn;
+  asks_again = AsksAgain;
   discards = Discards;
   creates = Creates;
   fails = Fails;

@@ -56,8 +56,8 @@ module _ {T : Type 0} where
 
   -- by every other step nobody comes and nobody leaves
 
-  abbrev pub GoesOn : CoreState T → Option ℕ → AgainReply (Slot T) → CoreState T → Type 0
-  GoesOn c allowance reply c' = desk.GoesOn c.desk allowance reply c'.desk × (c'.untold ≡ c.untold)
+  abbrev pub AsksAgain : CoreState T → Option ℕ → AgainReply (Slot T) → CoreState T → Type 0
+  AsksAgain c allowance reply c' = desk.AsksAgain c.desk allowance reply c'.desk × (c'.untold ≡ c.untold)
 
   abbrev pub Discards : CoreState T → StepReply → CoreState T → Type 0
   Discards c reply c' = desk.Discards c.desk reply c'.desk × (c'.untold ≡ c.untold)

@@ -36,9 +36,9 @@ module _ {T : Type 0} where
   held_if_asked (asked.Served served) = held_if_served served
   held_if_asked _ = holding.Nothing
 
-  abbrev pub held_if_gone_on : AgainReply T → Holding
-  held_if_gone_on (again.Served served) = held_if_served served
-  held_if_gone_on again.Unknown = holding.Nothing
+  abbrev pub held_if_asked_again : AgainReply T → Holding
+  held_if_asked_again (again.Served served) = held_if_served served
+  held_if_asked_again again.Unknown = holding.Nothing
 
 abbrev pub held_if_created : CreatedReply → Holding
 held_if_created (created.Created number) = holding.Object

@@ -7,8 +7,8 @@ ghost use Rattle.deadpool_parts.specs.Moments.{deadline_after};
 ghost use Rattle.deadpool_managed.specs.Bounds.{lacks_allowance, Falls, IsNewObject};
 ghost use Rattle.deadpool_managed.specs.Answers.{IfReadyOk};
 ghost use Rattle.deadpool_managed.specs.Outside.{may};
-ghost use Rattle.deadpool_managed.specs.Get.{Made, Makes, AdvancesFrom, AfterServing, AfterEntered, AfterAsked, AfterGoingOn, AfterNumbered, AfterCreation, AdvancesCreation, IfReadyObject, PollsOver, CancelsFrom, GivesUp, deadline_of, ended_by};
-ghost use Rattle.deadpool_managed.specs.Held.{is_going, held_at, held_after, held_if_entered, held_if_asked, held_if_gone_on, held_if_created, held_if_served, held_as};
+ghost use Rattle.deadpool_managed.specs.Get.{Made, Makes, AdvancesFrom, AfterServing, AfterEntered, AfterAsked, AfterAskedAgain, AfterCreated, AfterCreation, AdvancesCreation, IfReadyObject, PollsOver, CancelsFrom, GivesUp, deadline_of, ended_by};
+ghost use Rattle.deadpool_managed.specs.Held.{is_going, held_at, held_after, held_if_entered, held_if_asked, held_if_asked_again, held_if_created, held_if_served, held_as};
 ghost use Rattle.deadpool_managed.specs.declared.desk.Holding.{Holding};
 ghost use Rattle.deadpool_managed.specs.Prepare.{IsReadyPreparation};
 ghost use Rattle.deadpool_parts.specs.declared.replies.StepReply.{StepReply};
@@ -127,7 +127,7 @@ impl<M: Manager + Drop, A: AsyncHook<M> + Drop> GetState<M, A> {
             }
             Stage::Going(allowance) => {
                 let reply = desk.again(allowance);
-                self.after_going_on(reply)
+                self.after_asked_again(reply)
             }
             Stage::Creating(begun, deadline) => match begun {
                 None => self.begin_creation(desk, environment, now, cx),
@@ -246,11 +246,11 @@ impl<M: Manager + Drop, A: AsyncHook<M> + Drop> GetState<M, A> {
         }
     }
 
-    fn after_going_on(&mut self, reply: AgainReply<Slot<M::Type>>) -> Turn<M::Type, M::Error>
+    fn after_asked_again(&mut self, reply: AgainReply<Slot<M::Type>>) -> Turn<M::Type, M::Error>
         requires { self.old.stage ≡ Stage.Finished }
-        ensures after { AfterGoingOn reply self.new.stage result }
+        ensures after { AfterAskedAgain reply self.new.stage result }
         ensures timeouts { self.new.timeouts ≡ self.old.timeouts }
-        ensures holds { held_after self.new.stage result ≡ held_if_gone_on reply }
+        ensures holds { held_after self.new.stage result ≡ held_if_asked_again reply }
     {
         match reply {
             AgainReply::Served(serving) => self.after_serving(serving),
@@ -357,7 +357,7 @@ impl<M: Manager + Drop, A: AsyncHook<M> + Drop> GetState<M, A> {
     ) -> Turn<M::Type, M::Error>
         requires finished { self.old.stage ≡ Stage.Finished }
         requires ready { M.is_ready value }
-        ensures after { AfterNumbered value now reply self.new.stage result }
+        ensures after { AfterCreated value now reply self.new.stage result }
         ensures falls { result ≡ Turn.More → IsNewObject self.new.stage }
         ensures timeouts { self.new.timeouts ≡ self.old.timeouts }
         ensures ready { IfReadyObject M.is_ready result }

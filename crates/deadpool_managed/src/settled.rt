@@ -2,7 +2,7 @@
 ghost use Rattle.std.specs.Prelude.{◌≡◌, ◌≤◌, ◌&&◌, ◌++◌, [], not, nat_lt, nat_le, is_some, length, IfOk};
 ghost use Rattle.deadpool_parts.specs.Orders.{IsOnce};
 ghost use Rattle.deadpool_managed.specs.DeskState.{new_core, places};
-ghost use Rattle.deadpool_managed.specs.CoreSteps.{Enters, Asks, GoesOn, Discards, Creates, Fails, Refuses, TakesBack, Cancels, Takes, Resizes, Stands, Retains, RetainsNoting, Closes, Clones, DropsHandle, Upgrades, Tells, due_now};
+ghost use Rattle.deadpool_managed.specs.CoreSteps.{Enters, Asks, AsksAgain, Discards, Creates, Fails, Refuses, TakesBack, Cancels, Takes, Resizes, Stands, Retains, RetainsNoting, Closes, Clones, DropsHandle, Upgrades, Tells, due_now};
 ghost use Rattle.deadpool_managed.specs.Settled.{NobodyWaits};
 
 use crate::desk::{
@@ -121,7 +121,7 @@ impl<T: Drop> Desk<T> for Core<T> {
 
     ghost asks = { Asks };
 
-    ghost goes_on = { GoesOn };
+    ghost asks_again = { AsksAgain };
 
     ghost discards = { Discards };
 

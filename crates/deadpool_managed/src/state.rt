@@ -3,7 +3,7 @@ ghost use Rattle.std.specs.Prelude.{◌≡◌, ◌+◌, ◌-◌, ◌≤◌, ◌&
 ghost use Rattle.deadpool_managed.specs.Allowance.{IsWithinAllowance};
 ghost use Rattle.deadpool_managed.specs.DeskState.{least_idle, new_core, places, settled, next_idle, other_idle};
 ghost use Rattle.deadpool_managed.specs.DeskSteps.{Serves};
-ghost use Rattle.deadpool_managed.specs.CoreSteps.{Enters, Asks, GoesOn, Discards, Creates, Fails, Refuses, TakesBack, Cancels, Takes, Resizes, Stands, Retains, RetainsNoting, Closes, Clones, DropsHandle, Upgrades, Tells, due_now};
+ghost use Rattle.deadpool_managed.specs.CoreSteps.{Enters, Asks, AsksAgain, Discards, Creates, Fails, Refuses, TakesBack, Cancels, Takes, Resizes, Stands, Retains, RetainsNoting, Closes, Clones, DropsHandle, Upgrades, Tells, due_now};
 
 use crate::desk::{
     AgainReply, AskReply, BackReply, CreatedReply, EnterReply, Held, Serving, TakeReply,
@@ -220,7 +220,7 @@ impl<T: Drop> PoolState<T> {
     }
 
     pub fn again(&mut self, allowance: Option<usize>) -> AgainReply<Slot<T>>
-        ensures served { GoesOn self.old allowance result self.new }
+        ensures served { AsksAgain self.old allowance result self.new }
         ensures allowed { IsWithinAllowance allowance result }
     {
         if self.going == 0 {

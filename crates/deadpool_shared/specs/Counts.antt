@@ -50,8 +50,8 @@ module _ {O : Type 0} where
   IsTaken (back.Unknown given) = ⊥
 
 -- what is given back is in a count
-abbrev pub IsCounted : Held → Type 0
-IsCounted (held.Ticket ticket) = ⊥
-IsCounted held.Place = ⊤
-IsCounted held.Creation = ⊤
-IsCounted held.Object = ⊤
+abbrev pub HasShare : Held → Type 0
+HasShare (held.Ticket ticket) = ⊥
+HasShare held.Place = ⊤
+HasShare held.Creation = ⊤
+HasShare held.Object = ⊤

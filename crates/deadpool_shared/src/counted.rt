@@ -1,9 +1,9 @@
 //! The steps that change a pool's three counts, with what they do to them.
 ghost use Rattle.std.specs.Prelude.{◌≡◌, ◌≢◌, ◌<◌};
 ghost use Rattle.deadpool_managed.specs.Allowance.{IsWithinAllowance};
-ghost use Rattle.deadpool_managed.specs.Held.{held_if_entered, held_if_asked, held_if_gone_on, held_as};
+ghost use Rattle.deadpool_managed.specs.Held.{held_if_entered, held_if_asked, held_if_asked_again, held_as};
 ghost use Rattle.deadpool_managed.specs.declared.desk.Holding.{Holding};
-ghost use Rattle.deadpool_shared.specs.Counts.{counted, shifted, IsServed, IsTaken, IsCounted};
+ghost use Rattle.deadpool_shared.specs.Counts.{counted, shifted, IsServed, IsTaken, HasShare};
 
 use deadpool_journal::Journaled;
 use deadpool_managed::gate::Ticket;
@@ -27,7 +27,7 @@ pub fn ask<T: Drop>(pool: &mut Journaled<T>, ticket: Ticket, expired: bool) -> A
 pub fn again<T: Drop>(pool: &mut Journaled<T>, allowance: Option<usize>) -> AgainReply<Slot<T>>
     requires { 0 < pool.old.core.desk.going }
     ensures known { IsServed result }
-    ensures counts { counted pool.new ≡ shifted Holding.Place (held_if_gone_on result) (counted pool.old) }
+    ensures counts { counted pool.new ≡ shifted Holding.Place (held_if_asked_again result) (counted pool.old) }
     ensures allowed { IsWithinAllowance allowance result }
 {
     pool.again(allowance)
@@ -85,7 +85,7 @@ pub fn cancel<T: Drop>(pool: &mut Journaled<T>, held: Held) -> StepReply
     requires places { held ≡ Held.Place → 0 < pool.old.core.desk.going }
     requires creations { held ≡ Held.Creation → 0 < pool.old.core.desk.creations }
     requires objects { held ≡ Held.Object → 0 < pool.old.core.desk.outside }
-    ensures known { IsCounted held → result ≡ StepReply.Done }
+    ensures known { HasShare held → result ≡ StepReply.Done }
     ensures counts { counted pool.new ≡ shifted (held_as held) Holding.Nothing (counted pool.old) }
 {
     pool.cancel(held)

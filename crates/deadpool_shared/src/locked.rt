@@ -1,11 +1,11 @@
 //! What the lock of a pool keeps.
 ghost use Rattle.std.specs.Prelude.{◌≡◌, ◌≢◌, ◌<◌, ◌≤◌, true, IfOk, IfSome};
-ghost use Rattle.deadpool_managed.specs.Held.{held_if_entered, held_if_asked, held_if_gone_on, held_as};
+ghost use Rattle.deadpool_managed.specs.Held.{held_if_entered, held_if_asked, held_if_asked_again, held_as};
 ghost use Rattle.deadpool_managed.specs.Allowance.{IsWithinAllowance};
 ghost use Rattle.deadpool_managed.specs.declared.desk.Holding.{Holding};
 ghost use Rattle.deadpool_journal.specs.Copies.{HasSteps};
 ghost use Rattle.deadpool_shared.specs.Opens.{Opens};
-ghost use Rattle.deadpool_shared.specs.Counts.{counts, counts_of, counted, IsServed, IsTaken, IsCounted};
+ghost use Rattle.deadpool_shared.specs.Counts.{counts, counts_of, counted, IsServed, IsTaken, HasShare};
 
 use crate::counted;
 use crate::shares::{Books, Shares};
@@ -127,7 +127,7 @@ impl<T: Drop, G: Ledger, N: Ledger, O: Ledger> Locked<T, G, N, O> {
         allowance: Option<usize>,
     ) -> AgainReply<Slot<T>>
         requires { shares.old ≡ counts_of Holding.Place }
-        ensures holds { shares.new ≡ counts_of (held_if_gone_on result) }
+        ensures holds { shares.new ≡ counts_of (held_if_asked_again result) }
         ensures known { IsServed result }
         ensures allowed { IsWithinAllowance allowance result }
     {
@@ -225,7 +225,7 @@ impl<T: Drop, G: Ledger, N: Ledger, O: Ledger> Locked<T, G, N, O> {
     ) -> StepReply
         requires { shares.old ≡ counts_of (held_as held) }
         ensures holds { shares.new ≡ counts_of Holding.Nothing }
-        ensures known { IsCounted held → result ≡ StepReply.Done }
+        ensures known { HasShare held → result ≡ StepReply.Done }
     {
         let Locked {
             pool,

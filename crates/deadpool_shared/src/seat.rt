@@ -2,12 +2,12 @@
 ghost use Rattle.std.specs.Prelude.{◌≡◌, ◌≢◌, ⊤};
 ghost use Rattle.futures.specs.Task.{Hears, IsArmed, Keeps};
 ghost use Rattle.deadpool_managed.specs.Allowance.{IsWithinAllowance};
-ghost use Rattle.deadpool_managed.specs.Held.{held_if_entered, held_if_asked, held_if_gone_on, held_if_created, held_if_discarded, held_as};
+ghost use Rattle.deadpool_managed.specs.Held.{held_if_entered, held_if_asked, held_if_asked_again, held_if_created, held_if_discarded, held_as};
 ghost use Rattle.deadpool_managed.specs.declared.desk.Holding.{Holding};
 ghost use Rattle.deadpool_managed.specs.declared.desk.CreatedReply.{CreatedReply};
 ghost use Rattle.deadpool_managed.specs.declared.desk.TakeReply.{TakeReply};
 ghost use Rattle.deadpool_parts.specs.declared.replies.StepReply.{StepReply};
-ghost use Rattle.deadpool_shared.specs.Counts.{counts, counts_of, IsServed, IsTaken, IsCounted};
+ghost use Rattle.deadpool_shared.specs.Counts.{counts, counts_of, IsServed, IsTaken, HasShare};
 
 use crate::shared::Shared;
 use crate::shares::Shares;
@@ -78,7 +78,7 @@ impl<
 
     ghost asks = { λ _ _ _ _ _. ⊤ };
 
-    ghost goes_on = { λ _ _ reply _. IsServed reply };
+    ghost asks_again = { λ _ _ reply _. IsServed reply };
 
     ghost discards = { λ _ reply _. reply ≡ StepReply.Done };
 
@@ -90,7 +90,7 @@ impl<
 
     ghost takes_back = { λ _ _ reply _. IsTaken reply };
 
-    ghost cancels = { λ _ held reply _. IsCounted held → reply ≡ StepReply.Done };
+    ghost cancels = { λ _ held reply _. HasShare held → reply ≡ StepReply.Done };
 
     ghost stands = { λ _ _ _. ⊤ };
 

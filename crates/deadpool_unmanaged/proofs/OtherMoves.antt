@@ -12,7 +12,7 @@ use Rattle.deadpool_unmanaged.specs.RunLaws.{IsWell}
 use Rattle.deadpool_unmanaged.specs.Moves.{unsettled}
 use Rattle.deadpool_unmanaged.specs.Pool.{Pool, free_objects, free_room, status_of as pool_status}
 use Rattle.deadpool_unmanaged.specs.State.{State, settled, status_of}
-use Rattle.deadpool_unmanaged.specs.StateSteps.{GetEnters, AddEnters, TakesBack, Takes, Clones, DropsHandle, Upgrades, handed, stored, shut, one_handle_more}
+use Rattle.deadpool_unmanaged.specs.StateSteps.{GetEnters, AddEnters, TakesBack, Takes, Clones, DropsHandle, Upgrades, handed, stored, closed_pool, one_handle_more}
 use Rattle.deadpool_unmanaged.specs.Steps.{find_item, with_item, without_item, hand_out}
 use Rattle.deadpool_unmanaged.specs.TrialFields.{IsAtOnce, IsKnown, reply_to_back, reply_to_handle, reply_to_try_add}
 use Rattle.deadpool_unmanaged.specs.declared.error.PoolError.TheVariants.{Timeout, Closed}
@@ -156,9 +156,9 @@ module _ {V : Type 0} (runtime : Option Runtime) (most next : ℕ) (d : State (I
 
   -- ---- the owner's steps
 
-  pub closes : eqb d.handles 0 ≡ false → (d' : State (Item V)) → d' ≡ shut d → Leaves move.Close reply.Done next d' out
+  pub closes : eqb d.handles 0 ≡ false → (d' : State (Item V)) → d' ≡ closed_pool d → Leaves move.Close reply.Done next d' out
   closes some d' is =
-      by_resting move.Close pool well reply.Done runtime most next (shut d) visitors out (record { gets = k.gets; adds = k.adds; outside = k.outside }) true (rw some refl) d' is
+      by_resting move.Close pool well reply.Done runtime most next (closed_pool d) visitors out (record { gets = k.gets; adds = k.adds; outside = k.outside }) true (rw some refl) d' is
       (record { objects = λ is_open. absurd (let differ = is_open in cc); room = λ is_open. absurd (let differ = is_open in cc) })
 
   -- the pool stands as the core does

@@ -109,8 +109,8 @@ module _ {T : Type 0} where
   Takes d taking.Taken d' = (0 < d.outside) × (d' ≡ settled (record d { outside = d.outside - 1 }))
 
   -- the pool closes, and nothing stays idle
-  abbrev pub shut : State T → State T
-  shut d = record d { is_open = false; idle = [] }
+  abbrev pub closed_pool : State T → State T
+  closed_pool d = record d { is_open = false; idle = [] }
 
   abbrev pub one_handle_more : State T → State T
   one_handle_more d = record d { handles = min (d.handles + 1) most_handles }

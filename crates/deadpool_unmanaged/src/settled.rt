@@ -2,7 +2,7 @@
 ghost use Rattle.std.specs.Prelude.{◌≡◌, ℕ, nat_lt, not, [], length, IfOk};
 ghost use Rattle.deadpool_unmanaged.specs.Kept.{IsKept};
 ghost use Rattle.deadpool_unmanaged.specs.State.{IsFull, has_due, get_would_queue, add_would_queue, opened, status_of};
-ghost use Rattle.deadpool_unmanaged.specs.StateSteps.{GetEnters, GetAsks, GetCancels, AddEnters, AddAsks, AddCancels, TakesBack, Takes, TakesGetWake, TakesAddWake, Clones, DropsHandle, Upgrades, shut};
+ghost use Rattle.deadpool_unmanaged.specs.StateSteps.{GetEnters, GetAsks, GetCancels, AddEnters, AddAsks, AddCancels, TakesBack, Takes, TakesGetWake, TakesAddWake, Clones, DropsHandle, Upgrades, closed_pool};
 
 use crate::state::PoolState;
 use crate::steps::{AddAskReply, AddEnterReply, BackReply, GetAskReply, GetEnterReply, TakeReply};
@@ -191,7 +191,7 @@ impl<T: Drop> Core<T> {
 
     /// The pool closes for good. The idle objects are dropped, and the limit stays.
     pub fn close(&mut self)
-        ensures { self.new.pool ≡ shut self.old.pool }
+        ensures { self.new.pool ≡ closed_pool self.old.pool }
     {
         self.state.close();
     }

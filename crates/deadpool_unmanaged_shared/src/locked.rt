@@ -4,7 +4,7 @@ ghost use Rattle.deadpool_lock.specs.Places.{Follows, waker_at};
 ghost use Rattle.deadpool_unmanaged.specs.Adds as adds;
 ghost use Rattle.deadpool_unmanaged.specs.Gets as gets;
 ghost use Rattle.deadpool_unmanaged.specs.State.{has_due, status_of};
-ghost use Rattle.deadpool_unmanaged.specs.StateSteps.{TakesBack, Takes, Clones, DropsHandle, shut};
+ghost use Rattle.deadpool_unmanaged.specs.StateSteps.{TakesBack, Takes, Clones, DropsHandle, closed_pool};
 ghost use Rattle.deadpool_unmanaged_shared.specs.Locked.{PollsGet, PollsAdd, TriesGet, TriesAdd, next_waker, told};
 
 use deadpool_lock::{Wakers, Wakes};
@@ -151,7 +151,7 @@ impl<T: Drop> Locked<T> {
 
     /// The pool closes for good.
     pub fn close(&mut self)
-        ensures { self.new.core.pool ≡ shut self.old.core.pool }
+        ensures { self.new.core.pool ≡ closed_pool self.old.core.pool }
     {
         self.core.close();
     }

@@ -33,7 +33,7 @@ impl<'a, T: Drop> Desk<T> for Watched<'a, T> {
 
     ghost asks = { λ _ _ _ _ _. ⊤ };
 
-    ghost goes_on = { λ _ _ _ _. ⊤ };
+    ghost asks_again = { λ _ _ _ _. ⊤ };
 
     ghost discards = { λ _ _ _. ⊤ };
 

@@ -20,7 +20,8 @@ fn replies_so(core: &mut Core<()>, entry: &Entry) -> bool {
         Entry::Ask(ticket, expired, reply) => {
             by_number::asking(&core.ask(*ticket, *expired)) == *reply
         }
-        Entry::Again(allowance, reply) => by_number::going_on(&core.again(*allowance)) == *reply,
+        Entry::Again(allowance, reply) => by_number::asking_again(&core.again(*allowance))
+            == *reply,
         Entry::Discard(reply) => core.discard() == *reply,
         Entry::Created(reply) => core.created() == *reply,
         Entry::Failed(reply) => core.failed() == *reply,

@@ -49,7 +49,8 @@ fn serves_so(core: &mut Core<()>, entry: &Entry) -> bool {
         Entry::Ask(ticket, expired, reply) => {
             by_number::asking(&core.ask(*ticket, *expired)) == *reply
         }
-        Entry::Again(allowance, reply) => by_number::going_on(&core.again(*allowance)) == *reply,
+        Entry::Again(allowance, reply) => by_number::asking_again(&core.again(*allowance))
+            == *reply,
         _ => false,
     }
 }

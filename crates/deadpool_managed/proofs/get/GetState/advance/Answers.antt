@@ -1,5 +1,5 @@
 use Rattle.std.proofs.Common.{◌≡◌, rules, refl, Some, None}
-use Rattle.deadpool_managed.specs.Get.{no_step, asking, going_on}
+use Rattle.deadpool_managed.specs.Get.{no_step, asking, asking_again}
 use Rattle.deadpool_managed.specs.declared.get.Stage.TheVariants.{Queued, Going, Creating, Recycling, Finished}
 use Rattle.deadpool_managed.proofs.Polls.{new_object_falls}
 use Rattle.deadpool_managed.proofs.get.GetState.advance.Goals as goal
@@ -14,7 +14,7 @@ pub returns-in-Going-clause-advanced : goal.returns-in-Going-clause-advanced
 returns-in-Going-clause-advanced g c =
     let stage : c.self.inside.stage ≡ Going c.in-Going.allowance = cc in
     rw (← c.self.view_is, stage)
-    (going_on c.in-Going.allowance c.again-reply.result, (c.again-reply.ensures.served, (refl, c.after_going_on.ensures.after)))
+    (asking_again c.in-Going.allowance c.again-reply.result, (c.again-reply.ensures.served, (refl, c.after_asked_again.ensures.after)))
 
 pub returns-in-None-clause-advanced : goal.returns-in-None-clause-advanced
 returns-in-None-clause-advanced g c =
