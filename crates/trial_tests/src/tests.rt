@@ -2,7 +2,6 @@
 mod calls;
 mod crowds;
 mod gets;
-mod hooks;
 mod quiet;
 mod runs;
 mod timeouts;
