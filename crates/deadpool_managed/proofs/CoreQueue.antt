@@ -1,12 +1,13 @@
 -- What the steps of a gate do to the state of the pool that holds it.
-use Rattle.std.proofs.Common.{◌≡◌, ℕ, Bool, ◌+◌, ◌-◌, ◌≤◌, true, [], ◌∷◌, ◌++◌, length, take, drop, refl, ◌∙◌, arith}
+use Rattle.std.proofs.Common.{◌≡◌, ℕ, Bool, ◌+◌, ◌-◌, ◌≤◌, true, [], ◌∷◌, ◌++◌, length, take, drop, refl, ◌∙◌, List, false, min, arith}
+use Rattle.std.proofs.lemmas.List.{append-nil}
 use Rattle.deadpool_parts.specs.Gate.{Line, is_due, tell_next, arrived, without_waiter, granted_tickets, waiting_tickets, untold_tickets, grant_count, IsLine}
 use Rattle.deadpool_parts.specs.Numbers.{has_number, without_number}
 use Rattle.deadpool_parts.proofs.GateTickets.{granted_tickets-arrived, waiting_tickets-arrived, granted_tickets-without_waiter, waiting_tickets-without_waiter, granted_tickets-told, waiting_tickets-told, untold_tickets-arrived, untold_tickets-without_waiter, length-both_tickets}
 use Rattle.deadpool_parts.proofs.GateAnswers.{grant_count-length}
 use Rattle.deadpool_parts.proofs.Numbers.{without_number-shorter, without_number-fewer}
 use Rattle.deadpool_managed.specs.CoreFields.{desk_of, IsSound}
-use Rattle.deadpool_managed.specs.DeskState.{places, grants, settled}
+use Rattle.deadpool_managed.specs.DeskState.{DeskState, places, grants, settled}
 use Rattle.deadpool_managed.specs.DeskSteps.{unqueued}
 use Rattle.deadpool_managed.specs.declared.state.PoolState.TheInside.{Inside}
 
@@ -73,3 +74,19 @@ module _ {T : Type 0} (pool : Inside T) (gate : Line) where
   -- a line with no room for one more is as long as the two lists of tickets
   pub no_room : gate.capacity ≤ length gate.waiters → gate.capacity ≤ length (granted_tickets gate.waiters) + length (waiting_tickets gate.waiters)
   no_room full = rw (length-both_tickets gate.waiters) full
+
+-- with nobody waiting, nothing is granted
+nobody : (xs : List ℕ) → length xs ≡ 0 → xs ≡ []
+nobody [] none = refl
+nobody (x ∷ xs) none = cc
+
+module _ {O : Type 0} where
+  none_granted : (d : DeskState O) (is_open : Bool) → d.is_open ≡ is_open → d.waiting ≡ [] → grants d ≡ 0
+  none_granted d true is none = rw (is, none) (omega arith)
+  none_granted d false is none = rw is refl
+
+  settled-quiet : (d : DeskState O) → d.waiting ≡ [] → d ≡ settled d
+  settled-quiet d none = rw (none_granted d d.is_open refl none, append-nil d.granted) refl
+
+pub desk_of-quiet : {T : Type 0} (pool : Inside T) → length (waiting_tickets pool.gate.waiters) ≡ 0 → desk_of pool ≡ settled (desk_of pool)
+desk_of-quiet pool none = settled-quiet (desk_of pool) (nobody (waiting_tickets pool.gate.waiters) none)

@@ -7,6 +7,7 @@ pub mod FirstPollComes
 pub mod FirstPollTakes
 pub mod HookLists
 pub mod IdleLists
+pub mod Phases
 pub mod Polls
 pub mod Reviewing
 pub mod StaysSettled

@@ -22,6 +22,7 @@ pub mod Get
 pub mod Allowance
 pub mod Bounds
 pub mod FirstPoll
+pub mod Phases
 -- How the fields of a core are seen as its state, and the machine as a desk. No contract of a user cites them.
 pub mod CoreFields
 pub mod CoreDesk

@@ -6,9 +6,12 @@ ghost use Rattle.futures.specs.Task.{Keeps};
 ghost use Rattle.deadpool_parts.specs.Program.{Gives};
 ghost use Rattle.deadpool_managed.specs.HookLists.{CanCall};
 ghost use Rattle.deadpool_managed.specs.Outside.{may, may_hook};
-ghost use Rattle.deadpool_managed.specs.Calls.{apply, pass};
+ghost use Rattle.deadpool_managed.specs.Calls.{apply, pass, start};
 ghost use Rattle.deadpool_managed.specs.declared.prepare.Preparation.TheVariants.{PreRecycle};
-ghost use Rattle.deadpool_managed.specs.Prepare.{prepare, begin_recycling, poll_recycling, approve, check, with_value, object_of, IsReadyPreparation, IsReadyPrepared};
+ghost use Rattle.deadpool_managed.specs.Prepare.{prepare, begin_recycling, poll_recycling, approve, check, with_value, IsReadyPreparation, IsReadyPrepared};
+ghost use Rattle.deadpool_managed.specs.Phases.{preparation_of, prepared_of, IsPlaced, PreparesIn, IsReadyIn, ChecksIn, IsReadyHeld};
+ghost use Rattle.deadpool_managed.specs.declared.work.Phase.{Phase};
+ghost use Rattle.deadpool_managed.specs.declared.prepare.Preparing.{Preparing};
 
 use crate::{
     AsyncHook, Environment, Hook, HookError, HookResult, Manager, Metrics, Moment, Slot, SyncHook,
@@ -62,6 +65,22 @@ pub enum Prepared<T, R, S> {
     /// It was refused, or its recycling ran out of time or had no runtime to tell it.
     GivenUp(Slot<T>),
     Pending(Preparation<T, R, S>),
+}
+
+/// How far the preparation of an idle object is, which stands beside it.
+#[derive(Drop)]
+pub enum Preparing<R, S> {
+    PreRecycle(Position<S>),
+    Recycle(R, Option<Moment>),
+    PostRecycle(Position<S>),
+}
+
+/// What came of one more step of it.
+#[derive(Drop)]
+pub enum Outcome<R, S> {
+    Accepted,
+    GivenUp,
+    Pending(Preparing<R, S>),
 }
 
 // A hook sees an object; one that was begun goes on. Gives its answer and the state that it left.
@@ -128,7 +147,7 @@ fn pass<M: Manager, F: SyncHook<M>, A: AsyncHook<M>>(
 }
 
 /// The hooks that see a new object, from the position on.
-pub(crate) fn check<M: Manager + Drop, F: SyncHook<M> + Drop, A: AsyncHook<M> + Drop>(
+fn check<M: Manager + Drop, F: SyncHook<M> + Drop, A: AsyncHook<M> + Drop>(
     slot: &mut Slot<M::Type>,
     position: Position<A::State>,
     environment: &Environment<M, F, A>,
@@ -150,52 +169,50 @@ pub(crate) fn check<M: Manager + Drop, F: SyncHook<M> + Drop, A: AsyncHook<M> + 
 
 // The hooks after the recycling see the object, from the position on.
 fn approve<M: Manager + Drop, F: SyncHook<M> + Drop, A: AsyncHook<M> + Drop>(
-    mut slot: Slot<M::Type>,
+    slot: &mut Slot<M::Type>,
     position: Position<A::State>,
     environment: &Environment<M, F, A>,
     now: Moment,
     cx: &mut Context<'_>,
-) -> Prepared<M::Type, M::Recycling, A::State>
-    requires { M.is_ready slot.value }
-    ensures gives { Gives (may M.Manager F.SyncHook A.AsyncHook environment.now.manager) (approve now environment.now.hooks slot position) result }
-    ensures ready { IsReadyPrepared M.is_ready result }
+) -> Outcome<M::Recycling, A::State>
+    requires { M.is_ready slot.old.value }
+    ensures gives { Gives (may M.Manager F.SyncHook A.AsyncHook environment.now.manager) (approve now environment.now.hooks slot.old position) (prepared_of slot.new result) }
+    ensures ready { IsReadyPrepared M.is_ready (prepared_of slot.new result) }
     ensures kept { Keeps cx.old cx.new }
 {
     let hooks = environment.hooks.post_recycle();
     match pass(hooks, position, &mut slot.value, &slot.metrics, cx) {
         Verdict::Accepted => {
             slot.metrics = slot.metrics.recycled(now);
-            Prepared::Accepted(slot)
+            Outcome::Accepted
         }
-        Verdict::Refused(_) => Prepared::GivenUp(slot),
-        Verdict::Pending(position) => {
-            Prepared::Pending(Preparation::PostRecycle(slot, position))
-        }
+        Verdict::Refused(_) => Outcome::GivenUp,
+        Verdict::Pending(position) => Outcome::Pending(Preparing::PostRecycle(position)),
     }
 }
 
 // Goes on with a recycling. One that is pending at its deadline has expired.
 fn poll_recycling<M: Manager + Drop, F: SyncHook<M> + Drop, A: AsyncHook<M> + Drop>(
-    mut slot: Slot<M::Type>,
+    slot: &mut Slot<M::Type>,
     mut recycling: M::Recycling,
     deadline: Option<Moment>,
     environment: &Environment<M, F, A>,
     now: Moment,
     cx: &mut Context<'_>,
-) -> Prepared<M::Type, M::Recycling, A::State>
-    ensures gives { Gives (may M.Manager F.SyncHook A.AsyncHook environment.now.manager) (poll_recycling now environment.now.hooks deadline recycling slot) result }
-    ensures ready { IsReadyPrepared M.is_ready result }
+) -> Outcome<M::Recycling, A::State>
+    ensures gives { Gives (may M.Manager F.SyncHook A.AsyncHook environment.now.manager) (poll_recycling now environment.now.hooks deadline recycling slot.old) (prepared_of slot.new result) }
+    ensures ready { IsReadyPrepared M.is_ready (prepared_of slot.new result) }
     ensures kept { Keeps cx.old cx.new }
 {
     let manager = &environment.manager;
     match manager.poll_recycle(&mut recycling, &mut slot.value, &slot.metrics, cx) {
         Poll::Ready(Ok(())) => approve(slot, Position::start(), environment, now, cx),
-        Poll::Ready(Err(_)) => Prepared::GivenUp(slot),
+        Poll::Ready(Err(_)) => Outcome::GivenUp,
         Poll::Pending => {
             if is_reached(deadline, now) {
-                Prepared::GivenUp(slot)
+                Outcome::GivenUp
             } else {
-                Prepared::Pending(Preparation::Recycle(slot, recycling, deadline))
+                Outcome::Pending(Preparing::Recycle(recycling, deadline))
             }
         }
     }
@@ -203,18 +220,18 @@ fn poll_recycling<M: Manager + Drop, F: SyncHook<M> + Drop, A: AsyncHook<M> + Dr
 
 // Begins a recycling. A timeout without a runtime gives the object up, and nothing is called.
 fn begin_recycling<M: Manager + Drop, F: SyncHook<M> + Drop, A: AsyncHook<M> + Drop>(
-    mut slot: Slot<M::Type>,
+    slot: &mut Slot<M::Type>,
     timeout: Option<Duration>,
     environment: &Environment<M, F, A>,
     now: Moment,
     cx: &mut Context<'_>,
-) -> Prepared<M::Type, M::Recycling, A::State>
-    ensures gives { Gives (may M.Manager F.SyncHook A.AsyncHook environment.now.manager) (begin_recycling now environment.now.runtime timeout environment.now.hooks slot) result }
-    ensures ready { IsReadyPrepared M.is_ready result }
+) -> Outcome<M::Recycling, A::State>
+    ensures gives { Gives (may M.Manager F.SyncHook A.AsyncHook environment.now.manager) (begin_recycling now environment.now.runtime timeout environment.now.hooks slot.old) (prepared_of slot.new result) }
+    ensures ready { IsReadyPrepared M.is_ready (prepared_of slot.new result) }
     ensures kept { Keeps cx.old cx.new }
 {
     if lacks_runtime(environment.runtime, timeout) {
-        return Prepared::GivenUp(slot);
+        return Outcome::GivenUp;
     }
     let recycling = environment.manager.recycle(&mut slot.value, &slot.metrics);
     let deadline = deadline_after(now, timeout);
@@ -222,59 +239,102 @@ fn begin_recycling<M: Manager + Drop, F: SyncHook<M> + Drop, A: AsyncHook<M> + D
 }
 
 /// Prepares an idle object, from where it had come.
-pub(crate) fn prepare<M: Manager + Drop, F: SyncHook<M> + Drop, A: AsyncHook<M> + Drop>(
-    preparation: Preparation<M::Type, M::Recycling, A::State>,
+fn prepare<M: Manager + Drop, F: SyncHook<M> + Drop, A: AsyncHook<M> + Drop>(
+    slot: &mut Slot<M::Type>,
+    preparing: Preparing<M::Recycling, A::State>,
     timeout: Option<Duration>,
     environment: &Environment<M, F, A>,
     now: Moment,
     cx: &mut Context<'_>,
-) -> Prepared<M::Type, M::Recycling, A::State>
-    requires { IsReadyPreparation M.is_ready preparation }
-    ensures gives { Gives (may M.Manager F.SyncHook A.AsyncHook environment.now.manager) (prepare now environment.now.runtime timeout environment.now.hooks preparation) result }
-    ensures ready { IsReadyPrepared M.is_ready result }
+) -> Outcome<M::Recycling, A::State>
+    requires { IsReadyPreparation M.is_ready (preparation_of slot.old preparing) }
+    ensures gives { Gives (may M.Manager F.SyncHook A.AsyncHook environment.now.manager) (prepare now environment.now.runtime timeout environment.now.hooks (preparation_of slot.old preparing)) (prepared_of slot.new result) }
+    ensures ready { IsReadyPrepared M.is_ready (prepared_of slot.new result) }
     ensures kept { Keeps cx.old cx.new }
 {
-    match preparation {
-        Preparation::PreRecycle(slot, position) => {
-            review(slot, position, timeout, environment, now, cx)
-        }
-        Preparation::Recycle(slot, recycling, deadline) => {
+    match preparing {
+        Preparing::PreRecycle(position) => review(slot, position, timeout, environment, now, cx),
+        Preparing::Recycle(recycling, deadline) => {
             poll_recycling(slot, recycling, deadline, environment, now, cx)
         }
-        Preparation::PostRecycle(slot, position) => approve(slot, position, environment, now, cx),
+        Preparing::PostRecycle(position) => approve(slot, position, environment, now, cx),
     }
 }
 
 // The hooks before the recycling see the object, from the position on.
 fn review<M: Manager + Drop, F: SyncHook<M> + Drop, A: AsyncHook<M> + Drop>(
-    mut slot: Slot<M::Type>,
+    slot: &mut Slot<M::Type>,
     position: Position<A::State>,
     timeout: Option<Duration>,
     environment: &Environment<M, F, A>,
     now: Moment,
     cx: &mut Context<'_>,
-) -> Prepared<M::Type, M::Recycling, A::State>
-    ensures gives { Gives (may M.Manager F.SyncHook A.AsyncHook environment.now.manager) (prepare now environment.now.runtime timeout environment.now.hooks (PreRecycle slot position)) result }
-    ensures ready { IsReadyPrepared M.is_ready result }
+) -> Outcome<M::Recycling, A::State>
+    ensures gives { Gives (may M.Manager F.SyncHook A.AsyncHook environment.now.manager) (prepare now environment.now.runtime timeout environment.now.hooks (PreRecycle slot.old position)) (prepared_of slot.new result) }
+    ensures ready { IsReadyPrepared M.is_ready (prepared_of slot.new result) }
     ensures kept { Keeps cx.old cx.new }
 {
     let hooks = environment.hooks.pre_recycle();
     match pass(hooks, position, &mut slot.value, &slot.metrics, cx) {
         Verdict::Accepted => begin_recycling(slot, timeout, environment, now, cx),
-        Verdict::Refused(_) => Prepared::GivenUp(slot),
-        Verdict::Pending(position) => Prepared::Pending(Preparation::PreRecycle(slot, position)),
+        Verdict::Refused(_) => Outcome::GivenUp,
+        Verdict::Pending(position) => Outcome::Pending(Preparing::PreRecycle(position)),
     }
 }
 
-impl<T, R: Drop, S: Drop> Preparation<T, R, S> {
-    /// The object, with its preparation given up.
-    pub(crate) fn into_slot(self) -> Slot<T>
-        ensures { result ≡ object_of self }
-    {
-        match self {
-            Preparation::PreRecycle(slot, _) => slot,
-            Preparation::Recycle(slot, _, _) => slot,
-            Preparation::PostRecycle(slot, _) => slot,
-        }
+// The object in its place is prepared further.
+pub(crate) fn prepare_in<M: Manager + Drop, F: SyncHook<M> + Drop, A: AsyncHook<M> + Drop>(
+    place: &mut Option<Slot<M::Type>>,
+    preparing: Preparing<M::Recycling, A::State>,
+    timeout: Option<Duration>,
+    environment: &Environment<M, F, A>,
+    now: Moment,
+    cx: &mut Context<'_>,
+) -> Outcome<M::Recycling, A::State>
+    requires { IsPlaced {C = M.Creating} M.is_ready (Phase.Recycling preparing) place.old }
+    ensures gives { PreparesIn (may M.Manager F.SyncHook A.AsyncHook environment.now.manager) now environment.now.runtime timeout environment.now.hooks preparing place.old result place.new }
+    ensures ready { IsReadyIn M.is_ready result place.new }
+    ensures kept { Keeps cx.old cx.new }
+{
+    match place {
+        Some(slot) => prepare(slot, preparing, timeout, environment, now, cx),
+        None => Outcome::GivenUp,
+    }
+}
+
+// The hooks see the new object in its place, from the position on.
+pub(crate) fn check_in<M: Manager + Drop, F: SyncHook<M> + Drop, A: AsyncHook<M> + Drop>(
+    place: &mut Option<Slot<M::Type>>,
+    position: Position<A::State>,
+    environment: &Environment<M, F, A>,
+    cx: &mut Context<'_>,
+) -> Verdict<A::State, M::Error>
+    requires { IsPlaced {C = M.Creating} {R = M.Recycling} M.is_ready (Phase.Checking position) place.old }
+    ensures gives { ChecksIn (may M.Manager F.SyncHook A.AsyncHook environment.now.manager) environment.now.hooks position place.old result place.new }
+    ensures ready { IsReadyHeld M.is_ready place.new }
+    ensures kept { Keeps cx.old cx.new }
+{
+    match place {
+        Some(slot) => check(slot, position, environment, cx),
+        None => Verdict::Accepted,
+    }
+}
+
+// An object that was served now is prepared in its place.
+pub(crate) fn review_in<M: Manager + Drop, F: SyncHook<M> + Drop, A: AsyncHook<M> + Drop>(
+    place: &mut Option<Slot<M::Type>>,
+    timeout: Option<Duration>,
+    environment: &Environment<M, F, A>,
+    now: Moment,
+    cx: &mut Context<'_>,
+) -> Outcome<M::Recycling, A::State>
+    requires { IsPlaced {C = M.Creating} {R = M.Recycling} {S = A.State} M.is_ready (Phase.Served 0) place.old }
+    ensures gives { PreparesIn (may M.Manager F.SyncHook A.AsyncHook environment.now.manager) now environment.now.runtime timeout environment.now.hooks (Preparing.PreRecycle start) place.old result place.new }
+    ensures ready { IsReadyIn M.is_ready result place.new }
+    ensures kept { Keeps cx.old cx.new }
+{
+    match place {
+        Some(slot) => review(slot, Position::start(), timeout, environment, now, cx),
+        None => Outcome::GivenUp,
     }
 }

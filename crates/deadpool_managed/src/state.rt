@@ -145,8 +145,10 @@ impl<T: Drop> PoolState<T> {
         ensures desk { self.new.desk ≡ settled self.old.desk }
         ensures untold { self.new.untold ≡ self.old.untold }
     {
-        let room = self.room();
-        self.gate.settle(room);
+        if self.gate.waiting() > 0 {
+            let room = self.room();
+            self.gate.settle(room);
+        }
     }
 
     // The next idle object leaves the ring.
@@ -192,6 +194,9 @@ impl<T: Drop> PoolState<T> {
         ensures { Enters self.old wait result self.new }
     {
         let room = self.room();
+        if room > 0 && !self.gate.is_closed() {
+            return EnterReply::Served(self.serve(None));
+        }
         match self.gate.enter(room, wait) {
             Entry::Granted => EnterReply::Served(self.serve(None)),
             Entry::Closed => EnterReply::Closed,

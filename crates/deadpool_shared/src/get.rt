@@ -1,24 +1,28 @@
 //! A get, as a future.
-ghost use Rattle.std.specs.Prelude.{◌≡◌, ◌||◌, true, is_some, IfOk, IfErr, IsSomeAnd};
-ghost use Rattle.futures.specs.Task.{Hears, IsArmed, Keeps};
+ghost use Rattle.std.specs.Prelude.{◌≡◌, ◌||◌, true, is_some, IfOk, IsSomeAnd};
+ghost use Rattle.std.specs.Option.{ForSome};
+ghost use Rattle.futures.specs.Poll.{IfReady};
+ghost use Rattle.futures.specs.Task.{Keeps};
 ghost use Rattle.deadpool_managed.specs.Held.{held_at};
 ghost use Rattle.deadpool_managed.specs.declared.desk.Holding.{Holding};
 ghost use Rattle.deadpool_shared.specs.Counts.{counts, counts_of};
 
-use crate::object::{Object, OutSeat};
-use crate::seat::Seat;
+use crate::object::{Object, OutStake};
+use crate::seat::{Seat, Stake};
 use crate::shared::Shared;
 use deadpool_lock::{Handle, Listener, wake_at};
 use deadpool_managed::{
-    AsyncHook, Clock, GetState, Manager, PoolError, Slot, SyncHook, Timeouts, Turn,
+    AsyncHook, Clock, Manager, PoolError, Progress, Slot, SyncHook, Timeouts, Turn,
 };
 use futures::Future;
 use futures::task::{Context, Poll};
 use std::marker::PhantomData;
+use std::mem;
 use std::sync::Wait;
 use std::sync::ledger::Ledger;
 
-// A get that has not ended. Its seat has what its stage holds.
+// A get that has not ended. Its stake has what its stage holds; a poll takes the stake, and puts it back if the get is
+// pending.
 #[derive(Drop)]
 struct Party<
     M: Manager + Drop,
@@ -30,9 +34,9 @@ struct Party<
     N: Ledger,
     O: Ledger,
 > {
-    seat: Seat<M, F, A, C, R, G, N, O>,
-    state: GetState<M, A>,
-    ghost backed: { seat ≡ counts_of (held_at state.stage) },
+    stake: Option<Stake<M, F, A, C, R, G, N, O>>,
+    progress: Progress<M, A>,
+    ghost backed: { ForSome stake (λ s. s.shares ≡ counts_of (held_at progress)) },
 }
 
 /// A get, as a future for one object. It counts as a handle of its pool. When it is dropped it gives back what it holds,
@@ -56,9 +60,10 @@ pub struct Get<
     handle: Option<Handle<Shared<M, F, A, C, R, G, N, O>>>,
     // None once the get has ended.
     party: Option<Party<M, F, A, C, R, G, N, O>>,
+    // Those of its own, if it has any.
+    timeouts: Option<Timeouts>,
     // Why it could not begin, until its first poll.
     refusal: Option<PoolError<M::Error>>,
-    // Of a get that has ended.
     listener: Listener,
     of: PhantomData<W>,
 }
@@ -74,8 +79,12 @@ impl<
     O: Ledger,
     W,
 > Get<M, F, A, C, R, G, N, O, W> {
-    // A get that counts as a handle from now on, if memory and a part of each ledger are left.
-    pub(crate) fn new(pool: &Handle<Shared<M, F, A, C, R, G, N, O>>, timeouts: Timeouts) -> Self {
+    // A get that counts as a handle from now on, if memory and a part of each ledger are left. Without timeouts it has the
+    // pool's.
+    pub(crate) fn new(
+        pool: &Handle<Shared<M, F, A, C, R, G, N, O>>,
+        timeouts: Option<Timeouts>,
+    ) -> Self {
         let (Ok(handle), Ok(home)) = (pool.uncounted(), pool.uncounted()) else {
             return Get::refused(PoolError::OutOfMemory);
         };
@@ -83,12 +92,13 @@ impl<
             return Get::refused(PoolError::NumbersExhausted);
         };
         let party = Party {
-            seat: Seat::new(home, shares),
-            state: GetState::new(timeouts),
+            stake: Some(Stake { home, shares }),
+            progress: Progress::new(),
         };
         Get {
             handle: Some(Handle::counted(handle)),
             party: Some(party),
+            timeouts,
             refusal: None,
             listener: Listener::new(),
             of: PhantomData,
@@ -100,6 +110,7 @@ impl<
         Get {
             handle: None,
             party: None,
+            timeouts: None,
             refusal: Some(cause),
             listener: Listener::new(),
             of: PhantomData,
@@ -129,33 +140,56 @@ where
     ghost gives = { λ get r. ((is_some get.party || is_some get.refusal) ≡ true) × IfOk r (λ w. (o : _) × (M.is_ready o.slot.value × W.from_gives o w)) };
 
     fn poll(&mut self, cx: &mut Context<'_>) -> Poll<Self::Output> {
-        if let Some(cause) = self.refusal.take() {
-            return Poll::Ready(Err(cause));
-        }
         let Some(handle) = &self.handle else {
-            self.listener.listen(None, cx);
-            return Poll::Pending;
+            return match self.refusal.take() {
+                Some(cause) => Poll::Ready(Err(cause)),
+                None => {
+                    self.listener.listen(None, cx);
+                    Poll::Pending
+                }
+            };
         };
         let shared = handle.shared();
-        let Some(party) = self.party.take() else {
-            self.listener.listen(Some(shared.lock.source()), cx);
-            return Poll::Pending;
-        };
-        match poll_party(party, shared, cx) {
-            Ok(party) => {
-                self.party = Some(party);
-                Poll::Pending
-            }
-            Err((ended, listener)) => {
-                self.listener = listener;
-                Poll::Ready(ended)
-            }
+        let timeouts = self.timeouts.as_ref().unwrap_or(&shared.timeouts);
+        self.listener.listen(Some(shared.lock.source()), cx);
+        let polled = poll_place(&mut self.party, timeouts, &mut self.listener, shared, cx);
+        if polled.is_ready() {
+            self.party = None;
         }
+        polled
     }
 }
 
-// One poll of a get that has not ended. It comes back if it is pending. Otherwise there is what it gives, and what the
-// get hears by.
+// One poll, in place. One that has ended stays pending.
+fn poll_place<
+    M: Manager + Drop,
+    F: SyncHook<M> + Drop,
+    A: AsyncHook<M> + Drop,
+    C: Clock + Drop,
+    R: Wait + Drop,
+    G: Ledger,
+    N: Ledger,
+    O: Ledger,
+    W: From<Object<M, F, A, C, R, G, N, O>>,
+>(
+    place: &mut Option<Party<M, F, A, C, R, G, N, O>>,
+    timeouts: &Timeouts,
+    listener: &mut Listener,
+    shared: &Shared<M, F, A, C, R, G, N, O>,
+    cx: &mut Context<'_>,
+) -> Poll<Result<W, PoolError<M::Error>>>
+    ensures begun { IfReady result (λ _. is_some place.old ≡ true) }
+    ensures stays { is_some place.new ≡ is_some place.old }
+    ensures gives { IfReady result (λ ended. IfOk ended (λ w. (o : _) × (M.is_ready o.slot.value × W.from_gives o w))) }
+    ensures kept { Keeps cx.old cx.new }
+{
+    match place {
+        Some(party) => poll_party(party, timeouts, listener, shared, cx),
+        None => Poll::Pending,
+    }
+}
+
+// One poll of a get that has not ended. Its object takes the stake, if there is one.
 fn poll_party<
     M: Manager + Drop,
     F: SyncHook<M> + Drop,
@@ -167,33 +201,40 @@ fn poll_party<
     O: Ledger,
     W: From<Object<M, F, A, C, R, G, N, O>>,
 >(
-    party: Party<M, F, A, C, R, G, N, O>,
+    party: &mut Party<M, F, A, C, R, G, N, O>,
+    timeouts: &Timeouts,
+    listener: &mut Listener,
     shared: &Shared<M, F, A, C, R, G, N, O>,
     cx: &mut Context<'_>,
-) -> Result<Party<M, F, A, C, R, G, N, O>, (Result<W, PoolError<M::Error>>, Listener)>
-    ensures heard { IfOk result (λ _. IsArmed cx.new × Hears cx.new shared.now.lock.source.id) }
-    ensures gives { IfErr result (λ ended. IfOk ended.0 (λ w. (o : _) × (M.is_ready o.slot.value × W.from_gives o w))) }
+) -> Poll<Result<W, PoolError<M::Error>>>
+    ensures gives { IfReady result (λ ended. IfOk ended (λ w. (o : _) × (M.is_ready o.slot.value × W.from_gives o w))) }
     ensures kept { Keeps cx.old cx.new }
 {
     let Party {
-        mut seat,
-        mut state,
+        stake,
+        progress,
+        ..
     } = party;
-    seat.listen(shared.lock.source(), cx);
+    let Some(Stake { home, shares }) = stake.take() else {
+        return Poll::Pending;
+    };
+    let mut seat = Seat::new(shared, shares, mem::replace(listener, Listener::new()));
     let now = shared.clock.now();
-    match state.poll_over(&mut seat, &shared.environment, now, cx) {
-        Turn::Done(ended) => {
-            let listener = seat.take_listener();
-            Err((give(seat, ended), listener))
-        }
+    let turn = progress.poll_over(timeouts, &mut seat, &shared.environment, now, cx);
+    let (shares, heard) = seat.into_parts();
+    *listener = heard;
+    let left = Stake { home, shares };
+    match turn {
+        Turn::Done(ended) => Poll::Ready(give(left, ended)),
         Turn::More | Turn::Pending => {
-            see_to_waking(&shared.clock, &state, cx);
-            Ok(Party { seat, state })
+            *stake = Some(left);
+            see_to_waking(&shared.clock, progress, cx);
+            Poll::Pending
         }
     }
 }
 
-// What a get that has ended gives. Its seat goes with the object, if there is one.
+// What a get that has ended gives. Its stake goes with the object, if there is one.
 fn give<
     M: Manager + Drop,
     F: SyncHook<M> + Drop,
@@ -205,16 +246,16 @@ fn give<
     O: Ledger,
     W: From<Object<M, F, A, C, R, G, N, O>>,
 >(
-    seat: Seat<M, F, A, C, R, G, N, O>,
+    stake: Stake<M, F, A, C, R, G, N, O>,
     ended: Result<Slot<M::Type>, PoolError<M::Error>>,
 ) -> Result<W, PoolError<M::Error>>
-    requires held { IfOk ended (λ _. seat ≡ counts_of Holding.Object) }
+    requires held { IfOk ended (λ _. stake.shares ≡ counts_of Holding.Object) }
     requires ready { IfOk ended (λ slot. M.is_ready slot.value) }
     ensures { IfOk result (λ w. (o : _) × (M.is_ready o.slot.value × W.from_gives o w)) }
 {
     match ended {
         Ok(slot) => {
-            let out = OutSeat::new(seat);
+            let out = OutStake::new(stake);
             Ok(W::from(Object { out, slot }))
         }
         Err(cause) => Err(cause),
@@ -224,13 +265,13 @@ fn give<
 // Has a get that is pending woken at its deadline, and at once if it waits for nothing.
 fn see_to_waking<M: Manager + Drop, A: AsyncHook<M> + Drop, C: Clock>(
     clock: &C,
-    state: &GetState<M, A>,
+    progress: &Progress<M, A>,
     cx: &mut Context<'_>,
 )
     ensures { Keeps cx.old cx.new }
 {
-    wake_at(clock, state.deadline(), cx);
-    if state.is_going() {
+    wake_at(clock, progress.deadline(), cx);
+    if progress.is_going() {
         let _pending: Poll<()> = cx.yield_now();
     }
 }
@@ -250,6 +291,7 @@ impl<
         let Self {
             handle,
             party,
+            timeouts: _,
             refusal: _,
             listener: _,
             of: _,
@@ -258,9 +300,32 @@ impl<
             return;
         };
         if let Some(party) = party {
-            let Party { mut seat, state } = party;
-            state.cancel(&mut seat, &handle.shared().environment);
+            leave(party, handle.shared());
         }
         drop(handle);
     }
+}
+
+// A get that has not ended gives back what it holds.
+fn leave<
+    M: Manager + Drop,
+    F: SyncHook<M> + Drop,
+    A: AsyncHook<M> + Drop,
+    C: Clock + Drop,
+    R: Wait + Drop,
+    G: Ledger,
+    N: Ledger,
+    O: Ledger,
+>(party: Party<M, F, A, C, R, G, N, O>, shared: &Shared<M, F, A, C, R, G, N, O>) {
+    let Party {
+        stake,
+        mut progress,
+        ..
+    } = party;
+    let Some(Stake { home, shares }) = stake else {
+        return;
+    };
+    let mut seat = Seat::new(shared, shares, Listener::new());
+    progress.cancel(&mut seat, &shared.environment);
+    drop(home);
 }

@@ -4,7 +4,8 @@ ghost use Rattle.deadpool_managed.specs.declared.desk.Holding.{Holding};
 ghost use Rattle.deadpool_shared.specs.Counts.{counts, counts_of};
 
 use crate::pool::Pool;
-use crate::seat::Seat;
+use crate::seat::{Seat, Stake};
+use deadpool_lock::Listener;
 use deadpool_managed::{
     AsyncHook, BackReply, Clock, Manager, Metrics, ObjectId, Slot, SyncHook, TakeReply,
 };
@@ -13,9 +14,9 @@ use std::ops::{Deref, DerefMut};
 use std::sync::Wait;
 use std::sync::ledger::Ledger;
 
-// The seat of an object that has not gone back.
+// What an object has that has not gone back.
 #[derive(Drop)]
-pub(crate) struct OutSeat<
+pub(crate) struct OutStake<
     M: Manager + Drop,
     F: SyncHook<M> + Drop,
     A: AsyncHook<M> + Drop,
@@ -25,8 +26,8 @@ pub(crate) struct OutSeat<
     N: Ledger,
     O: Ledger,
 > {
-    pub(crate) seat: Seat<M, F, A, C, R, G, N, O>,
-    ghost is_out: { seat ≡ counts_of Holding.Object },
+    pub(crate) stake: Stake<M, F, A, C, R, G, N, O>,
+    ghost is_out: { stake.shares ≡ counts_of Holding.Object },
 }
 
 impl<
@@ -38,11 +39,11 @@ impl<
     G: Ledger,
     N: Ledger,
     O: Ledger,
-> OutSeat<M, F, A, C, R, G, N, O> {
-    pub(crate) fn new(seat: Seat<M, F, A, C, R, G, N, O>) -> Self
-        requires { seat ≡ counts_of Holding.Object }
+> OutStake<M, F, A, C, R, G, N, O> {
+    pub(crate) fn new(stake: Stake<M, F, A, C, R, G, N, O>) -> Self
+        requires { stake.shares ≡ counts_of Holding.Object }
     {
-        OutSeat { seat }
+        OutStake { stake }
     }
 }
 
@@ -58,7 +59,7 @@ pub struct Object<
     N: Ledger,
     O: Ledger,
 > {
-    pub(crate) out: OutSeat<M, F, A, C, R, G, N, O>,
+    pub(crate) out: OutStake<M, F, A, C, R, G, N, O>,
     pub(crate) slot: Slot<M::Type>,
 }
 
@@ -76,14 +77,16 @@ impl<
     /// pool has a handle left.
     pub fn take(this: Self) -> M::Type {
         let Self { out, slot } = this;
-        let OutSeat { mut seat } = out;
+        let OutStake { stake } = out;
+        let Stake { home, shares } = stake;
+        let mut seat = Seat::new(&home, shares, Listener::new());
         let Slot {
             number: _,
             mut value,
             metrics: _,
         } = slot;
         if let TakeReply::Taken { detach: true } = seat.leave() {
-            seat.shared().environment.manager.detach(&mut value);
+            home.environment.manager.detach(&mut value);
         }
         value
     }
@@ -105,7 +108,7 @@ impl<
     /// One more handle of its pool, if the pool has a handle left. `AllocError` says that there was no memory for it, and
     /// none is counted then.
     pub fn pool(this: &Self) -> Result<Option<Pool<M, F, A, C, R, G, N, O>>, AllocError> {
-        Pool::upgrade(this.out.seat.shared())
+        Pool::upgrade(&this.out.stake.home)
     }
 }
 
@@ -121,9 +124,11 @@ impl<
 > Drop for Object<M, F, A, C, R, G, N, O> {
     fn drop(self) {
         let Self { out, slot } = self;
-        let OutSeat { mut seat } = out;
+        let OutStake { stake } = out;
+        let Stake { home, shares } = stake;
+        let mut seat = Seat::new(&home, shares, Listener::new());
         if let BackReply::Detach(mut slot) = seat.return_slot(slot) {
-            seat.shared().environment.manager.detach(&mut slot.value);
+            home.environment.manager.detach(&mut slot.value);
         }
     }
 }

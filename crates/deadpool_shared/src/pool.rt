@@ -118,12 +118,12 @@ impl<
 
     /// A get with the timeouts of the pool. It is a handle of the pool from now on.
     pub fn get(&self) -> Get<M, F, A, C, R, G, N, O, W> {
-        Get::new(&self.handle, self.timeouts())
+        Get::new(&self.handle, None)
     }
 
     /// A get with timeouts of its own. It is a handle of the pool from now on.
     pub fn timeout_get(&self, timeouts: &Timeouts) -> Get<M, F, A, C, R, G, N, O, W> {
-        Get::new(&self.handle, *timeouts)
+        Get::new(&self.handle, Some(*timeouts))
     }
 
     /// Sets the greatest number of objects. While there are more, idle ones are dropped, the front one first, without a

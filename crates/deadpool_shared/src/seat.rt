@@ -1,6 +1,5 @@
 //! The lock of a pool, with what one holder has.
 ghost use Rattle.std.specs.Prelude.{◌≡◌, ◌≢◌, ⊤};
-ghost use Rattle.futures.specs.Task.{Hears, IsArmed, Keeps};
 ghost use Rattle.deadpool_managed.specs.Allowance.{IsWithinAllowance};
 ghost use Rattle.deadpool_managed.specs.Held.{held_if_entered, held_if_asked, held_if_asked_again, held_if_created, held_if_discarded, held_as};
 ghost use Rattle.deadpool_managed.specs.declared.desk.Holding.{Holding};
@@ -17,20 +16,14 @@ use deadpool_managed::{
     AgainReply, AskReply, AsyncHook, BackReply, Clock, CreatedReply, Desk, EnterReply, HandleReply,
     Held, Manager, RetainResult, Retainer, Slot, Status, StepReply, SyncHook, TakeReply,
 };
-use futures::task::{Context, Source};
 use std::alloc::{AllocError, Global};
 use std::marker::Model;
-use std::mem;
 use std::sync::ledger::Ledger;
 use std::sync::{Arc, Wait};
 
-/// The lock of a pool, with the shares of one get or object, and what the get hears by. Each step is one section of the lock. After it,
-/// with the lock given back, the wakers are called of the gets that it made due.
-///
-/// Contracts see it as its shares. A step that lowers a count asks that the shares have what it lowers, and is then never
-/// answered `Unknown`.
+/// What one get or object has of a pool: the pool, and its shares.
 #[derive(Drop)]
-pub struct Seat<
+pub(crate) struct Stake<
     M: Manager + Drop,
     F: SyncHook<M> + Drop,
     A: AsyncHook<M> + Drop,
@@ -40,12 +33,18 @@ pub struct Seat<
     N: Ledger,
     O: Ledger,
 > {
-    shared: Arc<Shared<M, F, A, C, R, G, N, O>, Global>,
-    shares: Shares<G, N, O>,
-    listener: Listener,
+    pub(crate) home: Arc<Shared<M, F, A, C, R, G, N, O>, Global>,
+    pub(crate) shares: Shares<G, N, O>,
 }
 
-impl<
+/// The lock of a pool, which is lent it, with the shares of one get or object, and what the get hears by. Each step is one
+/// section of the lock. After it, with the lock given back, the wakers are called of the gets that it made due.
+///
+/// Contracts see it as its shares. A step that lowers a count asks that the shares have what it lowers, and is then never
+/// answered `Unknown`.
+#[derive(Drop)]
+pub struct Seat<
+    'a,
     M: Manager + Drop,
     F: SyncHook<M> + Drop,
     A: AsyncHook<M> + Drop,
@@ -54,7 +53,23 @@ impl<
     G: Ledger,
     N: Ledger,
     O: Ledger,
-> Model for Seat<M, F, A, C, R, G, N, O> {
+> {
+    shared: &'a Shared<M, F, A, C, R, G, N, O>,
+    shares: Shares<G, N, O>,
+    listener: Listener,
+}
+
+impl<
+    'a,
+    M: Manager + Drop,
+    F: SyncHook<M> + Drop,
+    A: AsyncHook<M> + Drop,
+    C: Clock + Drop,
+    R: Wait + Drop,
+    G: Ledger,
+    N: Ledger,
+    O: Ledger,
+> Model for Seat<'a, M, F, A, C, R, G, N, O> {
     ghost use Rattle.deadpool_shared.specs.Counts.{Counts};
 
     ghost Value = { Counts };
@@ -63,6 +78,7 @@ impl<
 }
 
 impl<
+    'a,
     M: Manager + Drop,
     F: SyncHook<M> + Drop,
     A: AsyncHook<M> + Drop,
@@ -71,7 +87,7 @@ impl<
     G: Ledger,
     N: Ledger,
     O: Ledger,
-> Desk<M::Type> for Seat<M, F, A, C, R, G, N, O> {
+> Desk<M::Type> for Seat<'a, M, F, A, C, R, G, N, O> {
     ghost holds = { λ seat holding. seat ≡ counts_of holding };
 
     ghost enters = { λ _ _ _ _. ⊤ };
@@ -225,6 +241,7 @@ impl<
 }
 
 impl<
+    'a,
     M: Manager + Drop,
     F: SyncHook<M> + Drop,
     A: AsyncHook<M> + Drop,
@@ -233,40 +250,32 @@ impl<
     G: Ledger,
     N: Ledger,
     O: Ledger,
-> Seat<M, F, A, C, R, G, N, O> {
-    // A seat for a new get.
+> Seat<'a, M, F, A, C, R, G, N, O> {
+    // A seat with the shares of one get or object.
     pub(crate) fn new(
-        shared: Arc<Shared<M, F, A, C, R, G, N, O>, Global>,
+        shared: &'a Shared<M, F, A, C, R, G, N, O>,
         shares: Shares<G, N, O>,
+        listener: Listener,
     ) -> Self
         ensures { result ≡ shares }
     {
         Seat {
             shared,
             shares,
-            listener: Listener::new(),
+            listener,
         }
     }
 
-    // Has the task of this poll woken by the source, or by the steps of others once the get is queued.
-    pub(crate) fn listen(&mut self, source: &Source, cx: &mut Context<'_>)
-        ensures same { self.new ≡ self.old }
-        ensures armed { IsArmed cx.new }
-        ensures heard { Hears cx.new source.now.id }
-        ensures kept { Keeps cx.old cx.new }
+    // What is left with the seat's holder.
+    pub(crate) fn into_parts(self) -> (Shares<G, N, O>, Listener)
+        ensures { result.0 ≡ self.entry }
     {
-        self.listener.listen(Some(source), cx);
-    }
-
-    // What is left for the get when it has ended.
-    pub(crate) fn take_listener(&mut self) -> Listener
-        ensures { self.new ≡ self.old }
-    {
-        mem::replace(&mut self.listener, Listener::new())
-    }
-
-    pub(crate) fn shared(&self) -> &Arc<Shared<M, F, A, C, R, G, N, O>, Global> {
-        &self.shared
+        let Seat {
+            shared: _,
+            shares,
+            listener,
+        } = self;
+        (shares, listener)
     }
 
     /// Gives an object back. The pool knows it, and the seat has nothing afterwards.

@@ -1,9 +1,15 @@
+use Rattle.deadpool.proofs.Basics.{refl}
 use Rattle.deadpool.proofs.Words.{may}
 use Rattle.deadpool.specs.declared.replay.moves.Move.TheVariants as move
-use Rattle.deadpool.proofs.TrialSteps.{leads_to_well, some_handle}
+use Rattle.deadpool.proofs.TrialSteps.{leads_to_well, no_handle, some_handle}
 use Rattle.deadpool.proofs.OwnerSteps.{closed_all}
 use Rattle.deadpool.proofs.Fixed.{fixed_as}
 use Rattle.deadpool.proofs.replay.trial.Trial.close.Goals as goal
+
+pub returns-then-not-has_handle-clause-made : goal.returns-then-not-has_handle-clause-made
+returns-then-not-has_handle-clause-made g c =
+    let none = no_handle c.has_handle.result c.self.inside.core.desk.handles c.has_handle.ensures c.if-not-has_handle.true in
+    rw (← c.self.view_is) (rw none refl)
 
 pub invariant_of-self : goal.invariant_of-self
 invariant_of-self g c =

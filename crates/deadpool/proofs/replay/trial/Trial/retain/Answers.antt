@@ -1,7 +1,7 @@
 use Rattle.deadpool.proofs.Basics.{◌≡◌, ◌∙◌, refl, ⊤, has_number}
 use Rattle.deadpool.proofs.Words.{ManagerOf, LeavesOrKeeps, may, RetainerOf, Keeping}
 use Rattle.deadpool.specs.declared.replay.moves.Move.TheVariants as move
-use Rattle.deadpool.proofs.TrialSteps.{leads_to_well, some_handle}
+use Rattle.deadpool.proofs.TrialSteps.{leads_to_well, no_handle, some_handle}
 use Rattle.deadpool.proofs.TrialRetains.{retained_ok, retained_err}
 use Rattle.deadpool.proofs.Fixed.{fixed_as}
 use Rattle.deadpool.proofs.replay.trial.Trial.retain.Goals.{in-Ok, in-Err}
@@ -14,6 +14,11 @@ keeps_as m = record {
   may_keep = λ q number value metrics answer left. (answer ≡ has_number number q.kept.now) × (left ≡ q);
   may_detach = λ q value left after. LeavesOrKeeps (m.may_detach q.manager.now) value left × (after ≡ q);
 }
+
+pub returns-then-not-has_handle-clause-made : goal.returns-then-not-has_handle-clause-made
+returns-then-not-has_handle-clause-made g c =
+    let none = no_handle c.has_handle.result c.self.inside.core.desk.handles c.has_handle.ensures c.if-not-has_handle.true in
+    rw (← c.self.view_is) (rw none refl)
 
 pub invariant_of-self : goal.invariant_of-self
 invariant_of-self g c =

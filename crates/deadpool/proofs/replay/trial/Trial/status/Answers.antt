@@ -1,8 +1,13 @@
 use Rattle.deadpool.proofs.Basics.{refl}
 use Rattle.deadpool.proofs.DeskImage.{pool_status}
-use Rattle.deadpool.proofs.TrialSteps.{some_handle}
+use Rattle.deadpool.proofs.TrialSteps.{no_handle, some_handle}
 use Rattle.deadpool.proofs.Fixed.{fixed_as}
 use Rattle.deadpool.proofs.replay.trial.Trial.status.Goals as goal
+
+pub returns-then-not-has_handle-clause-made : goal.returns-then-not-has_handle-clause-made
+returns-then-not-has_handle-clause-made g c =
+    let none = no_handle c.has_handle.result c.self.inside.core.desk.handles c.has_handle.ensures c.if-not-has_handle.true in
+    rw (← c.self.view_is) (rw none refl)
 
 pub returns-clause-made : goal.returns-clause-made
 returns-clause-made g c =

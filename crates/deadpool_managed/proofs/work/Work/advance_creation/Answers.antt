@@ -1,5 +1,5 @@
 use Rattle.std.proofs.Common.{refl}
-use Rattle.deadpool_managed.proofs.get.GetState.advance_creation.Goals as goal
+use Rattle.deadpool_managed.proofs.work.Work.advance_creation.Goals as goal
 
 pub returns-clause-advanced : goal.returns-clause-advanced
 returns-clause-advanced g c =

@@ -2,7 +2,8 @@ use Rattle.std.proofs.Common.{◌≡◌, Ok, Err, true, false, refl}
 use Rattle.futures.specs.declared.task.Poll.TheVariants.{Ready, Pending}
 use Rattle.deadpool_parts.specs.Moments.{is_reached}
 use Rattle.deadpool_managed.specs.Get.{no_step, creating, failing}
-use Rattle.deadpool_managed.proofs.get.GetState.after_creation.Goals as goal
+use Rattle.deadpool_managed.proofs.Phases.{finished, ended_is}
+use Rattle.deadpool_managed.proofs.work.Work.after_creation.Goals as goal
 
 pub returns-in-Ok-clause-advanced : goal.returns-in-Ok-clause-advanced
 returns-in-Ok-clause-advanced g c =
@@ -12,13 +13,13 @@ returns-in-Ok-clause-advanced g c =
 pub returns-in-Ready-clause-advanced : goal.returns-in-Ready-clause-advanced
 returns-in-Ready-clause-advanced g c =
     let is : c.args.answer ≡ Ready (Err c.in-Err.cause) = cc in
-    rw is (failing c.failed-reply.result, (c.failed-reply.ensures.failed, (c.requires.finished, c.ended.ensures)))
+    rw is (failing c.failed-reply.result, (c.failed-reply.ensures.failed, (finished c.args.self.now.phase c.args.self.now.slot c.requires.finished, ended_is _ _ _ c.args.self.now.slot c.ended.ensures)))
 
 pub returns-then-is_reached-clause-advanced : goal.returns-then-is_reached-clause-advanced
 returns-then-is_reached-clause-advanced g c =
     let is : c.args.answer ≡ Pending = cc in
     let late : is_reached c.args.deadline c.args.now ≡ true = cc in
-    rw is (failing c.failed-reply-then-is_reached.result, (c.failed-reply-then-is_reached.ensures.failed, (late, c.requires.finished, c.ended-then-is_reached.ensures)))
+    rw is (failing c.failed-reply-then-is_reached.result, (c.failed-reply-then-is_reached.ensures.failed, (late, finished c.args.self.now.phase c.args.self.now.slot c.requires.finished, ended_is _ _ _ c.args.self.now.slot c.ended-then-is_reached.ensures)))
 
 pub returns-clause-advanced : goal.returns-clause-advanced
 returns-clause-advanced g c =

@@ -1,0 +1,21 @@
+use Rattle.std.proofs.Common.{◌≡◌, refl}
+use Rattle.deadpool_managed.specs.Get.{no_step, asking, asking_again}
+use Rattle.deadpool_managed.specs.declared.work.Phase.TheVariants.{Queued, Going, Finished}
+use Rattle.deadpool_managed.proofs.Phases.{finished}
+use Rattle.deadpool_managed.proofs.work.Work.step_rarely.Goals as goal
+
+pub returns-in-Queued-clause-advanced : goal.returns-in-Queued-clause-advanced
+returns-in-Queued-clause-advanced g c =
+    let at : c.args.self.now.phase ≡ Queued c.in-Queued.ticket c.in-Queued.deadline = cc in
+    rw at (asking c.in-Queued.ticket c.is_reached.result c.ask-reply.result, (c.ask-reply.ensures.asked, (refl, c.is_reached.ensures, c.after_asked.ensures.after)))
+
+pub returns-in-Going-clause-advanced : goal.returns-in-Going-clause-advanced
+returns-in-Going-clause-advanced g c =
+    let at : c.args.self.now.phase ≡ Going c.in-Going.allowance = cc in
+    rw at (asking_again c.in-Going.allowance c.again-reply.result, (c.again-reply.ensures.served, (refl, c.after_asked_again.ensures.after)))
+
+pub returns-in-Finished-clause-advanced : goal.returns-in-Finished-clause-advanced
+returns-in-Finished-clause-advanced g c =
+    let at : c.args.self.now.phase ≡ Finished = cc in
+    let ended : c.replace.new.dest ≡ Finished = cc in
+    rw at (no_step, (refl, (finished c.replace.new.dest c.args.self.now.slot ended, refl)))

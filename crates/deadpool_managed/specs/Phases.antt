@@ -1,0 +1,127 @@
+-- How far a get is, with its object beside it: the stage that both are.
+use Rattle.std.specs.Prelude.{◌≡◌, ℕ, ⊤, Option, Some, None, Ok, Err}
+use Rattle.std.specs.declared.time.Duration.{Duration}
+use Rattle.deadpool_parts.specs.Program.{Gives}
+use Rattle.deadpool_parts.specs.declared.moment.Moment.{Moment}
+use Rattle.deadpool_parts.specs.declared.moment.Runtime.{Runtime}
+use Rattle.deadpool_managed.specs.HookLists.{HookLists}
+use Rattle.deadpool_managed.specs.Outside.{May}
+use Rattle.deadpool_managed.specs.Calls.{start}
+use Rattle.deadpool_managed.specs.Prepare.{prepare, check, with_value, IsReadyPreparation, IsReadyPrepared}
+use Rattle.deadpool_parts.specs.declared.errors.PoolError.{PoolError}
+use Rattle.deadpool_parts.specs.declared.errors.PoolError.TheVariants.{Closed, PostCreateHook}
+use Rattle.deadpool_parts.specs.declared.errors.HookError.{HookError}
+use Rattle.deadpool_managed.specs.Get.{AfterDiscard, GivesUp, ended_by}
+use Rattle.deadpool_managed.specs.declared.prepare.Position.{Position}
+use Rattle.deadpool_managed.specs.declared.prepare.Verdict.{Verdict}
+use Rattle.deadpool_parts.specs.declared.replies.StepReply.{StepReply}
+use Rattle.deadpool_parts.specs.declared.replies.StepReply.TheVariants as step
+use Rattle.deadpool_managed.specs.declared.slot.Slot.{Slot}
+use Rattle.deadpool_managed.specs.declared.prepare.Preparation.{Preparation}
+use Rattle.deadpool_managed.specs.declared.prepare.Preparation.TheVariants.{PreRecycle, Recycle, PostRecycle}
+use Rattle.deadpool_managed.specs.declared.prepare.Prepared.{Prepared}
+use Rattle.deadpool_managed.specs.declared.prepare.Prepared.TheVariants.{Accepted, GivenUp, Pending}
+use Rattle.deadpool_managed.specs.declared.prepare.Preparing.{Preparing}
+use Rattle.deadpool_managed.specs.declared.prepare.Preparing.TheVariants as preparing
+use Rattle.deadpool_managed.specs.declared.prepare.Outcome.{Outcome}
+use Rattle.deadpool_managed.specs.declared.prepare.Outcome.TheVariants as outcome
+use Rattle.deadpool_managed.specs.declared.get.Stage.{Stage}
+use Rattle.deadpool_managed.specs.declared.get.Stage.TheVariants as stage
+use Rattle.deadpool_managed.specs.declared.work.Phase.{Phase}
+use Rattle.deadpool_managed.specs.declared.work.Phase.TheVariants as phase
+use Rattle.deadpool_managed.specs.declared.work.Came.{Came}
+use Rattle.deadpool_managed.specs.declared.work.Came.TheVariants as came
+use Rattle.deadpool_managed.specs.declared.get.Turn.{Turn}
+use Rattle.deadpool_managed.specs.declared.get.Turn.TheVariants as turn
+
+module _ {V R S : Type 0} where
+  -- the preparation of the object beside it
+  abbrev pub preparation_of : Slot V → Preparing R S → Preparation V R S
+  preparation_of slot (preparing.PreRecycle at) = PreRecycle slot at
+  preparation_of slot (preparing.Recycle r deadline) = Recycle slot r deadline
+  preparation_of slot (preparing.PostRecycle at) = PostRecycle slot at
+
+  abbrev pub prepared_of : Slot V → Outcome R S → Prepared V R S
+  prepared_of slot outcome.Accepted = Accepted slot
+  prepared_of slot outcome.GivenUp = GivenUp slot
+  prepared_of slot (outcome.Pending preparing) = Pending (preparation_of slot preparing)
+
+module _ {V C R S : Type 0} where
+  -- an idle object under preparation, in its place
+  abbrev pub recycling_at : Preparing R S → Option ℕ → Option (Slot V) → Stage V C R S
+  recycling_at preparing allowance (Some slot) = stage.Recycling (preparation_of slot preparing) allowance
+  recycling_at preparing allowance None = stage.Finished
+
+  abbrev pub stage_of : Phase C R S → Option (Slot V) → Stage V C R S
+  stage_of phase.Unpolled slot = stage.Unpolled
+  stage_of (phase.Queued ticket deadline) slot = stage.Queued ticket deadline
+  stage_of (phase.Going allowance) slot = stage.Going allowance
+  stage_of (phase.Creating begun deadline) slot = stage.Creating begun deadline
+  stage_of (phase.Served left) slot = recycling_at (preparing.PreRecycle start) (Some left) slot
+  stage_of (phase.Recycling preparing) slot = recycling_at preparing None slot
+  stage_of (phase.Checking at) (Some slot) = stage.Checking slot at
+  stage_of (phase.Checking at) None = stage.Finished
+  stage_of phase.Finished slot = stage.Finished
+
+  -- the object is there where it is prepared or checked, and ready where it has to be
+  abbrev pub IsPlaced : (V → Type 0) → Phase C R S → Option (Slot V) → Type 0
+  IsPlaced P (phase.Recycling preparing) (Some slot) = IsReadyPreparation P (preparation_of slot preparing)
+  IsPlaced P (phase.Recycling preparing) None = ⊥
+  IsPlaced P (phase.Served left) (Some slot) = ⊤
+  IsPlaced P (phase.Served left) None = ⊥
+  IsPlaced P (phase.Checking at) (Some slot) = P slot.value
+  IsPlaced P (phase.Checking at) None = ⊥
+  IsPlaced P _ _ = ⊤
+
+-- neither unpolled nor served just now
+abbrev pub IsPending : {C R S : Type 0} → Phase C R S → Type 0
+IsPending phase.Unpolled = ⊥
+IsPending (phase.Served left) = ⊥
+IsPending _ = ⊤
+
+module _ {V E : Type 0} where
+  -- what a step came to, with the object that it may give beside it
+  abbrev pub turn_of : Came E → Option (Slot V) → Turn V E
+  turn_of came.More slot = turn.More
+  turn_of came.Pending slot = turn.Pending
+  turn_of came.Given (Some slot) = turn.Done (Ok slot)
+  turn_of came.Given None = turn.Pending
+  turn_of (came.Failed cause) slot = turn.Done (Err cause)
+
+-- what a step comes to whose last reply was this
+abbrev pub came_by : {E : Type 0} → PoolError E → StepReply → Came E
+came_by cause step.Done = came.Failed cause
+came_by cause step.Unknown = came.Failed Closed
+
+module _ {V E C R S F A : Type 0} (may : May V E C R S F A) where
+  -- the object in its place is prepared further, and stays there
+  abbrev pub PreparesIn : Moment → Option Runtime → Option Duration → HookLists F A → Preparing R S → Option (Slot V) → Outcome R S → Option (Slot V) → Type 0
+  PreparesIn now runtime timeout hooks preparing (Some slot) outcome (Some left) =
+      Gives may (prepare now runtime timeout hooks (preparation_of slot preparing)) (prepared_of left outcome)
+  PreparesIn now runtime timeout hooks preparing _ outcome _ = ⊥
+
+  abbrev pub ChecksIn : HookLists F A → Position S → Option (Slot V) → Verdict S E → Option (Slot V) → Type 0
+  ChecksIn hooks at (Some slot) verdict (Some left) = Gives {A = Verdict S E × V} may (check {E = E} {C = C} {R = R} hooks slot at) (verdict, left.value) × (left ≡ with_value left.value slot)
+  ChecksIn hooks at _ verdict _ = ⊥
+
+  -- an object that was given up, if there was one
+  abbrev pub GivesUpIn : Option (Slot V) → StepReply → Type 0
+  GivesUpIn (Some slot) reply = GivesUp may slot.value reply
+  GivesUpIn None reply = ⊤
+
+  abbrev pub DiscardsIn : Option (Slot V) → Option ℕ → StepReply → Stage V C R S → Turn V E → Type 0
+  DiscardsIn (Some slot) allowance reply after came = AfterDiscard may slot.value allowance reply after came
+  DiscardsIn None allowance reply after came = ⊤
+
+  abbrev pub RefusesIn : Option (Slot V) → HookError E → StepReply → Stage V C R S → Turn V E → Type 0
+  RefusesIn (Some slot) cause reply after came = GivesUp may slot.value reply × (after ≡ stage.Finished) × (came ≡ ended_by (PostCreateHook cause) reply)
+  RefusesIn None cause reply after came = ⊤
+
+abbrev pub IsReadyHeld : {V : Type 0} → (V → Type 0) → Option (Slot V) → Type 0
+IsReadyHeld P (Some slot) = P slot.value
+IsReadyHeld P None = ⊥
+
+-- the outcome's object is in its place, and ready where it has to be
+abbrev pub IsReadyIn : {V R S : Type 0} → (V → Type 0) → Outcome R S → Option (Slot V) → Type 0
+IsReadyIn P outcome (Some slot) = IsReadyPrepared P (prepared_of slot outcome)
+IsReadyIn P outcome None = ⊥

@@ -1,0 +1,148 @@
+//! The creation of an object, as its get polls it.
+ghost use Rattle.std.specs.Prelude.{◌≡◌, ◌≢◌, Option};
+ghost use Rattle.futures.specs.Task.{Keeps};
+ghost use Rattle.deadpool_managed.specs.Answers.{IfReadyOk};
+ghost use Rattle.deadpool_managed.specs.Bounds.{IsNewObject};
+ghost use Rattle.deadpool_managed.specs.Outside.{may};
+ghost use Rattle.deadpool_managed.specs.Get.{Made, Makes, AdvancesCreation, AfterCreation, AfterCreated};
+ghost use Rattle.deadpool_managed.specs.Held.{held_after, held_if_created};
+ghost use Rattle.deadpool_managed.specs.Phases.{IsPlaced, came_by, stage_of, turn_of};
+ghost use Rattle.deadpool_managed.specs.declared.desk.Holding.{Holding};
+
+use crate::desk::{CreatedReply, Desk};
+use crate::prepare::Position;
+use crate::work::{Came, Phase, Work};
+use crate::{
+    AsyncHook, Environment, Manager, Metrics, Moment, PoolError, Slot, StepReply, SyncHook,
+    TimeoutType, Timeouts,
+};
+use deadpool_parts::deadline::{deadline_after, is_reached, lacks_runtime};
+use futures::task::{Context, Poll};
+
+impl<M: Manager + Drop, A: AsyncHook<M> + Drop> Work<M, A> {
+    // A creation begins. A timeout without a runtime ends the get, and nothing is called.
+    pub(crate) fn begin_creation<F: SyncHook<M> + Drop, D: Desk<M::Type>>(
+        &mut self,
+        timeouts: &Timeouts,
+        desk: &mut D,
+        environment: &Environment<M, F, A>,
+        now: Moment,
+        cx: &mut Context<'_>,
+    ) -> Came<M::Error>
+        requires finished { self.old.phase ≡ Phase.Finished }
+        requires holds { D.holds desk.old Holding.Creation }
+        ensures advanced { (made : Made M.Type) × (Makes D.Desk desk.old made desk.new × AdvancesCreation (may M.Manager F.SyncHook A.AsyncHook environment.now.manager) environment.now.runtime now timeouts.now.create Option.None Option.None made (stage_of self.new.phase self.new.slot) (turn_of result self.new.slot)) }
+        ensures falls { result ≡ Came.More → IsNewObject (stage_of self.new.phase self.new.slot) }
+        ensures placed { IsPlaced M.is_ready self.new.phase self.new.slot }
+        ensures not_given { result ≢ Came.Given }
+        ensures kept { Keeps cx.old cx.new }
+        ensures holds { D.holds desk.new (held_after (stage_of self.new.phase self.new.slot) (turn_of result self.new.slot)) }
+    {
+        let timeout = timeouts.create;
+        if lacks_runtime(environment.runtime, timeout) {
+            let reply = desk.failed();
+            return ended(PoolError::NoRuntimeSpecified, reply);
+        }
+        let deadline = deadline_after(now, timeout);
+        let mut state = environment.manager.create();
+        let answer = environment.manager.poll_create(&mut state, cx);
+        self.after_creation(answer, state, deadline, desk, now)
+    }
+
+    // A creation that was begun goes on.
+    pub(crate) fn advance_creation<F: SyncHook<M> + Drop, D: Desk<M::Type>>(
+        &mut self,
+        mut state: M::Creating,
+        deadline: Option<Moment>,
+        timeouts: &Timeouts,
+        desk: &mut D,
+        environment: &Environment<M, F, A>,
+        now: Moment,
+        cx: &mut Context<'_>,
+    ) -> Came<M::Error>
+        requires finished { self.old.phase ≡ Phase.Finished }
+        requires holds { D.holds desk.old Holding.Creation }
+        ensures advanced { (made : Made M.Type) × (Makes D.Desk desk.old made desk.new × AdvancesCreation (may M.Manager F.SyncHook A.AsyncHook environment.now.manager) environment.now.runtime now timeouts.now.create (Option.Some state) deadline made (stage_of self.new.phase self.new.slot) (turn_of result self.new.slot)) }
+        ensures falls { result ≡ Came.More → IsNewObject (stage_of self.new.phase self.new.slot) }
+        ensures placed { IsPlaced M.is_ready self.new.phase self.new.slot }
+        ensures not_given { result ≢ Came.Given }
+        ensures kept { Keeps cx.old cx.new }
+        ensures holds { D.holds desk.new (held_after (stage_of self.new.phase self.new.slot) (turn_of result self.new.slot)) }
+    {
+        let answer = environment.manager.poll_create(&mut state, cx);
+        self.after_creation(answer, state, deadline, desk, now)
+    }
+
+    // What a creation's answer leads to. One that is pending at its deadline ends the get.
+    fn after_creation<D: Desk<M::Type>>(
+        &mut self,
+        answer: Poll<Result<M::Type, M::Error>>,
+        state: M::Creating,
+        deadline: Option<Moment>,
+        desk: &mut D,
+        now: Moment,
+    ) -> Came<M::Error>
+        requires finished { self.old.phase ≡ Phase.Finished }
+        requires ready { IfReadyOk answer M.is_ready }
+        requires holds { D.holds desk.old Holding.Creation }
+        ensures advanced { (made : Made M.Type) × (Makes D.Desk desk.old made desk.new × AfterCreation now deadline (answer, state) made (stage_of self.new.phase self.new.slot) (turn_of result self.new.slot)) }
+        ensures falls { result ≡ Came.More → IsNewObject (stage_of self.new.phase self.new.slot) }
+        ensures placed { IsPlaced M.is_ready self.new.phase self.new.slot }
+        ensures not_given { result ≢ Came.Given }
+        ensures holds { D.holds desk.new (held_after (stage_of self.new.phase self.new.slot) (turn_of result self.new.slot)) }
+    {
+        match answer {
+            Poll::Ready(created) => match created {
+                Ok(value) => {
+                    let reply = desk.created();
+                    self.after_created(value, now, reply)
+                }
+                Err(cause) => {
+                    let reply = desk.failed();
+                    ended(PoolError::Backend(cause), reply)
+                }
+            },
+            Poll::Pending => {
+                if is_reached(deadline, now) {
+                    let reply = desk.failed();
+                    return ended(PoolError::Timeout(TimeoutType::Create), reply);
+                }
+                self.phase = Phase::Creating(Some(state), deadline);
+                Came::Pending
+            }
+        }
+    }
+
+    fn after_created(&mut self, value: M::Type, now: Moment, reply: CreatedReply) -> Came<M::Error>
+        requires finished { self.old.phase ≡ Phase.Finished }
+        requires ready { M.is_ready value }
+        ensures after { AfterCreated value now reply (stage_of self.new.phase self.new.slot) (turn_of result self.new.slot) }
+        ensures falls { result ≡ Came.More → IsNewObject (stage_of self.new.phase self.new.slot) }
+        ensures placed { IsPlaced M.is_ready self.new.phase self.new.slot }
+        ensures not_given { result ≢ Came.Given }
+        ensures holds { held_after (stage_of self.new.phase self.new.slot) (turn_of result self.new.slot) ≡ held_if_created reply }
+    {
+        match reply {
+            CreatedReply::Created(number) => {
+                self.slot = Some(Slot {
+                    number,
+                    value,
+                    metrics: Metrics::new(now),
+                });
+                self.phase = Phase::Checking(Position::start());
+                Came::More
+            }
+            CreatedReply::Unknown => Came::Failed(PoolError::Closed),
+        }
+    }
+}
+
+// What a get comes to whose creation has ended without an object.
+fn ended<E: Drop>(cause: PoolError<E>, reply: StepReply) -> Came<E>
+    ensures { result ≡ came_by cause reply }
+{
+    match reply {
+        StepReply::Done => Came::Failed(cause),
+        StepReply::Unknown => Came::Failed(PoolError::Closed),
+    }
+}

@@ -1,0 +1,124 @@
+//! What a get comes to by a reply of its desk that serves it, or that tells it to wait.
+ghost use Rattle.std.specs.Prelude.{◌≡◌, ◌≢◌};
+ghost use Rattle.deadpool_managed.specs.Outside.{may};
+ghost use Rattle.deadpool_managed.specs.Get.{Made, Makes, AdvancesFrom, AfterServing, AfterEntered, AfterAsked, AfterAskedAgain};
+ghost use Rattle.deadpool_managed.specs.Held.{held_after, held_if_entered, held_if_asked, held_if_asked_again, held_if_served};
+ghost use Rattle.deadpool_managed.specs.Phases.{IsPlaced, stage_of, turn_of};
+ghost use Rattle.deadpool_managed.specs.declared.desk.Holding.{Holding};
+ghost use Rattle.deadpool_managed.specs.declared.get.Stage.TheVariants.{Unpolled};
+
+use crate::desk::{AgainReply, AskReply, Desk, EnterReply, Serving};
+use crate::gate::Ticket;
+use crate::work::{Came, Phase, Work};
+use crate::{
+    AsyncHook, Environment, Manager, Moment, PoolError, Slot, SyncHook, TimeoutType, Timeouts,
+};
+use deadpool_parts::deadline::{cannot_wait, deadline_after, is_reached};
+
+impl<M: Manager + Drop, A: AsyncHook<M> + Drop> Work<M, A> {
+    // The first step of a get.
+    pub(crate) fn enter<F: SyncHook<M> + Drop, D: Desk<M::Type>>(
+        &mut self,
+        timeouts: &Timeouts,
+        desk: &mut D,
+        environment: &Environment<M, F, A>,
+        now: Moment,
+    ) -> Came<M::Error>
+        requires unpolled { self.old.phase ≡ Phase.Unpolled }
+        requires holds { D.holds desk.old Holding.Nothing }
+        ensures advanced { (made : Made M.Type) × (Makes D.Desk desk.old made desk.new × AdvancesFrom (may M.Manager F.SyncHook A.AsyncHook environment.now.manager) environment.now.runtime environment.now.hooks now timeouts.now Unpolled made (stage_of self.new.phase self.new.slot) (turn_of result self.new.slot)) }
+        ensures placed { IsPlaced M.is_ready self.new.phase self.new.slot }
+        ensures not_given { result ≢ Came.Given }
+        ensures holds { D.holds desk.new (held_after (stage_of self.new.phase self.new.slot) (turn_of result self.new.slot)) }
+    {
+        let wait = timeouts.wait;
+        if cannot_wait(environment.runtime, wait) {
+            return self.end(PoolError::NoRuntimeSpecified);
+        }
+        let deadline = deadline_after(now, wait);
+        let reply = desk.enter(!is_reached(deadline, now));
+        self.after_entered(deadline, reply)
+    }
+
+    fn after_entered(
+        &mut self,
+        deadline: Option<Moment>,
+        reply: EnterReply<Slot<M::Type>>,
+    ) -> Came<M::Error>
+        ensures after { AfterEntered deadline reply (stage_of self.new.phase self.new.slot) (turn_of result self.new.slot) }
+        ensures placed { IsPlaced M.is_ready self.new.phase self.new.slot }
+        ensures not_given { result ≢ Came.Given }
+        ensures holds { held_after (stage_of self.new.phase self.new.slot) (turn_of result self.new.slot) ≡ held_if_entered reply }
+    {
+        match reply {
+            EnterReply::Served(serving) => self.after_serving(serving),
+            EnterReply::Closed => self.end(PoolError::Closed),
+            EnterReply::Full => self.end(PoolError::Timeout(TimeoutType::Wait)),
+            EnterReply::Waiting(ticket) => {
+                self.phase = Phase::Queued(ticket, deadline);
+                Came::Pending
+            }
+            EnterReply::OutOfMemory => self.end(PoolError::OutOfMemory),
+        }
+    }
+
+    pub(crate) fn after_asked(
+        &mut self,
+        ticket: Ticket,
+        deadline: Option<Moment>,
+        reply: AskReply<Slot<M::Type>>,
+    ) -> Came<M::Error>
+        requires { self.old.phase ≡ Phase.Finished }
+        ensures after { AfterAsked ticket deadline reply (stage_of self.new.phase self.new.slot) (turn_of result self.new.slot) }
+        ensures placed { IsPlaced M.is_ready self.new.phase self.new.slot }
+        ensures not_given { result ≢ Came.Given }
+        ensures holds { held_after (stage_of self.new.phase self.new.slot) (turn_of result self.new.slot) ≡ held_if_asked reply }
+    {
+        match reply {
+            AskReply::Served(serving) => self.after_serving(serving),
+            AskReply::Closed | AskReply::Unknown => Came::Failed(PoolError::Closed),
+            AskReply::Expired => Came::Failed(PoolError::Timeout(TimeoutType::Wait)),
+            AskReply::Waiting => {
+                self.phase = Phase::Queued(ticket, deadline);
+                Came::Pending
+            }
+        }
+    }
+
+    pub(crate) fn after_asked_again(&mut self, reply: AgainReply<Slot<M::Type>>) -> Came<M::Error>
+        requires { self.old.phase ≡ Phase.Finished }
+        ensures after { AfterAskedAgain reply (stage_of self.new.phase self.new.slot) (turn_of result self.new.slot) }
+        ensures placed { IsPlaced M.is_ready self.new.phase self.new.slot }
+        ensures not_given { result ≢ Came.Given }
+        ensures holds { held_after (stage_of self.new.phase self.new.slot) (turn_of result self.new.slot) ≡ held_if_asked_again reply }
+    {
+        match reply {
+            AgainReply::Served(serving) => self.after_serving(serving),
+            AgainReply::Unknown => Came::Failed(PoolError::Closed),
+        }
+    }
+
+    fn after_serving(&mut self, serving: Serving<Slot<M::Type>>) -> Came<M::Error>
+        ensures after { AfterServing serving (stage_of self.new.phase self.new.slot) (turn_of result self.new.slot) }
+        ensures placed { IsPlaced M.is_ready self.new.phase self.new.slot }
+        ensures not_given { result ≢ Came.Given }
+        ensures holds { held_after (stage_of self.new.phase self.new.slot) (turn_of result self.new.slot) ≡ held_if_served serving }
+    {
+        match serving {
+            Serving::Object(slot, left) => {
+                self.slot = Some(slot);
+                self.phase = Phase::Served(left);
+                Came::More
+            }
+            Serving::Create => {
+                self.phase = Phase::Creating(None, None);
+                Came::More
+            }
+            Serving::Going => {
+                self.phase = Phase::Going(None);
+                Came::Pending
+            }
+            Serving::Exhausted => self.end(PoolError::NumbersExhausted),
+        }
+    }
+}

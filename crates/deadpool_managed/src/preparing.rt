@@ -1,0 +1,173 @@
+//! The preparation of a get's object, in its place.
+ghost use Rattle.std.specs.Prelude.{◌≡◌, ◌≢◌, Option};
+ghost use Rattle.futures.specs.Task.{Keeps};
+ghost use Rattle.deadpool_managed.specs.Outside.{may};
+ghost use Rattle.deadpool_managed.specs.Get.{Made, Makes, AdvancesFrom, IfReadyObject};
+ghost use Rattle.deadpool_managed.specs.Held.{held_after};
+ghost use Rattle.deadpool_managed.specs.Phases.{IsPlaced, DiscardsIn, RefusesIn, stage_of, turn_of};
+ghost use Rattle.deadpool_managed.specs.declared.desk.Holding.{Holding};
+ghost use Rattle.deadpool_parts.specs.declared.replies.StepReply.{StepReply};
+
+use crate::desk::Desk;
+use crate::prepare::{Outcome, Position, Preparing, Verdict, check_in, prepare_in, review_in};
+use crate::work::{Came, Phase, Work};
+use crate::{
+    AsyncHook, Environment, HookError, Manager, Moment, PoolError, StepReply, SyncHook, Timeouts,
+};
+use futures::task::Context;
+
+impl<M: Manager + Drop, A: AsyncHook<M> + Drop> Work<M, A> {
+    // An object that was served now is prepared, in its place.
+    pub(crate) fn recycle<F: SyncHook<M> + Drop, D: Desk<M::Type>>(
+        &mut self,
+        left: usize,
+        timeouts: &Timeouts,
+        desk: &mut D,
+        environment: &Environment<M, F, A>,
+        now: Moment,
+        cx: &mut Context<'_>,
+    ) -> Came<M::Error>
+        requires placed { IsPlaced {C = M.Creating} {R = M.Recycling} {S = A.State} M.is_ready (Phase.Served left) self.old.slot }
+        requires holds { D.holds desk.old Holding.Object }
+        ensures advanced { (made : Made M.Type) × (Makes D.Desk desk.old made desk.new × AdvancesFrom (may M.Manager F.SyncHook A.AsyncHook environment.now.manager) environment.now.runtime environment.now.hooks now timeouts.now (stage_of (Phase.Served left) self.old.slot) made (stage_of self.new.phase self.new.slot) (turn_of result self.new.slot)) }
+        ensures placed { IsPlaced M.is_ready self.new.phase self.new.slot }
+        ensures given { result ≡ Came.Given → self.new.phase ≡ Phase.Finished }
+        ensures ready { IfReadyObject M.is_ready (turn_of result self.new.slot) }
+        ensures falls { result ≡ Came.More → self.new.phase ≡ Phase.Going (Option.Some left) }
+        ensures kept { Keeps cx.old cx.new }
+        ensures holds { D.holds desk.new (held_after (stage_of self.new.phase self.new.slot) (turn_of result self.new.slot)) }
+    {
+        self.phase = Phase::Finished;
+        match review_in(&mut self.slot, timeouts.recycle, environment, now, cx) {
+            Outcome::Accepted => Came::Given,
+            Outcome::Pending(preparing) => {
+                self.phase = Phase::Recycling(preparing);
+                Came::Pending
+            }
+            Outcome::GivenUp => self.discard(Some(left), desk, environment),
+        }
+    }
+
+    // The idle object is prepared further, in its place.
+    pub(crate) fn advance_recycling<F: SyncHook<M> + Drop, D: Desk<M::Type>>(
+        &mut self,
+        preparing: Preparing<M::Recycling, A::State>,
+        timeouts: &Timeouts,
+        desk: &mut D,
+        environment: &Environment<M, F, A>,
+        now: Moment,
+        cx: &mut Context<'_>,
+    ) -> Came<M::Error>
+        requires finished { self.old.phase ≡ Phase.Finished }
+        requires placed { IsPlaced {C = M.Creating} M.is_ready (Phase.Recycling preparing) self.old.slot }
+        requires holds { D.holds desk.old Holding.Object }
+        ensures advanced { (made : Made M.Type) × (Makes D.Desk desk.old made desk.new × AdvancesFrom (may M.Manager F.SyncHook A.AsyncHook environment.now.manager) environment.now.runtime environment.now.hooks now timeouts.now (stage_of (Phase.Recycling preparing) self.old.slot) made (stage_of self.new.phase self.new.slot) (turn_of result self.new.slot)) }
+        ensures placed { IsPlaced M.is_ready self.new.phase self.new.slot }
+        ensures given { result ≡ Came.Given → self.new.phase ≡ Phase.Finished }
+        ensures ready { IfReadyObject M.is_ready (turn_of result self.new.slot) }
+        ensures falls { result ≡ Came.More → self.new.phase ≡ Phase.Going Option.None }
+        ensures kept { Keeps cx.old cx.new }
+        ensures holds { D.holds desk.new (held_after (stage_of self.new.phase self.new.slot) (turn_of result self.new.slot)) }
+    {
+        match prepare_in(
+            &mut self.slot,
+            preparing,
+            timeouts.recycle,
+            environment,
+            now,
+            cx,
+        ) {
+            Outcome::Accepted => Came::Given,
+            Outcome::Pending(preparing) => {
+                self.phase = Phase::Recycling(preparing);
+                Came::Pending
+            }
+            Outcome::GivenUp => self.discard(None, desk, environment),
+        }
+    }
+
+    // The object is given up, and the get keeps its place.
+    fn discard<F: SyncHook<M> + Drop, D: Desk<M::Type>>(
+        &mut self,
+        allowance: Option<usize>,
+        desk: &mut D,
+        environment: &Environment<M, F, A>,
+    ) -> Came<M::Error>
+        requires finished { self.old.phase ≡ Phase.Finished }
+        requires holds { D.holds desk.old Holding.Object }
+        ensures advanced { (reply : StepReply) × (D.discards desk.old reply desk.new × DiscardsIn (may M.Manager F.SyncHook A.AsyncHook environment.now.manager) self.old.slot allowance reply (stage_of self.new.phase self.new.slot) (turn_of result self.new.slot)) }
+        ensures placed { IsPlaced M.is_ready self.new.phase self.new.slot }
+        ensures not_given { result ≢ Came.Given }
+        ensures falls { result ≡ Came.More → self.new.phase ≡ Phase.Going allowance }
+        ensures holds { D.holds desk.new (held_after (stage_of self.new.phase self.new.slot) (turn_of result self.new.slot)) }
+    {
+        let held = self.slot.take();
+        match desk.discard() {
+            StepReply::Done => {
+                if let Some(mut slot) = held {
+                    environment.manager.detach(&mut slot.value);
+                }
+                self.phase = Phase::Going(allowance);
+                Came::More
+            }
+            StepReply::Unknown => Came::Failed(PoolError::Closed),
+        }
+    }
+
+    // The hooks see the new object further.
+    pub(crate) fn advance_checking<F: SyncHook<M> + Drop, D: Desk<M::Type>>(
+        &mut self,
+        position: Position<A::State>,
+        timeouts: &Timeouts,
+        desk: &mut D,
+        environment: &Environment<M, F, A>,
+        now: Moment,
+        cx: &mut Context<'_>,
+    ) -> Came<M::Error>
+        requires finished { self.old.phase ≡ Phase.Finished }
+        requires placed { IsPlaced {C = M.Creating} {R = M.Recycling} M.is_ready (Phase.Checking position) self.old.slot }
+        requires holds { D.holds desk.old Holding.Object }
+        ensures advanced { (made : Made M.Type) × (Makes D.Desk desk.old made desk.new × AdvancesFrom (may M.Manager F.SyncHook A.AsyncHook environment.now.manager) environment.now.runtime environment.now.hooks now timeouts.now (stage_of (Phase.Checking position) self.old.slot) made (stage_of self.new.phase self.new.slot) (turn_of result self.new.slot)) }
+        ensures placed { IsPlaced M.is_ready self.new.phase self.new.slot }
+        ensures given { result ≡ Came.Given → self.new.phase ≡ Phase.Finished }
+        ensures ready { IfReadyObject M.is_ready (turn_of result self.new.slot) }
+        ensures falls { result ≢ Came.More }
+        ensures kept { Keeps cx.old cx.new }
+        ensures holds { D.holds desk.new (held_after (stage_of self.new.phase self.new.slot) (turn_of result self.new.slot)) }
+    {
+        match check_in(&mut self.slot, position, environment, cx) {
+            Verdict::Accepted => Came::Given,
+            Verdict::Pending(position) => {
+                self.phase = Phase::Checking(position);
+                Came::Pending
+            }
+            Verdict::Refused(cause) => self.refuse(cause, desk, environment),
+        }
+    }
+
+    // The new object is given up with its place.
+    fn refuse<F: SyncHook<M> + Drop, D: Desk<M::Type>>(
+        &mut self,
+        cause: HookError<M::Error>,
+        desk: &mut D,
+        environment: &Environment<M, F, A>,
+    ) -> Came<M::Error>
+        requires finished { self.old.phase ≡ Phase.Finished }
+        requires holds { D.holds desk.old Holding.Object }
+        ensures advanced { (reply : StepReply) × (D.refuses desk.old reply desk.new × RefusesIn (may M.Manager F.SyncHook A.AsyncHook environment.now.manager) self.old.slot cause reply (stage_of self.new.phase self.new.slot) (turn_of result self.new.slot)) }
+        ensures placed { IsPlaced M.is_ready self.new.phase self.new.slot }
+        ensures failed { (result ≢ Came.Given) × (result ≢ Came.More) }
+        ensures holds { D.holds desk.new (held_after (stage_of self.new.phase self.new.slot) (turn_of result self.new.slot)) }
+    {
+        let held = self.slot.take();
+        match desk.refused() {
+            StepReply::Done => {
+                if let Some(mut slot) = held {
+                    environment.manager.detach(&mut slot.value);
+                }
+                Came::Failed(PoolError::PostCreateHook(cause))
+            }
+            StepReply::Unknown => Came::Failed(PoolError::Closed),
+        }
+    }
+}

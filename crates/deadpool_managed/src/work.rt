@@ -1,0 +1,263 @@
+//! A get at work: its phase, and the object that it prepares.
+//!
+//! The object stays in one place until it is given out. What is rare stands in functions of its own.
+ghost use Rattle.std.specs.Prelude.{◌≡◌, true, false};
+ghost use Rattle.futures.specs.Task.{Keeps};
+ghost use Rattle.deadpool_managed.specs.Bounds.{lacks_allowance, Falls};
+ghost use Rattle.deadpool_managed.specs.Outside.{may};
+ghost use Rattle.deadpool_managed.specs.Get.{Made, Makes, AdvancesFrom, IfReadyObject, PollsOver};
+ghost use Rattle.deadpool_managed.specs.Held.{held_at, held_after};
+ghost use Rattle.deadpool_managed.specs.Phases.{IsPlaced, IsPending, stage_of, turn_of};
+
+use crate::desk::Desk;
+use crate::gate::Ticket;
+use crate::prepare::{Position, Preparing};
+use crate::{AsyncHook, Environment, Manager, Moment, PoolError, Slot, SyncHook, Timeouts, Turn};
+use deadpool_parts::deadline::is_reached;
+use futures::task::Context;
+use std::mem;
+
+/// How far a get is, with its object beside it.
+#[derive(Drop)]
+pub enum Phase<C, R, S> {
+    Unpolled,
+    /// With an idle object that was served now, and as many more as it may take.
+    Served(usize),
+    Queued(Ticket, Option<Moment>),
+    Going(Option<usize>),
+    Creating(Option<C>, Option<Moment>),
+    /// With an idle object whose preparation was pending.
+    Recycling(Preparing<R, S>),
+    Checking(Position<S>),
+    Finished,
+}
+
+/// What one step of a get came to. An object that it gives stays in its place.
+#[derive(Drop)]
+pub enum Came<E> {
+    More,
+    Pending,
+    Given,
+    Failed(PoolError<E>),
+}
+
+/// How far a get is, and the object that it prepares, in one place until it is given out.
+#[derive(Drop)]
+pub(crate) struct Work<M: Manager, A: AsyncHook<M>> {
+    pub(crate) phase: Phase<M::Creating, M::Recycling, A::State>,
+    pub(crate) slot: Option<Slot<M::Type>>,
+}
+
+impl<M: Manager + Drop, A: AsyncHook<M> + Drop> Work<M, A> {
+    // One step.
+    pub(crate) fn step<F: SyncHook<M> + Drop, D: Desk<M::Type>>(
+        &mut self,
+        timeouts: &Timeouts,
+        desk: &mut D,
+        environment: &Environment<M, F, A>,
+        now: Moment,
+        cx: &mut Context<'_>,
+    ) -> Came<M::Error>
+        requires placed { IsPlaced M.is_ready self.old.phase self.old.slot }
+        requires holds { D.holds desk.old (held_at (stage_of self.old.phase self.old.slot)) }
+        ensures advanced { (made : Made M.Type) × (Makes D.Desk desk.old made desk.new × AdvancesFrom (may M.Manager F.SyncHook A.AsyncHook environment.now.manager) environment.now.runtime environment.now.hooks now timeouts.now (stage_of self.old.phase self.old.slot) made (stage_of self.new.phase self.new.slot) (turn_of result self.new.slot)) }
+        ensures falls { result ≡ Came.More → Falls (stage_of self.old.phase self.old.slot) (stage_of self.new.phase self.new.slot) }
+        ensures placed { IsPlaced M.is_ready self.new.phase self.new.slot }
+        ensures given { result ≡ Came.Given → self.new.phase ≡ Phase.Finished }
+        ensures ready { IfReadyObject M.is_ready (turn_of result self.new.slot) }
+        ensures kept { Keeps cx.old cx.new }
+        ensures holds { D.holds desk.new (held_after (stage_of self.new.phase self.new.slot) (turn_of result self.new.slot)) }
+    {
+        if self.lacks_allowance() {
+            self.begin(timeouts, desk, environment, now, cx)
+        } else {
+            self.go_on(timeouts, desk, environment, now, cx)
+        }
+    }
+
+    // Steps up to the first that has nothing more to do at once.
+    pub(crate) fn run<F: SyncHook<M> + Drop, D: Desk<M::Type>>(
+        &mut self,
+        timeouts: &Timeouts,
+        desk: &mut D,
+        environment: &Environment<M, F, A>,
+        now: Moment,
+        cx: &mut Context<'_>,
+    ) -> Came<M::Error>
+        requires placed { IsPlaced M.is_ready self.old.phase self.old.slot }
+        requires holds { D.holds desk.old (held_at (stage_of self.old.phase self.old.slot)) }
+        ensures polled { PollsOver D.Desk (may M.Manager F.SyncHook A.AsyncHook environment.now.manager) environment.now.runtime environment.now.hooks now timeouts.now desk.old (stage_of self.old.phase self.old.slot) desk.new (stage_of self.new.phase self.new.slot) (turn_of result self.new.slot) }
+        ensures placed { IsPlaced M.is_ready self.new.phase self.new.slot }
+        ensures given { result ≡ Came.Given → self.new.phase ≡ Phase.Finished }
+        ensures ready { IfReadyObject M.is_ready (turn_of result self.new.slot) }
+        ensures kept { Keeps cx.old cx.new }
+        ensures holds { D.holds desk.new (held_after (stage_of self.new.phase self.new.slot) (turn_of result self.new.slot)) }
+    {
+        'until_allowed: while self.lacks_allowance() {
+            match self.begin(timeouts, desk, environment, now, cx) {
+                Came::More => {}
+                came => return came,
+            }
+        }
+        'allowed: loop {
+            match self.go_on(timeouts, desk, environment, now, cx) {
+                Came::More => {}
+                came => return came,
+            }
+        }
+    }
+
+    // Whether the get is in a poll and has taken nothing in it yet.
+    fn lacks_allowance(&self) -> bool
+        requires { IsPlaced M.is_ready self.now.phase self.now.slot }
+        ensures { result ≡ lacks_allowance (stage_of self.now.phase self.now.slot) }
+    {
+        match &self.phase {
+            Phase::Unpolled | Phase::Queued(_, _) | Phase::Recycling(_) => true,
+            Phase::Going(allowance) => allowance.is_none(),
+            _ => false,
+        }
+    }
+
+    // A step of a get that has taken nothing in this poll.
+    fn begin<F: SyncHook<M> + Drop, D: Desk<M::Type>>(
+        &mut self,
+        timeouts: &Timeouts,
+        desk: &mut D,
+        environment: &Environment<M, F, A>,
+        now: Moment,
+        cx: &mut Context<'_>,
+    ) -> Came<M::Error>
+        requires placed { IsPlaced M.is_ready self.old.phase self.old.slot }
+        requires lacks { lacks_allowance (stage_of self.old.phase self.old.slot) ≡ true }
+        requires holds { D.holds desk.old (held_at (stage_of self.old.phase self.old.slot)) }
+        ensures advanced { (made : Made M.Type) × (Makes D.Desk desk.old made desk.new × AdvancesFrom (may M.Manager F.SyncHook A.AsyncHook environment.now.manager) environment.now.runtime environment.now.hooks now timeouts.now (stage_of self.old.phase self.old.slot) made (stage_of self.new.phase self.new.slot) (turn_of result self.new.slot)) }
+        ensures falls { result ≡ Came.More → Falls (stage_of self.old.phase self.old.slot) (stage_of self.new.phase self.new.slot) }
+        ensures placed { IsPlaced M.is_ready self.new.phase self.new.slot }
+        ensures given { result ≡ Came.Given → self.new.phase ≡ Phase.Finished }
+        ensures ready { IfReadyObject M.is_ready (turn_of result self.new.slot) }
+        ensures kept { Keeps cx.old cx.new }
+        ensures holds { D.holds desk.new (held_after (stage_of self.new.phase self.new.slot) (turn_of result self.new.slot)) }
+    {
+        match &self.phase {
+            Phase::Unpolled => self.enter(timeouts, desk, environment, now),
+            _ => self.step_rarely(timeouts, desk, environment, now, cx),
+        }
+    }
+
+    // A step of one that may take so many more objects, or that creates.
+    fn go_on<F: SyncHook<M> + Drop, D: Desk<M::Type>>(
+        &mut self,
+        timeouts: &Timeouts,
+        desk: &mut D,
+        environment: &Environment<M, F, A>,
+        now: Moment,
+        cx: &mut Context<'_>,
+    ) -> Came<M::Error>
+        requires placed { IsPlaced M.is_ready self.old.phase self.old.slot }
+        requires has { lacks_allowance (stage_of self.old.phase self.old.slot) ≡ false }
+        requires holds { D.holds desk.old (held_at (stage_of self.old.phase self.old.slot)) }
+        ensures advanced { (made : Made M.Type) × (Makes D.Desk desk.old made desk.new × AdvancesFrom (may M.Manager F.SyncHook A.AsyncHook environment.now.manager) environment.now.runtime environment.now.hooks now timeouts.now (stage_of self.old.phase self.old.slot) made (stage_of self.new.phase self.new.slot) (turn_of result self.new.slot)) }
+        ensures falls { result ≡ Came.More → Falls (stage_of self.old.phase self.old.slot) (stage_of self.new.phase self.new.slot) }
+        ensures placed { IsPlaced M.is_ready self.new.phase self.new.slot }
+        ensures given { result ≡ Came.Given → self.new.phase ≡ Phase.Finished }
+        ensures ready { IfReadyObject M.is_ready (turn_of result self.new.slot) }
+        ensures kept { Keeps cx.old cx.new }
+        ensures holds { D.holds desk.new (held_after (stage_of self.new.phase self.new.slot) (turn_of result self.new.slot)) }
+    {
+        match &self.phase {
+            Phase::Served(left) => {
+                let left = *left;
+                self.recycle(left, timeouts, desk, environment, now, cx)
+            }
+            _ => self.step_rarely(timeouts, desk, environment, now, cx),
+        }
+    }
+
+    // A step of a get that was pending, or that creates.
+    fn step_rarely<F: SyncHook<M> + Drop, D: Desk<M::Type>>(
+        &mut self,
+        timeouts: &Timeouts,
+        desk: &mut D,
+        environment: &Environment<M, F, A>,
+        now: Moment,
+        cx: &mut Context<'_>,
+    ) -> Came<M::Error>
+        requires placed { IsPlaced M.is_ready self.old.phase self.old.slot }
+        requires pending { IsPending self.old.phase }
+        requires holds { D.holds desk.old (held_at (stage_of self.old.phase self.old.slot)) }
+        ensures advanced { (made : Made M.Type) × (Makes D.Desk desk.old made desk.new × AdvancesFrom (may M.Manager F.SyncHook A.AsyncHook environment.now.manager) environment.now.runtime environment.now.hooks now timeouts.now (stage_of self.old.phase self.old.slot) made (stage_of self.new.phase self.new.slot) (turn_of result self.new.slot)) }
+        ensures falls { result ≡ Came.More → Falls (stage_of self.old.phase self.old.slot) (stage_of self.new.phase self.new.slot) }
+        ensures placed { IsPlaced M.is_ready self.new.phase self.new.slot }
+        ensures given { result ≡ Came.Given → self.new.phase ≡ Phase.Finished }
+        ensures ready { IfReadyObject M.is_ready (turn_of result self.new.slot) }
+        ensures kept { Keeps cx.old cx.new }
+        ensures holds { D.holds desk.new (held_after (stage_of self.new.phase self.new.slot) (turn_of result self.new.slot)) }
+    {
+        match mem::replace(&mut self.phase, Phase::Finished) {
+            Phase::Unpolled => Came::Pending,
+            Phase::Served(_) => Came::Pending,
+            Phase::Queued(ticket, deadline) => {
+                let reply = desk.ask(ticket, is_reached(deadline, now));
+                self.after_asked(ticket, deadline, reply)
+            }
+            Phase::Going(allowance) => {
+                let reply = desk.again(allowance);
+                self.after_asked_again(reply)
+            }
+            Phase::Creating(begun, deadline) => match begun {
+                None => self.begin_creation(timeouts, desk, environment, now, cx),
+                Some(state) => self.advance_creation(
+                    state,
+                    deadline,
+                    timeouts,
+                    desk,
+                    environment,
+                    now,
+                    cx,
+                ),
+            },
+            Phase::Recycling(preparing) => {
+                self.advance_recycling(preparing, timeouts, desk, environment, now, cx)
+            }
+            Phase::Checking(position) => self.advance_checking(
+                position,
+                timeouts,
+                desk,
+                environment,
+                now,
+                cx,
+            ),
+            Phase::Finished => Came::Pending,
+        }
+    }
+
+    // What a step came to, with the object that it gives.
+    pub(crate) fn turn(&mut self, came: Came<M::Error>) -> Turn<M::Type, M::Error>
+        requires placed { IsPlaced M.is_ready self.old.phase self.old.slot }
+        requires given { came ≡ Came.Given → self.old.phase ≡ Phase.Finished }
+        ensures turn { result ≡ turn_of came self.old.slot }
+        ensures same { stage_of self.new.phase self.new.slot ≡ stage_of self.old.phase self.old.slot }
+        ensures placed { IsPlaced M.is_ready self.new.phase self.new.slot }
+    {
+        match came {
+            Came::More => Turn::More,
+            Came::Pending => Turn::Pending,
+            Came::Given => match self.slot.take() {
+                Some(slot) => Turn::Done(Ok(slot)),
+                None => Turn::Pending,
+            },
+            Came::Failed(cause) => Turn::Done(Err(cause)),
+        }
+    }
+
+    // The get ends with an error.
+    pub(crate) fn end(&mut self, cause: PoolError<M::Error>) -> Came<M::Error>
+        ensures phase { self.new.phase ≡ Phase.Finished }
+        ensures slot { self.new.slot ≡ self.old.slot }
+        ensures failed { result ≡ Came.Failed cause }
+    {
+        self.phase = Phase::Finished;
+        Came::Failed(cause)
+    }
+}
