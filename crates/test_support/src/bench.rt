@@ -1,5 +1,9 @@
-//! A bench: moves over a trial, one at a time or whole lists.
-use deadpool::managed::{AsyncHook, Core, Manager, PoolBuilder, PoolError, QueueMode, SyncHook};
+//! A bench: moves over a trial, one at a time or whole lists. Most of its calls make a move and say what is to come of it.
+//! Where something else comes, they fail with a text that says what.
+use crate::expected::{cause_of, expect, unlike};
+use deadpool::managed::{
+    AsyncHook, Core, Manager, PoolBuilder, PoolError, QueueMode, SyncHook, Timeouts,
+};
 use deadpool::replay::{Move, Reply, Trial};
 use deadpool::{Moment, Status};
 use futures::test::MockTask;
@@ -51,57 +55,104 @@ impl<M: Manager + Drop, F: SyncHook<M> + Drop, A: AsyncHook<M> + Drop> Bench<M, 
         task.enter(|cx| trial.make(next, cx))
     }
 
-    /// Starts a get with the configured timeouts, and gives its number.
-    pub fn start(&mut self) -> Result<usize, Fail> {
-        match self.make(Move::Start(None)) {
-            Reply::Started(party) => Ok(party),
-            _ => Err(Fail::new("no get was started")),
+    /// Makes a move that is done, and has no other reply.
+    pub fn does(&mut self, next: Move<M::Type>) -> Result<(), Fail> {
+        match self.make(next) {
+            Reply::Done => Ok(()),
+            reply => Err(unlike("done", &reply)),
         }
     }
 
-    /// Polls a get at a moment. None if it is pending.
-    pub fn poll(
+    /// Makes a move that finds its party or object, a handle and memory.
+    pub fn allows(&mut self, next: Move<M::Type>) -> Result<(), Fail> {
+        match self.make(next) {
+            Reply::NoSuch => Err(Fail::new("no such party or object")),
+            Reply::NoHandle => Err(Fail::new("no handle")),
+            Reply::OutOfMemory => Err(Fail::new("no memory")),
+            _ => Ok(()),
+        }
+    }
+
+    /// Starts a get with the configured timeouts, and gives its number.
+    pub fn start(&mut self) -> Result<usize, Fail> {
+        self.started(None)
+    }
+
+    /// Starts a get with timeouts of its own, and gives its number.
+    pub fn start_with(&mut self, timeouts: Timeouts) -> Result<usize, Fail> {
+        self.started(Some(timeouts))
+    }
+
+    fn started(&mut self, timeouts: Option<Timeouts>) -> Result<usize, Fail> {
+        match self.make(Move::Start(timeouts)) {
+            Reply::Started(party) => Ok(party),
+            reply => Err(unlike("started", &reply)),
+        }
+    }
+
+    /// Polls a get at a moment, which is pending then.
+    pub fn stays_pending(&mut self, party: usize, now: u128) -> Result<(), Fail> {
+        match self.make(Move::Poll(party, Moment(now))) {
+            Reply::Pending => Ok(()),
+            reply => Err(unlike("pending", &reply)),
+        }
+    }
+
+    /// Polls a get at a moment, and gives the number of the object that it ends with.
+    pub fn ends(&mut self, party: usize, now: u128) -> Result<usize, Fail> {
+        match self.make(Move::Poll(party, Moment(now))) {
+            Reply::Object(number) => Ok(number),
+            reply => Err(unlike("an object", &reply)),
+        }
+    }
+
+    /// Polls a get at a moment. It ends with the object of this number.
+    pub fn gives(&mut self, party: usize, now: u128, number: usize) -> Result<(), Fail> {
+        expect("the object", self.ends(party, now)?, number)
+    }
+
+    /// Polls a get at a moment. It ends for this cause; what a manager or a hook says in it is not compared.
+    pub fn fails(
         &mut self,
         party: usize,
         now: u128,
-    ) -> Result<Option<Result<usize, PoolError<M::Error>>>, Fail> {
+        cause: PoolError<M::Error>,
+    ) -> Result<(), Fail> {
         match self.make(Move::Poll(party, Moment(now))) {
-            Reply::Pending => Ok(None),
-            Reply::Object(number) => Ok(Some(Ok(number))),
-            Reply::Failed(cause) => Ok(Some(Err(cause))),
-            _ => Err(Fail::new("not the reply to a poll")),
+            Reply::Failed(seen) => expect("the cause", cause_of(&seen), cause_of(&cause)),
+            reply => Err(unlike(cause_of(&cause), &reply)),
         }
     }
 
-    /// Starts a get that has to wait, and gives its number and the status then.
-    pub fn waits(&mut self) -> Result<(usize, Status), Fail> {
+    /// Starts a get that has to wait, and gives its number. The pool stands so then.
+    pub fn waits(&mut self, status: Status) -> Result<usize, Fail> {
         let party = self.start()?;
-        match self.poll(party, 0)? {
-            None => Ok((party, self.status()?)),
-            Some(_) => Err(Fail::new("not pending")),
-        }
-    }
-
-    /// Starts a get and polls it once, which is to end it.
-    pub fn get(&mut self) -> Result<Result<usize, PoolError<M::Error>>, Fail> {
-        let party = self.start()?;
-        self.poll(party, 0)?.ok_or_else(|| Fail::new("pending"))
+        self.stays_pending(party, 0)?;
+        self.stands_at(status)?;
+        Ok(party)
     }
 
     /// The number of the object that a get gives at once.
     pub fn object(&mut self) -> Result<usize, Fail> {
-        match self.get()? {
-            Ok(number) => Ok(number),
-            Err(_) => Err(Fail::new("no object")),
-        }
+        let party = self.start()?;
+        self.ends(party, 0)
+    }
+
+    /// A get gives the object of this number at once.
+    pub fn hands_out(&mut self, number: usize) -> Result<(), Fail> {
+        expect("the object", self.object()?, number)
+    }
+
+    /// A get ends at once for this cause.
+    pub fn refuses(&mut self, cause: PoolError<M::Error>) -> Result<(), Fail> {
+        let party = self.start()?;
+        self.fails(party, 0, cause)
     }
 
     /// So many objects are created, and come back.
     pub fn idle(&mut self, count: usize) -> Result<(), Fail> {
         for number in 0..count {
-            if self.object()? != number {
-                return Err(Fail::new("not a new object"));
-            }
+            self.hands_out(number)?;
         }
         for number in 0..count {
             self.keep(number)?;
@@ -109,18 +160,59 @@ impl<M: Manager + Drop, F: SyncHook<M> + Drop, A: AsyncHook<M> + Drop> Bench<M, 
         Ok(())
     }
 
+    /// A get is cancelled.
+    pub fn cancel(&mut self, party: usize) -> Result<(), Fail> {
+        match self.make(Move::Cancel(party)) {
+            Reply::Cancelled => Ok(()),
+            reply => Err(unlike("cancelled", &reply)),
+        }
+    }
+
     /// An object comes back, and is kept.
     pub fn keep(&mut self, number: usize) -> Result<(), Fail> {
         match self.make(Move::Back(number)) {
             Reply::Kept => Ok(()),
-            _ => Err(Fail::new("not kept")),
+            reply => Err(unlike("kept", &reply)),
         }
     }
 
-    pub fn status(&mut self) -> Result<Status, Fail> {
+    /// An object comes back, and is detached.
+    pub fn detach(&mut self, number: usize) -> Result<(), Fail> {
+        match self.make(Move::Back(number)) {
+            Reply::Detached => Ok(()),
+            reply => Err(unlike("detached", &reply)),
+        }
+    }
+
+    /// An object comes back, and is dropped.
+    pub fn give_up(&mut self, number: usize) -> Result<(), Fail> {
+        match self.make(Move::Back(number)) {
+            Reply::Dropped => Ok(()),
+            reply => Err(unlike("dropped", &reply)),
+        }
+    }
+
+    /// An object leaves the pool for good, and gives its value.
+    pub fn take(&mut self, number: usize) -> Result<M::Type, Fail> {
+        match self.make(Move::Take(number)) {
+            Reply::Taken(value) => Ok(value),
+            reply => Err(unlike("taken", &reply)),
+        }
+    }
+
+    /// Keeps the idle objects with these numbers, of which there are so many.
+    pub fn retains(&mut self, kept: Vec<usize>, count: usize) -> Result<(), Fail> {
+        match self.make(Move::Retain(kept)) {
+            Reply::Retained(result) => expect("retained", result.retained, count),
+            reply => Err(unlike("retained", &reply)),
+        }
+    }
+
+    /// The pool stands so.
+    pub fn stands_at(&mut self, status: Status) -> Result<(), Fail> {
         match self.make(Move::Status) {
-            Reply::Stands(status) => Ok(status),
-            _ => Err(Fail::new("no status")),
+            Reply::Stands(seen) => expect("the status", seen, status),
+            reply => Err(unlike("a status", &reply)),
         }
     }
 

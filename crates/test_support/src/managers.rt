@@ -1,7 +1,9 @@
 //! Small managers.
+use crate::expected::expect;
 use deadpool::managed::{Manager, Metrics, RecycleError, RecycleResult};
 use futures::task::{Context, Poll};
 use std::cell::Cell;
+use std::test::Fail;
 
 /// What they say when they refuse.
 #[derive(Clone, Copy, Debug, PartialEq, Eq)]
@@ -194,14 +196,21 @@ impl Calls {
         }
     }
 
-    /// How many of each: creations, recyclings, polls of either, and objects that were detached.
-    pub fn counts(&self) -> (usize, usize, usize, usize) {
-        (
+    /// There were so many of each: creations, recyclings, polls of either, and objects that were detached.
+    pub fn counts_are(&self, counts: (usize, usize, usize, usize)) -> Result<(), Fail> {
+        let seen = (
             self.created.get(),
             self.recycled.get(),
             self.polled.get(),
             self.detached.get(),
-        )
+        );
+        expect("created, recycled, polled and detached", seen, counts)
+    }
+
+    /// So many were created, and so many detached.
+    pub fn created_and_detached(&self, created: usize, detached: usize) -> Result<(), Fail> {
+        let seen = (self.created.get(), self.detached.get());
+        expect("created and detached", seen, (created, detached))
     }
 
     fn answer<T: Drop>(&self, answer: T) -> Poll<T> {

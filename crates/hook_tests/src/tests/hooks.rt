@@ -8,10 +8,10 @@ use deadpool::managed::{
 };
 use futures::task::{Context, Poll};
 use std::cell::Cell;
-use std::process::Abort;
 use std::random::RandomSource;
 use std::test::Fail;
 use test_support::bench::{Bench, stands};
+use test_support::expected::expect;
 use test_support::managers::{Counter, FortyTwo, Refused};
 
 // A pool's list of hooks.
@@ -105,7 +105,12 @@ where
 {
     let builder = PoolBuilder::new(rt.alloc(), FortyTwo, ());
     let builder = with_hook(builder, List::PostCreate, hook)?;
-    let mut bench = Bench::new(rt, builder)?;
+    value_of_a_get(&mut Bench::new(rt, builder)?)
+}
+
+fn value_of_a_get<F: SyncHook<FortyTwo> + Drop, A: AsyncHook<FortyTwo> + Drop>(
+    bench: &mut Bench<FortyTwo, F, A>,
+) -> Result<u64, Fail> {
     let number = bench.object()?;
     Ok(*bench.value(number)?)
 }
@@ -113,53 +118,79 @@ where
 // What the polls of a get give whose object two hooks see, the second of which is pending once.
 fn created_in_two_polls<F: SyncHook<FortyTwo> + Drop, R>(rt: &R, first: F) -> Result<u64, Fail>
 where
-    R: RandomSource + AllocGlobal + Abort,
+    R: RandomSource + AllocGlobal,
     requires { F.can_call first }
 {
     let builder = PoolBuilder::new(rt.alloc(), FortyTwo, ());
     let builder = with_hook(builder, List::PostCreate, Hook::sync_fn(first))?;
     let builder = with_hook(builder, List::PostCreate, Hook::async_fn(Doubling))?;
-    let mut bench = Bench::new(rt, builder)?;
+    value_of_a_get_in_two_polls(&mut Bench::new(rt, builder)?)
+}
+
+fn value_of_a_get_in_two_polls<F: SyncHook<FortyTwo> + Drop>(
+    bench: &mut Bench<FortyTwo, F, Doubling>,
+) -> Result<u64, Fail> {
     let party = bench.start()?;
-    assert!(rt; bench.poll(party, 0)?.is_none());
-    assert!(rt; matches!(bench.poll(party, 0)?, Some(Ok(0))));
+    bench.stays_pending(party, 0)?;
+    bench.gives(party, 0, 0)?;
     Ok(*bench.value(0)?)
 }
 
 #[test]
 fn hooks_see_a_new_object(rt: HostRuntime) -> Result<(), Fail> {
     let hook = FnHook::<FortyTwo, _, _>::new(add_one);
-    assert_eq!(rt; created(&rt, Hook::<_, NoHook>::sync_fn(hook))?, 43);
-    assert_eq!(rt; created(&rt, Hook::<NoHook, _>::async_fn(Adding))?, 43);
+    expect(
+        "the value",
+        created(&rt, Hook::<_, NoHook>::sync_fn(hook))?,
+        43,
+    )?;
+    expect(
+        "the value",
+        created(&rt, Hook::<NoHook, _>::async_fn(Adding))?,
+        43,
+    )?;
     let hook = FnHook::<FortyTwo, _, _>::new(add_one);
-    assert_eq!(rt; created_in_two_polls(&rt, hook)?, 86);
-    Ok(())
+    expect("the value", created_in_two_polls(&rt, hook)?, 86)
 }
 
-fn refuses_odd_values<F: SyncHook<Counter> + Drop, R>(rt: &R, hook: F) -> Result<(), Fail>
+// A pool of the whole numbers with a hook.
+fn counting<F: SyncHook<Counter> + Drop, R>(
+    rt: &R,
+    max_size: usize,
+    list: List,
+    hook: F,
+) -> Result<Bench<Counter, F, NoHook>, Fail>
 where
-    R: RandomSource + AllocGlobal + Abort,
+    R: RandomSource + AllocGlobal,
     requires { F.can_call hook }
 {
-    let builder = PoolBuilder::<_, _, NoHook, _>::new(rt.alloc(), Counter::new(), ()).max_size(3);
-    let mut bench = Bench::new(
+    let builder = PoolBuilder::<_, _, NoHook, _>::new(rt.alloc(), Counter::new(), ());
+    Bench::new(
         rt,
-        with_hook(builder, List::PostCreate, Hook::sync_fn(hook))?,
-    )?;
+        with_hook(builder.max_size(max_size), list, Hook::sync_fn(hook))?,
+    )
+}
+
+// A pool for three objects with a hook that refuses odd values.
+fn refused_if_odd<F: SyncHook<Counter> + Drop, R>(rt: &R, hook: F) -> Result<(), Fail>
+where
+    R: RandomSource + AllocGlobal,
+    requires { F.can_call hook }
+{
+    refuses_odd_values(&mut counting(rt, 3, List::PostCreate, hook)?)
+}
+
+fn refuses_odd_values<F: SyncHook<Counter> + Drop>(
+    bench: &mut Bench<Counter, F, NoHook>,
+) -> Result<(), Fail> {
     for (number, value) in [(0, 0), (2, 2), (4, 4)] {
-        assert_eq!(rt; bench.object()?, number);
-        assert_eq!(rt; *bench.value(number)?, value);
+        bench.hands_out(number)?;
+        expect("the value", *bench.value(number)?, value)?;
         if number < 4 {
-            assert!(rt;
-                matches!(
-                    bench.get()?,
-                    Err(PoolError::PostCreateHook(HookError::Message(_)))
-                )
-            );
+            bench.refuses(PoolError::PostCreateHook(HookError::message("odd")))?;
         }
     }
-    assert_eq!(rt; bench.status()?, stands(3, 3, 0, 0));
-    Ok(())
+    bench.stands_at(stands(3, 3, 0, 0))
 }
 
 #[test]
@@ -170,20 +201,26 @@ fn a_hook_refuses_a_new_object(rt: HostRuntime) -> Result<(), Fail> {
         }
         Ok(())
     });
-    refuses_odd_values(&rt, hook)
+    refused_if_odd(&rt, hook)
 }
 
-// An object that comes back four times.
+// A pool with a hook, whose object comes back four times.
 fn recycled<F: SyncHook<FortyTwo> + Drop, R>(rt: &R, list: List, hook: F) -> Result<(), Fail>
 where
-    R: RandomSource + AllocGlobal + Abort,
+    R: RandomSource + AllocGlobal,
     requires { F.can_call hook }
 {
     let builder = PoolBuilder::<_, _, NoHook, _>::new(rt.alloc(), FortyTwo, ());
     let mut bench = Bench::new(rt, with_hook(builder, list, Hook::sync_fn(hook))?)?;
+    adds_one_each_time(&mut bench)
+}
+
+fn adds_one_each_time<F: SyncHook<FortyTwo> + Drop>(
+    bench: &mut Bench<FortyTwo, F, NoHook>,
+) -> Result<(), Fail> {
     for value in [42, 43, 44, 45] {
-        assert_eq!(rt; bench.object()?, 0);
-        assert_eq!(rt; *bench.value(0)?, value);
+        bench.hands_out(0)?;
+        expect("the value", *bench.value(0)?, value)?;
         bench.keep(0)?;
     }
     Ok(())
@@ -192,24 +229,33 @@ where
 #[test]
 fn hooks_see_a_recycled_object(rt: HostRuntime) -> Result<(), Fail> {
     for list in [List::PreRecycle, List::PostRecycle] {
-        recycled(&rt, list, FnHook::<FortyTwo, _, _>::new(add_one))?;
+        let hook = FnHook::<FortyTwo, _, _>::new(add_one);
+        recycled(&rt, list, hook)?;
     }
     Ok(())
 }
 
-// Six gets, each of whose objects comes back.
-fn refuses_recycled<F: SyncHook<Counter> + Drop, R>(rt: &R, list: List, hook: F) -> Result<(), Fail>
+// A pool for one object with a hook, and six gets, each of whose objects comes back.
+fn refused_when_recycled<F: SyncHook<Counter> + Drop, R>(
+    rt: &R,
+    list: List,
+    hook: F,
+) -> Result<(), Fail>
 where
-    R: RandomSource + AllocGlobal + Abort,
+    R: RandomSource + AllocGlobal,
     requires { F.can_call hook }
 {
-    let builder = PoolBuilder::<_, _, NoHook, _>::new(rt.alloc(), Counter::new(), ()).max_size(1);
-    let mut bench = Bench::new(rt, with_hook(builder, list, Hook::sync_fn(hook))?)?;
+    refuses_recycled(&mut counting(rt, 1, list, hook)?)
+}
+
+fn refuses_recycled<F: SyncHook<Counter> + Drop>(
+    bench: &mut Bench<Counter, F, NoHook>,
+) -> Result<(), Fail> {
     for value in [0, 0, 1, 1, 2, 2] {
         let number = bench.object()?;
-        assert_eq!(rt; *bench.value(number)?, value);
+        expect("the value", *bench.value(number)?, value)?;
         bench.keep(number)?;
-        assert_eq!(rt; bench.status()?, stands(1, 1, 1, 0));
+        bench.stands_at(stands(1, 1, 1, 0))?;
     }
     Ok(())
 }
@@ -225,7 +271,7 @@ fn a_hook_refuses_a_recycled_object(rt: HostRuntime) -> Result<(), Fail> {
             }
             Ok(())
         });
-        refuses_recycled(&rt, list, hook)?;
+        refused_when_recycled(&rt, list, hook)?;
     }
     Ok(())
 }
@@ -245,27 +291,38 @@ impl<'a> SyncHook<Counter> for Noting<'a> {
 
 #[test]
 fn hooks_are_shown_the_metrics_before(rt: HostRuntime) -> Result<(), Fail> {
-    for list in [List::PreRecycle, List::PostRecycle] {
-        let seen = Cell::new(None);
-        let builder = PoolBuilder::<_, _, NoHook, _>::new(rt.alloc(), Counter::new(), ());
-        let hook = Hook::sync_fn(Noting { seen: &seen });
-        let mut bench = Bench::new(&rt, with_hook(builder, list, hook)?)?;
-        for (now, want) in [
-            (3, None),
-            (7, Some((None, 0))),
-            (9, Some((Some(Moment(7)), 1))),
-            (12, Some((Some(Moment(9)), 2))),
-        ] {
-            let party = bench.start()?;
-            assert!(rt; matches!(bench.poll(party, now)?, Some(Ok(0))));
-            bench.keep(0)?;
-            let want = want.map(|(recycled, recycle_count)| Metrics {
-                created: Moment(3),
-                recycled,
-                recycle_count,
-            });
-            assert_eq!(rt; seen.get(), want, "at {now}");
-        }
+    shown_by(&rt, List::PreRecycle)?;
+    shown_by(&rt, List::PostRecycle)
+}
+
+fn shown_by<R: RandomSource + AllocGlobal>(rt: &R, list: List) -> Result<(), Fail> {
+    let seen = Cell::new(None);
+    let builder = PoolBuilder::<_, _, NoHook, _>::new(rt.alloc(), Counter::new(), ());
+    let hook = Hook::sync_fn(Noting { seen: &seen });
+    let mut bench = Bench::new(rt, with_hook(builder, list, hook)?)?;
+    notes_the_metrics_before(&mut bench, &seen)
+}
+
+// Four gets, each of whose objects comes back, and what the hook has noted after each.
+fn notes_the_metrics_before(
+    bench: &mut Bench<Counter, Noting<'_>, NoHook>,
+    seen: &Cell<Option<Metrics>>,
+) -> Result<(), Fail> {
+    for (now, want) in [
+        (3, None),
+        (7, Some((None, 0))),
+        (9, Some((Some(Moment(7)), 1))),
+        (12, Some((Some(Moment(9)), 2))),
+    ] {
+        let party = bench.start()?;
+        bench.gives(party, now, 0)?;
+        bench.keep(0)?;
+        let want = want.map(|(recycled, recycle_count)| Metrics {
+            created: Moment(3),
+            recycled,
+            recycle_count,
+        });
+        expect("at a moment", (now, seen.get()), (now, want))?;
     }
     Ok(())
 }

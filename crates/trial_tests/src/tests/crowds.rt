@@ -9,7 +9,8 @@ use std::alloc::Global;
 use std::random::RandomSource;
 use std::test::Fail;
 use test_support::bench::{Bench, new_core, stands};
-use test_support::managers::Counter;
+use test_support::expected::expect;
+use test_support::managers::{Counter, Refused};
 
 type Plain = Bench<Counter, NoHook, NoHook>;
 
@@ -26,16 +27,19 @@ fn bench<R: RandomSource + AllocGlobal>(rt: &R, max_size: usize) -> Result<Plain
 #[test]
 fn a_crowd_of_gets_waits_in_order(rt: HostRuntime) -> Result<(), Fail> {
     let mut bench = bench(&rt, 1)?;
-    assert_eq!(rt; bench.object()?, 0);
+    serves_a_crowd_in_order(&mut bench)
+}
+
+fn serves_a_crowd_in_order(bench: &mut Plain) -> Result<(), Fail> {
+    bench.hands_out(0)?;
     for waiting in 1..=CROWD {
-        assert_eq!(rt; bench.waits()?, (waiting, stands(1, 1, 0, waiting)));
+        expect("the get", bench.waits(stands(1, 1, 0, waiting))?, waiting)?;
     }
     for party in 1..=CROWD {
         bench.keep(0)?;
-        assert!(rt; matches!(bench.poll(party, 0)?, Some(Ok(0))), "{party}");
+        bench.gives(party, 0, 0)?;
     }
-    assert_eq!(rt; bench.status()?, stands(1, 1, 0, 0));
-    Ok(())
+    bench.stands_at(stands(1, 1, 0, 0))
 }
 
 // The start of a crowd of gets, and the first poll of each, as one list.
@@ -53,8 +57,17 @@ fn crowd(alloc: Global) -> Result<Vec<Move<u64>>, Fail> {
 #[test]
 fn a_crowd_of_gets_in_one_list(rt: HostRuntime) -> Result<(), Fail> {
     let mut bench = bench(&rt, CROWD / 2)?;
-    let replies = bench.run(crowd(rt.alloc())?)?;
-    assert_eq!(rt; replies.len(), 2 * CROWD);
+    has_objects_for_half(&mut bench, rt.alloc())
+}
+
+fn has_objects_for_half(bench: &mut Plain, alloc: Global) -> Result<(), Fail> {
+    let replies = bench.run(crowd(alloc)?)?;
+    serves_half_of_a_crowd(&replies)?;
+    bench.stands_at(stands(CROWD / 2, CROWD / 2, 0, CROWD / 2))
+}
+
+fn serves_half_of_a_crowd(replies: &[Reply<u64, Refused>]) -> Result<(), Fail> {
+    expect("replies", replies.len(), 2 * CROWD)?;
     for (at, reply) in replies.iter().enumerate() {
         let is_as_expected = match reply {
             Reply::Started(party) => *party == at,
@@ -62,9 +75,8 @@ fn a_crowd_of_gets_in_one_list(rt: HostRuntime) -> Result<(), Fail> {
             Reply::Pending => CROWD + CROWD / 2 <= at,
             _ => false,
         };
-        assert!(rt; is_as_expected, "at {at}");
+        expect("the reply is as expected", (at, is_as_expected), (at, true))?;
     }
-    assert_eq!(rt; bench.status()?, stands(CROWD / 2, CROWD / 2, 0, CROWD / 2));
     Ok(())
 }
 
@@ -97,33 +109,30 @@ fn fill(alloc: Global, core: &mut Core<u64>, count: usize) -> Result<(), Fail> {
             return Err(Fail::new("not kept"));
         };
     }
-    Ok(())
+    expect("the status", core.status(), stands(count, count, count, 0))
 }
 
 #[test]
 fn a_large_limit_is_filled(rt: HostRuntime) -> Result<(), Fail> {
     let mut core = new_core(rt.alloc(), LARGE, QueueMode::Fifo)?;
     fill(rt.alloc(), &mut core, LARGE)?;
-    assert_eq!(rt; core.status(), stands(LARGE, LARGE, LARGE, 0));
 
     let mut core = new_core(rt.alloc(), 1, QueueMode::Lifo)?;
     core.resize(LARGE)?;
-    fill(rt.alloc(), &mut core, LARGE)?;
-    assert_eq!(rt; core.status(), stands(LARGE, LARGE, LARGE, 0));
-    Ok(())
+    fill(rt.alloc(), &mut core, LARGE)
 }
 
 #[test]
 fn a_trial_has_a_large_limit(rt: HostRuntime) -> Result<(), Fail> {
     let mut bench = bench(&rt, LARGE)?;
-    assert_eq!(rt; bench.status()?, stands(LARGE, 0, 0, 0));
+    gets_larger_and_smaller(&mut bench)
+}
+
+fn gets_larger_and_smaller(bench: &mut Plain) -> Result<(), Fail> {
+    bench.stands_at(stands(LARGE, 0, 0, 0))?;
     for limit in [1, LARGE, 2 * LARGE] {
-        assert!(rt;
-            matches!(bench.make(Move::Resize(limit)), Reply::Done),
-            "{limit}"
-        );
-        assert_eq!(rt; bench.status()?, stands(limit, 0, 0, 0));
+        bench.does(Move::Resize(limit))?;
+        bench.stands_at(stands(limit, 0, 0, 0))?;
     }
-    assert_eq!(rt; bench.object()?, 0);
-    Ok(())
+    bench.hands_out(0)
 }

@@ -1,6 +1,7 @@
 //! Moves that ask nothing of a manager, which no contract says, and how often a get asks it.
 use deadpool::managed::{NoHook, PoolBuilder};
-use deadpool::replay::{Move, Reply};
+use deadpool::replay::Move;
+use std::alloc::Global;
 use std::random::RandomSource;
 use std::test::Fail;
 use test_support::bench::{Bench, stands};
@@ -23,12 +24,26 @@ const ONE_CREATION: (usize, usize, usize, usize) = (1, 0, 1, 0);
 fn a_new_pool_and_its_owner_ask_nothing(rt: HostRuntime) -> Result<(), Fail> {
     let calls = Calls::new();
     let mut bench = bench(&rt, &calls)?;
-    assert_eq!(rt; bench.status()?, stands(1, 0, 0, 0));
-    assert_eq!(rt; calls.counts(), (0, 0, 0, 0));
-    assert_eq!(rt; bench.object()?, 0);
-    let (waiting, status) = bench.waits()?;
-    assert_eq!(rt; status, stands(1, 1, 0, 1));
-    assert_eq!(rt; calls.counts(), ONE_CREATION);
+    asks_once(&mut bench, &calls)
+}
+
+fn asks_once(bench: &mut Counting<'_>, calls: &Calls) -> Result<(), Fail> {
+    let waiting = asks_for_one_creation(bench, calls)?;
+    asks_nothing_more(bench, calls, waiting)?;
+    bench.stands_at(stands(2, 1, 1, 0))
+}
+
+// The number of a get that waits after it.
+fn asks_for_one_creation(bench: &mut Counting<'_>, calls: &Calls) -> Result<usize, Fail> {
+    bench.stands_at(stands(1, 0, 0, 0))?;
+    calls.counts_are((0, 0, 0, 0))?;
+    bench.hands_out(0)?;
+    let waiting = bench.waits(stands(1, 1, 0, 1))?;
+    calls.counts_are(ONE_CREATION)?;
+    Ok(waiting)
+}
+
+fn asks_nothing_more(bench: &mut Counting<'_>, calls: &Calls, waiting: usize) -> Result<(), Fail> {
     for next in [
         Move::Put(0, 7),
         Move::Status,
@@ -40,48 +55,74 @@ fn a_new_pool_and_its_owner_ask_nothing(rt: HostRuntime) -> Result<(), Fail> {
         Move::Resize(2),
         Move::Back(0),
     ] {
-        let reply = bench.make(next);
-        assert!(rt; !matches!(reply, Reply::NoSuch | Reply::NoHandle | Reply::OutOfMemory));
-        assert_eq!(rt; calls.counts(), ONE_CREATION);
+        bench.allows(next)?;
+        calls.counts_are(ONE_CREATION)?;
     }
-    assert_eq!(rt; bench.status()?, stands(2, 1, 1, 0));
     Ok(())
 }
 
 #[test]
 fn idle_objects_go_unasked(rt: HostRuntime) -> Result<(), Fail> {
-    for last in [Move::Resize(0), Move::Close, Move::DropHandle] {
-        let calls = Calls::new();
-        let mut bench = bench(&rt, &calls)?;
-        bench.idle(1)?;
-        let kept = vec![in rt.alloc(); 0]?;
-        assert!(rt; matches!(bench.make(Move::Retain(kept)), Reply::Retained(_)));
-        assert_eq!(rt; calls.counts(), ONE_CREATION);
-        assert!(rt; matches!(bench.make(last), Reply::Done));
-        assert_eq!(rt; calls.counts(), ONE_CREATION);
-    }
-    Ok(())
+    go_unasked_at(&rt, Move::Resize(0))?;
+    go_unasked_at(&rt, Move::Close)?;
+    go_unasked_at(&rt, Move::DropHandle)
+}
+
+fn go_unasked_at<R: RandomSource + AllocGlobal>(rt: &R, last: Move<u64>) -> Result<(), Fail> {
+    let calls = Calls::new();
+    let mut bench = bench(rt, &calls)?;
+    goes_unasked(&mut bench, &calls, rt.alloc(), last)
+}
+
+fn goes_unasked(
+    bench: &mut Counting<'_>,
+    calls: &Calls,
+    alloc: Global,
+    last: Move<u64>,
+) -> Result<(), Fail> {
+    retains_unasked(bench, calls, alloc)?;
+    bench.does(last)?;
+    calls.counts_are(ONE_CREATION)
+}
+
+fn retains_unasked(bench: &mut Counting<'_>, calls: &Calls, alloc: Global) -> Result<(), Fail> {
+    bench.idle(1)?;
+    bench.retains(vec![in alloc; 0]?, 1)?;
+    calls.counts_are(ONE_CREATION)
 }
 
 #[test]
 fn a_served_idle_object_is_recycled_once(rt: HostRuntime) -> Result<(), Fail> {
     let calls = Calls::new();
     let mut bench = bench(&rt, &calls)?;
+    recycles_once(&mut bench, &calls)
+}
+
+fn recycles_once(bench: &mut Counting<'_>, calls: &Calls) -> Result<(), Fail> {
+    recycles_each_time(bench, calls)?;
+    recycles_once_in_three_polls(bench, calls)
+}
+
+fn recycles_each_time(bench: &mut Counting<'_>, calls: &Calls) -> Result<(), Fail> {
     for served in 0..3 {
-        assert_eq!(rt; bench.object()?, 0);
-        assert_eq!(rt; calls.counts(), (1, served, 1 + served, 0));
+        bench.hands_out(0)?;
+        calls.counts_are((1, served, 1 + served, 0))?;
         bench.keep(0)?;
-        assert_eq!(rt; calls.counts(), (1, served, 1 + served, 0));
+        calls.counts_are((1, served, 1 + served, 0))?;
     }
-    // A recycling that is pending is polled again, and not begun again.
-    calls.answers.set(false);
-    let (party, _) = bench.waits()?;
-    assert!(rt; bench.poll(party, 0)?.is_none());
-    assert_eq!(rt; calls.counts(), (1, 3, 5, 0));
-    calls.answers.set(true);
-    assert!(rt; matches!(bench.poll(party, 0)?, Some(Ok(0))));
-    // A get that has ended asks nothing.
-    assert!(rt; bench.poll(party, 0)?.is_none());
-    assert_eq!(rt; calls.counts(), (1, 3, 6, 0));
     Ok(())
+}
+
+// A recycling that is pending is polled again, and not begun again.
+fn recycles_once_in_three_polls(bench: &mut Counting<'_>, calls: &Calls) -> Result<(), Fail> {
+    calls.answers.set(false);
+    let party = bench.start()?;
+    bench.stays_pending(party, 0)?;
+    bench.stays_pending(party, 0)?;
+    calls.counts_are((1, 3, 5, 0))?;
+    calls.answers.set(true);
+    bench.gives(party, 0, 0)?;
+    // A get that has ended asks nothing.
+    bench.stays_pending(party, 0)?;
+    calls.counts_are((1, 3, 6, 0))
 }

@@ -6,6 +6,7 @@ use std::alloc::Global;
 use std::random::RandomSource;
 use std::test::Fail;
 use test_support::bench::{Bench, stands};
+use test_support::expected::expect;
 use test_support::managers::{Counter, Refused};
 
 type Plain = Bench<Counter, NoHook, NoHook>;
@@ -73,14 +74,17 @@ fn is_third_served(replies: &[CounterReply]) -> bool {
 #[test]
 fn a_list_that_waits_and_one_that_goes_on(rt: HostRuntime) -> Result<(), Fail> {
     let mut bench = bench(&rt, 1, QueueMode::Fifo)?;
-    let replies = bench.run(gets(rt.alloc(), 3)?)?;
-    assert!(rt; is_first_served(&replies));
-    assert_eq!(rt; bench.status()?, stands(1, 1, 0, 2));
+    waits_and_goes_on(&mut bench, rt.alloc())
+}
 
-    let replies = bench.run(passes_the_second_over(rt.alloc())?)?;
-    assert!(rt; is_third_served(&replies));
-    assert_eq!(rt; bench.status()?, stands(1, 1, 0, 0));
-    Ok(())
+fn waits_and_goes_on(bench: &mut Plain, alloc: Global) -> Result<(), Fail> {
+    let replies = bench.run(gets(alloc, 3)?)?;
+    expect("the first is served", is_first_served(&replies), true)?;
+    bench.stands_at(stands(1, 1, 0, 2))?;
+
+    let replies = bench.run(passes_the_second_over(alloc)?)?;
+    expect("the third is served", is_third_served(&replies), true)?;
+    bench.stands_at(stands(1, 1, 0, 0))
 }
 
 // A get starts, and two of the idle objects are kept.
@@ -109,25 +113,39 @@ fn is_served_and_taken(replies: &[CounterReply]) -> bool {
 #[test]
 fn a_list_that_retains_and_one_that_shrinks(rt: HostRuntime) -> Result<(), Fail> {
     let mut bench = bench(&rt, 4, QueueMode::Lifo)?;
+    retains_and_shrinks(&mut bench, rt.alloc())
+}
+
+fn retains_and_shrinks(bench: &mut Plain, alloc: Global) -> Result<(), Fail> {
     bench.idle(4)?;
-    let mut replies = bench.run(starts_and_retains(rt.alloc())?)?;
+    has_retained(bench.run(starts_and_retains(alloc)?)?)?;
+    let replies = bench.run(polls_and_shrinks(alloc)?)?;
+    expect(
+        "one is served and taken",
+        is_served_and_taken(&replies),
+        true,
+    )?;
+    bench.stands_at(stands(0, 0, 0, 0))
+}
+
+fn has_retained(mut replies: Vec<CounterReply>) -> Result<(), Fail> {
     let Some(Reply::Retained(result)) = replies.pop() else {
         return Err(Fail::new("not retained"));
     };
-    assert_eq!(rt; result.retained, 2);
-    assert_eq!(rt; result.removed.as_slice(), [0, 2].as_slice());
-    assert!(rt; matches!(replies.as_slice(), [Reply::Started(4)]));
-
-    let replies = bench.run(polls_and_shrinks(rt.alloc())?)?;
-    assert!(rt; is_served_and_taken(&replies));
-    assert_eq!(rt; bench.status()?, stands(0, 0, 0, 0));
-    Ok(())
+    expect("retained", result.retained, 2)?;
+    expect("removed", result.removed.as_slice(), [0, 2].as_slice())?;
+    let is_started = matches!(replies.as_slice(), [Reply::Started(4)]);
+    expect("a fifth get is started", is_started, true)
 }
 
 #[test]
 fn an_empty_list_has_no_reply(rt: HostRuntime) -> Result<(), Fail> {
     let mut bench = bench(&rt, 1, QueueMode::Fifo)?;
-    assert!(rt; bench.run(Vec::new(rt.alloc()))?.is_empty());
-    assert_eq!(rt; bench.status()?, stands(1, 0, 0, 0));
-    Ok(())
+    replies_to_nothing(&mut bench, rt.alloc())
+}
+
+fn replies_to_nothing(bench: &mut Plain, alloc: Global) -> Result<(), Fail> {
+    let replies = bench.run(Vec::new(alloc))?;
+    expect("replies", replies.len(), 0)?;
+    bench.stands_at(stands(1, 0, 0, 0))
 }
