@@ -18,7 +18,7 @@ module _ {A : Type 0} where
 pub returns-then-is_ready-clause-value : goal.returns-then-is_ready-clause-value
 returns-then-is_ready-clause-value g c =
     both c.poll_place-polled.result _ _ _ (λ a begun gives. (rw begun refl, gives)) c.poll_place-polled.ensures.begun
-      c.poll_place-polled.ensures.gives
+    c.poll_place-polled.ensures.gives
 
 pub returns-then-is_ready-clause-same : goal.returns-then-is_ready-clause-same
 returns-then-is_ready-clause-same g c = has_ended c.poll_place-polled.result _ _ c.is_ready.ensures c.if-is_ready.true
