@@ -1,5 +1,5 @@
 -- What the steps of a gate do to the state of the pool that holds it.
-use Rattle.std.proofs.Common.{◌≡◌, ℕ, Bool, ◌+◌, ◌-◌, ◌≤◌, true, [], ◌∷◌, ◌++◌, length, take, drop, refl, ◌∙◌, List, false, min, arith}
+use Rattle.std.proofs.Common.{◌≡◌, ℕ, Bool, ◌+◌, ◌-◌, ◌≤◌, true, [], ◌∷◌, ◌++◌, length, take, drop, refl, ◌∙◌, List, false, arith}
 use Rattle.std.proofs.lemmas.List.{append-nil}
 use Rattle.deadpool_parts.specs.Gate.{Line, is_due, tell_next, arrived, without_waiter, granted_tickets, waiting_tickets, untold_tickets, grant_count, IsLine}
 use Rattle.deadpool_parts.specs.Numbers.{has_number, without_number}

@@ -1,4 +1,4 @@
-use Rattle.std.proofs.Common.{◌≡◌, ◌||◌, true, false, is_some, Bool, refl}
+use Rattle.std.proofs.Common.{◌≡◌, true, false, Bool, refl}
 use Rattle.std.proofs.Math.Logic.{◌↔◌}
 use Rattle.std.specs.Bool.{IsFalse}
 use Rattle.futures.specs.Poll.{IfReady, OnPending}
