@@ -1,7 +1,7 @@
 //! A get, as a future.
 ghost use Rattle.std.specs.Prelude.{◌≡◌, ◌||◌, true, is_some, IfOk, IsSomeAnd};
 ghost use Rattle.std.specs.Option.{ForSome};
-ghost use Rattle.futures.specs.Poll.{IfReady};
+ghost use Rattle.futures.specs.Poll.{IfReady, OnPending};
 ghost use Rattle.futures.specs.Task.{Keeps};
 ghost use Rattle.deadpool_managed.specs.Held.{held_at};
 ghost use Rattle.deadpool_managed.specs.declared.desk.Holding.{Holding};
@@ -21,22 +21,21 @@ use std::mem;
 use std::sync::Wait;
 use std::sync::ledger::Ledger;
 
-// A get that has not ended. Its stake has what its stage holds; a poll takes the stake, and puts it back if the get is
-// pending.
-#[derive(Drop)]
-struct Party<
-    M: Manager + Drop,
-    F: SyncHook<M> + Drop,
-    A: AsyncHook<M> + Drop,
-    C: Clock + Drop,
-    R: Wait + Drop,
-    G: Ledger,
-    N: Ledger,
-    O: Ledger,
-> {
-    stake: Option<Stake<M, F, A, C, R, G, N, O>>,
-    progress: Progress<M, A>,
-    ghost backed: { ForSome stake (λ s. s.shares ≡ counts_of (held_at progress)) },
+// Why a get could not begin.
+#[derive(Clone, Copy, Drop)]
+enum Refusal {
+    OutOfMemory,
+    NumbersExhausted,
+}
+
+impl Refusal {
+    // As the error of a get.
+    fn error<E>(self) -> PoolError<E> {
+        match self {
+            Refusal::OutOfMemory => PoolError::OutOfMemory,
+            Refusal::NumbersExhausted => PoolError::NumbersExhausted,
+        }
+    }
 }
 
 /// A get, as a future for one object. It counts as a handle of its pool. When it is dropped it gives back what it holds,
@@ -58,14 +57,16 @@ pub struct Get<
 > {
     // None if the get could not begin.
     handle: Option<Handle<Shared<M, F, A, C, R, G, N, O>>>,
-    // None once the get has ended.
-    party: Option<Party<M, F, A, C, R, G, N, O>>,
+    // What its stage holds. None once the get has ended; a poll takes it, and puts it back if the get is pending.
+    party: Option<Stake<M, F, A, C, R, G, N, O>>,
+    progress: Progress<M, A>,
     // Those of its own, if it has any.
     timeouts: Option<Timeouts>,
     // Why it could not begin, until its first poll.
-    refusal: Option<PoolError<M::Error>>,
+    refusal: Option<Refusal>,
     listener: Listener,
     of: PhantomData<W>,
+    ghost backed: { ForSome party (λ stake. stake.shares ≡ counts_of (held_at progress)) },
 }
 
 impl<
@@ -86,18 +87,15 @@ impl<
         timeouts: Option<Timeouts>,
     ) -> Self {
         let (Ok(handle), Ok(home)) = (pool.uncounted(), pool.uncounted()) else {
-            return Get::refused(PoolError::OutOfMemory);
+            return Get::refused(Refusal::OutOfMemory);
         };
         let Some(shares) = home.begin() else {
-            return Get::refused(PoolError::NumbersExhausted);
-        };
-        let party = Party {
-            stake: Some(Stake { home, shares }),
-            progress: Progress::new(),
+            return Get::refused(Refusal::NumbersExhausted);
         };
         Get {
             handle: Some(Handle::counted(handle)),
-            party: Some(party),
+            party: Some(Stake { home, shares }),
+            progress: Progress::new(),
             timeouts,
             refusal: None,
             listener: Listener::new(),
@@ -106,12 +104,13 @@ impl<
     }
 
     // A get that has no handle and ends with its first poll.
-    fn refused(cause: PoolError<M::Error>) -> Self {
+    fn refused(refusal: Refusal) -> Self {
         Get {
             handle: None,
             party: None,
+            progress: Progress::new(),
             timeouts: None,
-            refusal: Some(cause),
+            refusal: Some(refusal),
             listener: Listener::new(),
             of: PhantomData,
         }
@@ -142,7 +141,7 @@ where
     fn poll(&mut self, cx: &mut Context<'_>) -> Poll<Self::Output> {
         let Some(handle) = &self.handle else {
             return match self.refusal.take() {
-                Some(cause) => Poll::Ready(Err(cause)),
+                Some(refusal) => Poll::Ready(Err(refusal.error())),
                 None => {
                     self.listener.listen(None, cx);
                     Poll::Pending
@@ -152,44 +151,18 @@ where
         let shared = handle.shared();
         let timeouts = self.timeouts.as_ref().unwrap_or(&shared.timeouts);
         self.listener.listen(Some(shared.lock.source()), cx);
-        let polled = poll_place(&mut self.party, timeouts, &mut self.listener, shared, cx);
-        if polled.is_ready() {
-            self.party = None;
-        }
-        polled
+        poll_party(
+            &mut self.party,
+            &mut self.progress,
+            timeouts,
+            &mut self.listener,
+            shared,
+            cx,
+        )
     }
 }
 
-// One poll, in place. One that has ended stays pending.
-fn poll_place<
-    M: Manager + Drop,
-    F: SyncHook<M> + Drop,
-    A: AsyncHook<M> + Drop,
-    C: Clock + Drop,
-    R: Wait + Drop,
-    G: Ledger,
-    N: Ledger,
-    O: Ledger,
-    W: From<Object<M, F, A, C, R, G, N, O>>,
->(
-    place: &mut Option<Party<M, F, A, C, R, G, N, O>>,
-    timeouts: &Timeouts,
-    listener: &mut Listener,
-    shared: &Shared<M, F, A, C, R, G, N, O>,
-    cx: &mut Context<'_>,
-) -> Poll<Result<W, PoolError<M::Error>>>
-    ensures begun { IfReady result (λ _. is_some place.old ≡ true) }
-    ensures stays { is_some place.new ≡ is_some place.old }
-    ensures gives { IfReady result (λ ended. IfOk ended (λ w. (o : _) × (M.is_ready o.slot.value × W.from_gives o w))) }
-    ensures kept { Keeps cx.old cx.new }
-{
-    match place {
-        Some(party) => poll_party(party, timeouts, listener, shared, cx),
-        None => Poll::Pending,
-    }
-}
-
-// One poll of a get that has not ended. Its object takes the stake, if there is one.
+// One poll. Its object takes the stake, if there is one. A get that has ended stays pending.
 fn poll_party<
     M: Manager + Drop,
     F: SyncHook<M> + Drop,
@@ -201,21 +174,21 @@ fn poll_party<
     O: Ledger,
     W: From<Object<M, F, A, C, R, G, N, O>>,
 >(
-    party: &mut Party<M, F, A, C, R, G, N, O>,
+    party: &mut Option<Stake<M, F, A, C, R, G, N, O>>,
+    progress: &mut Progress<M, A>,
     timeouts: &Timeouts,
     listener: &mut Listener,
     shared: &Shared<M, F, A, C, R, G, N, O>,
     cx: &mut Context<'_>,
 ) -> Poll<Result<W, PoolError<M::Error>>>
+    requires backed { ForSome party.old (λ stake. stake.shares ≡ counts_of (held_at progress.old)) }
+    ensures backed { ForSome party.new (λ stake. stake.shares ≡ counts_of (held_at progress.new)) }
+    ensures begun { IfReady result (λ _. is_some party.old ≡ true) }
+    ensures stays { OnPending result (is_some party.new ≡ is_some party.old) }
     ensures gives { IfReady result (λ ended. IfOk ended (λ w. (o : _) × (M.is_ready o.slot.value × W.from_gives o w))) }
     ensures kept { Keeps cx.old cx.new }
 {
-    let Party {
-        stake,
-        progress,
-        ..
-    } = party;
-    let Some(Stake { home, shares }) = stake.take() else {
+    let Some(Stake { home, shares }) = party.take() else {
         return Poll::Pending;
     };
     let mut seat = Seat::new(shared, shares, mem::replace(listener, Listener::new()));
@@ -227,7 +200,7 @@ fn poll_party<
     match turn {
         Turn::Done(ended) => Poll::Ready(give(left, ended)),
         Turn::More | Turn::Pending => {
-            *stake = Some(left);
+            *party = Some(left);
             see_to_waking(&shared.clock, progress, cx);
             Poll::Pending
         }
@@ -291,6 +264,7 @@ impl<
         let Self {
             handle,
             party,
+            progress,
             timeouts: _,
             refusal: _,
             listener: _,
@@ -299,8 +273,8 @@ impl<
         let Some(handle) = handle else {
             return;
         };
-        if let Some(party) = party {
-            leave(party, handle.shared());
+        if let Some(stake) = party {
+            leave(stake, progress, handle.shared());
         }
         drop(handle);
     }
@@ -316,15 +290,14 @@ fn leave<
     G: Ledger,
     N: Ledger,
     O: Ledger,
->(party: Party<M, F, A, C, R, G, N, O>, shared: &Shared<M, F, A, C, R, G, N, O>) {
-    let Party {
-        stake,
-        mut progress,
-        ..
-    } = party;
-    let Some(Stake { home, shares }) = stake else {
-        return;
-    };
+>(
+    stake: Stake<M, F, A, C, R, G, N, O>,
+    mut progress: Progress<M, A>,
+    shared: &Shared<M, F, A, C, R, G, N, O>,
+)
+    requires { stake.shares ≡ counts_of (held_at progress) }
+{
+    let Stake { home, shares } = stake;
     let mut seat = Seat::new(shared, shares, Listener::new());
     progress.cancel(&mut seat, &shared.environment);
     drop(home);
