@@ -8,7 +8,7 @@ use crate::line::Line;
 use crate::table::Table;
 use crate::work::{SharedWork, Work};
 use crate::zeros::{NoTime, Zeros};
-use deadpool::managed::{Get, NoHook, Object, Pool, PoolBuilder};
+use deadpool::managed::{Get, NoHook, Object, Pool, PoolBuilder, Slot, Timeouts};
 use futures::Future;
 use futures::executor::block_on;
 use futures::task::{Doorbell, Poll, Solo};
@@ -67,6 +67,9 @@ fn measure_alone<R: Host, G: Ledger, N: Ledger, O: Ledger>(
     table: Table<R>,
     pool: &ZeroPool<R, G, N, O>,
 ) -> io::Result<()> {
+    // Beside its object's slot and timeouts of its own, a get takes at most 128 bytes.
+    let places = size_of::<Option<Slot<u64>>>() + size_of::<Option<Timeouts>>();
+    prove!(size_of::<ZeroGet<R, G, N, O>>() <= 128 + places);
     let creates = Creates {
         pool: pool.clone()?,
         task: Solo::new(&table.rt, Doorbell::spinning())?,
