@@ -8,6 +8,7 @@ use deadpool_managed::{
 };
 use deadpool_parts::tables::take_out;
 use futures::task::{Doorbell, Solo};
+use std::alloc::Global;
 use std::cell::Cell;
 use std::random::RandomSource;
 use std::test::Fail;
@@ -15,15 +16,33 @@ use std::time::Duration;
 
 type Get<'a> = GetState<ScriptManager<'a>, ScriptHook<'a>>;
 
+type Surroundings<'a> = Environment<ScriptManager<'a>, NoHook, ScriptHook<'a>>;
+
 /// A pool with the gets that a script started and the objects that are out.
 #[derive(Drop)]
 pub struct Driver<'a> {
     task: Solo,
     answers: &'a Answers,
-    environment: Environment<ScriptManager<'a>, NoHook, ScriptHook<'a>>,
+    environment: Surroundings<'a>,
     pub pool: Journaled<u64>,
     gets: Vec<Option<Get<'a>>>,
     out: Vec<Slot<u64>>,
+}
+
+fn environment<'a>(alloc: Global, script: &Script, answers: &'a Answers) -> Surroundings<'a> {
+    let hook = |kind| Hook::async_fn(ScriptHook { answers, kind });
+    let mut hooks = Hooks::new(alloc);
+    let _ = hooks.add_pre_recycle(hook(Kind::PreRecycle));
+    let _ = hooks.add_post_recycle(hook(Kind::PostRecycle));
+    let _ = hooks.add_post_create(hook(Kind::PostCreate));
+    Environment {
+        manager: ScriptManager {
+            answers,
+            next: Cell::new(0),
+        },
+        hooks,
+        runtime: script.has_clock.then_some(Runtime::Clock),
+    }
 }
 
 // Keeps the objects with these numbers.
@@ -47,29 +66,18 @@ impl<'a> Driver<'a> {
         script: &Script,
         answers: &'a Answers,
     ) -> Result<Self, Fail> {
-        let hook = |kind| Hook::async_fn(ScriptHook { answers, kind });
-        let mut hooks = Hooks::new(rt.alloc());
-        let _ = hooks.add_pre_recycle(hook(Kind::PreRecycle));
-        let _ = hooks.add_post_recycle(hook(Kind::PostRecycle));
-        let _ = hooks.add_post_create(hook(Kind::PostCreate));
-        let Ok(task) = Solo::new(rt, Doorbell::spinning()) else {
-            return Err(Fail::new("no memory for a task"));
-        };
-        Ok(Driver {
-            task,
-            answers,
-            environment: Environment {
-                manager: ScriptManager {
-                    answers,
-                    next: Cell::new(0),
-                },
-                hooks,
-                runtime: script.has_clock.then_some(Runtime::Clock),
-            },
-            pool: Journaled::new(rt.alloc(), script.limit, script.mode, 100, script.min_idle)?,
-            gets: Vec::new(rt.alloc()),
-            out: Vec::new(rt.alloc()),
-        })
+        let pool = Journaled::new(rt.alloc(), script.limit, script.mode, 100, script.min_idle)?;
+        match Solo::new(rt, Doorbell::spinning()) {
+            Ok(task) => Ok(Driver {
+                task,
+                answers,
+                environment: environment(rt.alloc(), script, answers),
+                pool,
+                gets: Vec::new(rt.alloc()),
+                out: Vec::new(rt.alloc()),
+            }),
+            Err(_) => Err(Fail::new("no memory for a task")),
+        }
     }
 
     /// Does what a line says. False if the pool does not stand as it says.

@@ -45,11 +45,9 @@ impl Answers {
     /// Further answers of one kind.
     pub fn add(&self, kind: Kind, answers: &[Answer]) -> Result<(), AllocError> {
         let mut left = self.left.replace(Vec::new(self.alloc));
-        for answer in answers {
-            left.push((kind, *answer))?;
-        }
+        let added = append(&mut left, kind, answers);
         self.left.set(left);
-        Ok(())
+        added
     }
 
     // The earliest of one kind, which is taken.
@@ -75,6 +73,17 @@ impl Answers {
             }
         }
     }
+}
+
+fn append(
+    left: &mut Vec<(Kind, Answer)>,
+    kind: Kind,
+    answers: &[Answer],
+) -> Result<(), AllocError> {
+    for answer in answers {
+        left.push((kind, *answer))?;
+    }
+    Ok(())
 }
 
 /// Creates the numbers from 0 on.

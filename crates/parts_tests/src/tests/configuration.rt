@@ -1,26 +1,31 @@
 //! Configurations as they are read, written and shown.
+use super::expected::expect;
 use deadpool_parts::config::{PoolConfig, QueueMode, Timeouts};
 use deadpool_parts::errors::ConfigError;
 use serde_json::Value;
-use std::alloc::AllocError;
+use std::alloc::{AllocError, Global};
 use std::test::Fail;
 use std::time::Duration;
 
 /// What the text's value reads as.
-fn read<R: AllocGlobal>(rt: &R, text: &str) -> Result<Result<PoolConfig, ConfigError>, Fail> {
-    let value = Value::from_str(rt.alloc(), text)?;
+fn read(alloc: Global, text: &str) -> Result<Result<PoolConfig, ConfigError>, Fail> {
+    let value = Value::from_str(alloc, text)?;
     Ok(PoolConfig::from_json(&value))
 }
 
+fn reads(alloc: Global, text: &str, expected: Result<PoolConfig, ConfigError>) -> Result<(), Fail> {
+    expect(text, read(alloc, text)?, expected)
+}
+
 #[test]
-fn sizes_by_processors(rt: HostRuntime) {
-    for (count, size) in [
-        (0, 0),
-        (9223372036854775807, 18446744073709551614),
-        (9223372036854775808, 18446744073709551615),
-    ] {
-        assert_eq!(rt; PoolConfig::with_processors(count).max_size, size);
-    }
+fn sizes_by_processors(_rt: HostRuntime) -> Result<(), Fail> {
+    let counts = [0, 9223372036854775807, 9223372036854775808];
+    let found = counts.map(|count| PoolConfig::with_processors(count).max_size);
+    expect(
+        "the sizes",
+        found,
+        [0, 18446744073709551614, 18446744073709551615],
+    )
 }
 
 #[test]
@@ -55,7 +60,7 @@ fn names_the_first_fault(rt: HostRuntime) -> Result<(), Fail> {
             ConfigError::BadQueueMode,
         ),
     ] {
-        assert_eq!(rt; read(&rt, text)?, Err(fault), "at {text}");
+        reads(rt.alloc(), text, Err(fault))?;
     }
     Ok(())
 }
@@ -70,7 +75,7 @@ fn refuses_a_bad_floor(rt: HostRuntime) -> Result<(), Fail> {
         r#"{"max_size":1,"min_idle":"1"}"#,
         r#"{"max_size":1,"min_idle":18446744073709551616}"#,
     ] {
-        assert_eq!(rt; read(&rt, text)?, Err(ConfigError::BadMinIdle), "at {text}");
+        reads(rt.alloc(), text, Err(ConfigError::BadMinIdle))?;
     }
     Ok(())
 }
@@ -116,7 +121,7 @@ fn reads_configurations(rt: HostRuntime) -> Result<(), Fail> {
             },
         ),
     ] {
-        assert_eq!(rt; read(&rt, text)?, Ok(config), "at {text}");
+        reads(rt.alloc(), text, Ok(config))?;
     }
     Ok(())
 }
@@ -124,12 +129,14 @@ fn reads_configurations(rt: HostRuntime) -> Result<(), Fail> {
 #[test]
 fn writes_every_key(rt: HostRuntime) -> Result<(), Fail> {
     let text = r#"{"max_size":42,"timeouts":{"wait":{"secs":1,"nanos":0}}}"#;
-    let config = read(&rt, text)?.unwrap_or(PoolConfig::new(0));
+    let config = read(rt.alloc(), text)?.unwrap_or(PoolConfig::new(0));
     let written = config.to_json(rt.alloc()).map_err(|_| AllocError)?;
-    assert_eq!(rt;
-        written.to_string(rt.alloc())?.as_str(),
-        r#"{"max_size":42,"min_idle":0,"queue_mode":"Fifo","timeouts":{"create":null,"recycle":null,"wait":{"nanos":0,"secs":1}}}"#
-    );
-    assert_eq!(rt; PoolConfig::from_json(&written), Ok(config));
-    Ok(())
+    let shown = written.to_string(rt.alloc())?;
+    let every_key =
+        r#"{"max_size":42,"min_idle":0,"queue_mode":"Fifo","timeouts":{"create":null,"recycle":null,"wait":{"nanos":0,"secs":1}}}"#;
+    expect(
+        "what was written, and is read",
+        (shown.as_str(), PoolConfig::from_json(&written)),
+        (every_key, Ok(config)),
+    )
 }

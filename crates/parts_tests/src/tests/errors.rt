@@ -1,11 +1,12 @@
 //! The text of each error.
+use super::expected::expect;
 use deadpool_parts::errors::{
     BuildError, ConfigError, CreatePoolError, HookError, PoolError, RecycleError, RecycleResult,
     TimeoutType,
 };
-use std::alloc::AllocError;
+use std::alloc::{AllocError, Global};
 use std::fmt;
-use std::process::Abort;
+use std::test::Fail;
 
 /// A backend's own error.
 #[derive(Clone, Copy, Debug)]
@@ -35,43 +36,51 @@ fn get() -> Result<(), PoolError<Refused>> {
     Ok(())
 }
 
-fn shows<R: Abort + AllocGlobal>(
-    rt: &R,
-    error: impl fmt::Display + Drop,
-    text: &str,
-) -> Result<(), AllocError> {
-    let shown = error.to_string(rt.alloc())?;
-    assert_eq!(rt; shown.as_str(), text);
-    Ok(())
+fn shows(alloc: Global, error: impl fmt::Display + Drop, text: &str) -> Result<(), Fail> {
+    let shown = error.to_string(alloc)?;
+    expect("the text", shown.as_str(), text)
 }
 
 #[test]
-fn prints_each_error(rt: HostRuntime) -> Result<(), AllocError> {
-    let rt = &rt;
+fn prints_each_error(rt: HostRuntime) -> Result<(), Fail> {
+    prints_errors_of_a_build(rt.alloc())?;
+    prints_refusals(rt.alloc())?;
+    prints_errors_of_a_configured_pool(rt.alloc())?;
+    prints_errors_of_a_get(rt.alloc())?;
+    prints_errors_of_a_configuration(rt.alloc())
+}
+
+fn prints_errors_of_a_build(alloc: Global) -> Result<(), Fail> {
     shows(
-        rt,
+        alloc,
         BuildError::NoRuntimeSpecified,
         "Error occurred while building the pool: Timeouts require a runtime",
     )?;
     shows(
-        rt,
+        alloc,
         BuildError::from(AllocError),
         "Error occurred while building the pool: Out of memory",
-    )?;
+    )
+}
 
+fn prints_refusals(alloc: Global) -> Result<(), Fail> {
     let recycled = "Error occurred while recycling an object: refused";
-    shows(rt, RecycleError::<Refused>::message("refused"), recycled)?;
-    shows(rt, RecycleError::Backend(Refused), recycled)?;
-    shows(rt, HookError::<Refused>::message("refused"), "refused")?;
-    shows(rt, HookError::Backend(Refused), "refused")?;
+    shows(alloc, RecycleError::<Refused>::message("refused"), recycled)?;
+    shows(alloc, RecycleError::Backend(Refused), recycled)?;
+    shows(alloc, HookError::<Refused>::message("refused"), "refused")?;
+    shows(alloc, HookError::Backend(Refused), "refused")
+}
 
-    shows(rt, CreatePoolError::Config(Refused), "Config: refused")?;
+fn prints_errors_of_a_configured_pool(alloc: Global) -> Result<(), Fail> {
+    shows(alloc, CreatePoolError::Config(Refused), "Config: refused")?;
     shows(
-        rt,
+        alloc,
         CreatePoolError::<Refused>::Build(BuildError::OutOfMemory),
         "Build: Error occurred while building the pool: Out of memory",
-    )?;
+    )
+}
 
+fn prints_errors_of_a_get(alloc: Global) -> Result<(), Fail> {
     let texts = [
         (
             PoolError::Timeout(TimeoutType::Wait),
@@ -103,9 +112,12 @@ fn prints_each_error(rt: HostRuntime) -> Result<(), AllocError> {
         (PoolError::NumbersExhausted, "Object numbers are exhausted"),
     ];
     for (error, text) in texts {
-        shows(rt, error, text)?;
+        shows(alloc, error, text)?;
     }
+    Ok(())
+}
 
+fn prints_errors_of_a_configuration(alloc: Global) -> Result<(), Fail> {
     for (error, text) in [
         (ConfigError::NotAnObject, "Configuration is not an object"),
         (ConfigError::MissingMaxSize, "max_size is missing"),
@@ -121,7 +133,7 @@ fn prints_each_error(rt: HostRuntime) -> Result<(), AllocError> {
         ),
         (ConfigError::OutOfMemory, "Out of memory"),
     ] {
-        shows(rt, error, text)?;
+        shows(alloc, error, text)?;
     }
     Ok(())
 }

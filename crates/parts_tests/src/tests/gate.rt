@@ -1,221 +1,209 @@
 //! The gate, alone and beside one over a vector.
-use super::vector_gate::VectorGate;
+use super::both_gates::{Both, ticket_of};
+use super::expected::expect;
 use deadpool_parts::gate::{Ask, Entry, Gate, Ticket, Withdrawn};
-use std::alloc::Global;
-use std::process::Abort;
+use std::ops::Range;
 use std::test::Fail;
-
-fn ticket_of(entry: Entry) -> Result<Ticket, Fail> {
-    match entry {
-        Entry::Waiting(ticket) => Ok(ticket),
-        _ => Err(Fail::from("nobody was listed")),
-    }
-}
 
 #[test]
 fn the_line_is_served_in_order(rt: HostRuntime) -> Result<(), Fail> {
     let mut gate = Gate::new(rt.alloc());
-    assert_eq!(rt; gate.enter(2, false), Entry::Granted);
-    assert_eq!(rt; gate.enter(0, false), Entry::Full);
+    serves_in_order(&mut gate)
+}
+
+fn serves_in_order(gate: &mut Gate) -> Result<(), Fail> {
+    let at_once = [gate.enter(2, false), gate.enter(0, false)];
+    expect(
+        "with room, and with none",
+        at_once,
+        [Entry::Granted, Entry::Full],
+    )?;
+    let tickets = four_wait(gate)?;
+    passes_over_who_withdraws(gate, &tickets)?;
+    answers_as_they_stand(gate, &tickets)?;
+    ends_the_last(gate, &tickets)
+}
+
+type Four = (Ticket, Ticket, Ticket, Ticket);
+
+fn four_wait(gate: &mut Gate) -> Result<Four, Fail> {
     let first = ticket_of(gate.enter(0, true))?;
     let second = ticket_of(gate.enter(0, true))?;
     let third = ticket_of(gate.enter(0, true))?;
     let fourth = ticket_of(gate.enter(0, true))?;
-    assert_eq!(rt; gate.waiting(), 4);
-    assert_eq!(rt; gate.take_wake(), None);
+    expect(
+        "waiting and told",
+        (gate.waiting(), gate.take_wake()),
+        (4, None),
+    )?;
+    Ok((first, second, third, fourth))
+}
 
-    // One that withdraws is passed over.
-    assert_eq!(rt; gate.withdraw(second), Withdrawn::Waiting);
-    assert_eq!(rt; gate.withdraw(second), Withdrawn::Unknown);
-    assert_eq!(rt; gate.settle(2), 2);
-    assert_eq!(rt; gate.granted(), 2);
-    assert_eq!(rt; gate.take_wake(), Some(first));
-    assert_eq!(rt; gate.ask(fourth), Ask::Waiting);
-    assert_eq!(rt; gate.ask(first), Ask::Granted);
-    assert_eq!(rt; gate.ask(first), Ask::Unknown);
-    assert_eq!(rt; gate.withdraw(third), Withdrawn::Granted);
-    assert_eq!(rt; gate.waiting(), 1);
+// One that withdraws is passed over.
+fn passes_over_who_withdraws(gate: &mut Gate, tickets: &Four) -> Result<(), Fail> {
+    let (first, second, _, _) = *tickets;
+    let withdrawn = [gate.withdraw(second), gate.withdraw(second)];
+    let settled = (gate.settle(2), gate.granted());
+    expect(
+        "the second, the places, and the first",
+        (withdrawn, settled, gate.take_wake()),
+        (
+            [Withdrawn::Waiting, Withdrawn::Unknown],
+            (2, 2),
+            Some(first),
+        ),
+    )
+}
 
+fn answers_as_they_stand(gate: &mut Gate, tickets: &Four) -> Result<(), Fail> {
+    let (first, _, third, fourth) = *tickets;
+    let answers = [gate.ask(fourth), gate.ask(first), gate.ask(first)];
+    let withdrawn = gate.withdraw(third);
+    expect(
+        "the fourth, the first twice, and the third",
+        (answers, withdrawn, gate.waiting()),
+        (
+            [Ask::Waiting, Ask::Granted, Ask::Unknown],
+            Withdrawn::Granted,
+            1,
+        ),
+    )
+}
+
+fn ends_the_last(gate: &mut Gate, tickets: &Four) -> Result<(), Fail> {
+    let (_, _, _, fourth) = *tickets;
     gate.close();
-    assert!(rt; gate.is_closed());
-    assert_eq!(rt; gate.settle(1), 0);
-    assert_eq!(rt; gate.touched(), 0);
-    assert_eq!(rt; gate.take_wake(), Some(fourth));
-    assert_eq!(rt; gate.take_wake(), None);
-    assert_eq!(rt; gate.ask(fourth), Ask::Closed);
-    assert!(rt; gate.touched() > 0);
-    assert_eq!(rt; gate.enter(1, true), Entry::Closed);
-    Ok(())
-}
-
-// A gate and one over a vector, which are called alike. A call that walked the list would make more than four accesses.
-#[derive(Drop)]
-struct Both {
-    linked: Gate,
-    vector: VectorGate,
-    // The ticket of each arrival at the gate.
-    tickets: Vec<Ticket>,
-}
-
-impl Both {
-    fn new(alloc: Global) -> Self {
-        Both {
-            linked: Gate::new(alloc),
-            vector: VectorGate::new(alloc),
-            tickets: Vec::new(alloc),
-        }
-    }
-
-    fn join(&mut self, rt: &impl Abort) -> Result<(), Fail> {
-        let linked = ticket_of(self.linked.enter(0, true))?;
-        assert!(rt; self.linked.touched() <= 4);
-        self.tickets.push(linked)?;
-        self.vector.join()?;
-        Ok(())
-    }
-
-    fn ticket(&self, arrival: usize) -> Result<Ticket, Fail> {
-        match self.tickets.get(arrival) {
-            Some(ticket) => Ok(*ticket),
-            None => Err(Fail::from("so many did not arrive")),
-        }
-    }
-
-    fn withdraw(&mut self, arrival: usize, rt: &impl Abort) -> Result<Withdrawn, Fail> {
-        let ticket = self.ticket(arrival)?;
-        let was = self.linked.withdraw(ticket);
-        assert!(rt; self.linked.touched() <= 4);
-        assert_eq!(rt; was, self.vector.withdraw(arrival), "arrival {arrival}");
-        Ok(was)
-    }
-
-    fn ask(&mut self, arrival: usize, rt: &impl Abort) -> Result<Ask, Fail> {
-        let ticket = self.ticket(arrival)?;
-        let answer = self.linked.ask(ticket);
-        assert!(rt; self.linked.touched() <= 4);
-        assert_eq!(rt; answer, self.vector.ask(arrival), "arrival {arrival}");
-        Ok(answer)
-    }
-
-    // The next to be told is this arrival.
-    fn tell(&mut self, arrival: usize, rt: &impl Abort) -> Result<(), Fail> {
-        let ticket = self.ticket(arrival)?;
-        assert_eq!(rt; self.linked.take_wake(), Some(ticket), "arrival {arrival}");
-        assert!(rt; self.linked.touched() <= 4);
-        assert_eq!(rt; self.vector.take_wake(), Some(arrival), "arrival {arrival}");
-        Ok(())
-    }
-
-    fn tell_nobody(&mut self, rt: &impl Abort) {
-        assert_eq!(rt; self.linked.take_wake(), None);
-        assert_eq!(rt; self.vector.take_wake(), None);
-    }
-
-    fn stands(&self, granted: usize, waiting: usize, rt: &impl Abort) {
-        assert_eq!(rt; self.linked.granted(), granted);
-        assert_eq!(rt; self.vector.granted(), granted);
-        assert_eq!(rt; self.linked.waiting(), waiting);
-        assert_eq!(rt; self.vector.waiting(), waiting);
-    }
+    let settled = (gate.is_closed(), gate.settle(1), gate.touched());
+    let told = [gate.take_wake(), gate.take_wake()];
+    let answer = gate.ask(fourth);
+    let is_touched = gate.touched() > 0;
+    expect(
+        "the closed gate, who is told, and who asks and enters",
+        (settled, told, (answer, is_touched), gate.enter(1, true)),
+        (
+            (true, 0, 0),
+            [Some(fourth), None],
+            (Ask::Closed, true),
+            Entry::Closed,
+        ),
+    )
 }
 
 #[test]
 fn no_call_walks_a_long_line(rt: HostRuntime) -> Result<(), Fail> {
     let mut both = Both::new(rt.alloc());
-    for _arrival in 0..1_000 {
-        both.join(&rt)?;
-    }
-    both.stands(0, 1_000, &rt);
+    walks_no_line(&mut both)
+}
 
-    // One in the middle, the earliest, the latest, and who is the earliest after that: the second to arrive.
+fn walks_no_line(both: &mut Both) -> Result<(), Fail> {
+    withdraws_from_a_thousand(both)?;
+    grants_three_hundred(both)?;
+    tells_and_answers(both)?;
+    closes(both)
+}
+
+// One in the middle, the earliest, the latest, and who is the earliest after that: the second to arrive.
+fn withdraws_from_a_thousand(both: &mut Both) -> Result<(), Fail> {
+    both.join(1_000)?;
+    both.stands(0, 1_000)?;
     for number in [500, 0, 999, 1] {
-        assert_eq!(rt; both.withdraw(number, &rt)?, Withdrawn::Waiting);
+        both.withdraw(number, Withdrawn::Waiting)?;
     }
-    assert_eq!(rt; both.withdraw(500, &rt)?, Withdrawn::Unknown);
+    both.withdraw(500, Withdrawn::Unknown)
+}
 
-    assert_eq!(rt; both.linked.settle(300), 300);
-    assert!(rt; both.linked.touched() <= 1_200);
-    assert_eq!(rt; both.vector.settle(300), 300);
-    both.stands(300, 696, &rt);
+fn grants_three_hundred(both: &mut Both) -> Result<(), Fail> {
+    both.settle(300, 300, 1_200)?;
+    both.stands(300, 696)?;
     // The first waiting stands behind those with a place now.
-    assert_eq!(rt; both.withdraw(302, &rt)?, Withdrawn::Waiting);
-    assert_eq!(rt; both.withdraw(100, &rt)?, Withdrawn::Granted);
+    both.withdraw(302, Withdrawn::Waiting)?;
+    both.withdraw(100, Withdrawn::Granted)
+}
 
-    // Those with a place are told in order, but for one that has left.
+// Those with a place are told in order, but for one that has left.
+fn tells_and_answers(both: &mut Both) -> Result<(), Fail> {
     for number in 2..302 {
         if number != 100 {
-            both.tell(number, &rt)?;
+            both.tell(number)?;
         }
     }
-    both.tell_nobody(&rt);
-    for number in 2..302 {
-        let want = if number == 100 {
-            Ask::Unknown
-        } else {
-            Ask::Granted
-        };
-        assert_eq!(rt; both.ask(number, &rt)?, want);
-    }
-    assert_eq!(rt; both.ask(303, &rt)?, Ask::Waiting);
-    both.stands(0, 695, &rt);
+    both.tell_nobody()?;
+    answers_but_one(both, 2..302, 100, Ask::Granted)?;
+    both.ask(303, Ask::Waiting)?;
+    both.stands(0, 695)
+}
 
-    both.linked.close();
-    assert_eq!(rt; both.linked.touched(), 0);
-    both.vector.close();
-    assert_eq!(rt; both.linked.settle(1), 0);
-    assert_eq!(rt; both.linked.touched(), 0);
-    both.tell(303, &rt)?;
-    for number in 303..999 {
-        let want = if number == 500 {
-            Ask::Unknown
-        } else {
-            Ask::Closed
-        };
-        assert_eq!(rt; both.ask(number, &rt)?, want);
+// All of these have this answer, but for one that has left.
+fn answers_but_one(
+    both: &mut Both,
+    arrivals: Range<usize>,
+    left: usize,
+    answer: Ask,
+) -> Result<(), Fail> {
+    for number in arrivals {
+        let expected = if number == left { Ask::Unknown } else { answer };
+        both.ask(number, expected)?;
     }
-    both.tell_nobody(&rt);
-    both.stands(0, 0, &rt);
     Ok(())
+}
+
+fn closes(both: &mut Both) -> Result<(), Fail> {
+    both.close()?;
+    both.settle(1, 0, 0)?;
+    both.tell(303)?;
+    answers_but_one(both, 303..999, 500, Ask::Closed)?;
+    both.tell_nobody()?;
+    both.stands(0, 0)
 }
 
 #[test]
 fn a_key_that_is_given_again_stands_last(rt: HostRuntime) -> Result<(), Fail> {
     let mut both = Both::new(rt.alloc());
-    for _arrival in 0..4 {
-        both.join(&rt)?;
-    }
-    assert_eq!(rt; both.withdraw(1, &rt)?, Withdrawn::Waiting);
-    both.join(&rt)?;
-    assert_eq!(rt; both.linked.settle(4), 4);
-    assert_eq!(rt; both.vector.settle(4), 4);
+    stands_last(&mut both)
+}
+
+fn stands_last(both: &mut Both) -> Result<(), Fail> {
+    both.join(4)?;
+    both.withdraw(1, Withdrawn::Waiting)?;
+    both.join(1)?;
+    both.settle(4, 4, 16)?;
     for number in [0, 2, 3, 4] {
-        both.tell(number, &rt)?;
+        both.tell(number)?;
     }
-    both.tell_nobody(&rt);
-    Ok(())
+    both.tell_nobody()
 }
 
 // When each allocation is refused in turn, one of these entries is answered so, and comes again.
 #[test]
 fn an_entry_without_memory_leaves_the_gate_as_it_was(rt: HostRuntime) -> Result<(), Fail> {
     let mut gate = Gate::new(rt.alloc());
-    let first = match gate.enter(0, true) {
-        Entry::OutOfMemory => {
-            assert_eq!(rt; gate.waiting(), 0);
-            ticket_of(gate.enter(0, true))?
-        }
-        entry => ticket_of(entry)?,
-    };
+    stays_as_it_was(&mut gate)
+}
+
+fn stays_as_it_was(gate: &mut Gate) -> Result<(), Fail> {
+    let first = enters(gate, 0)?;
     for before in 1..100 {
-        if gate.enter(0, true) == Entry::OutOfMemory {
-            assert_eq!(rt; gate.waiting(), before);
-            assert_eq!(rt; gate.granted(), 0);
-            ticket_of(gate.enter(0, true))?;
-        }
+        enters(gate, before)?;
     }
-    assert_eq!(rt; gate.settle(100), 100);
-    assert_eq!(rt; gate.take_wake(), Some(first));
-    assert_eq!(rt; gate.ask(first), Ask::Granted);
-    assert_eq!(rt; gate.granted(), 99);
-    Ok(())
+    let settled = (gate.settle(100), gate.take_wake());
+    let answer = gate.ask(first);
+    expect(
+        "the places, who is told, and who asks",
+        (settled, answer, gate.granted()),
+        ((100, Some(first)), Ask::Granted, 99),
+    )
+}
+
+// The ticket of one more. If there is no memory for it, so many wait as before, nobody has a place, and it comes again.
+fn enters(gate: &mut Gate, before: usize) -> Result<Ticket, Fail> {
+    let entry = gate.enter(0, true);
+    if entry != Entry::OutOfMemory {
+        return ticket_of(entry);
+    }
+    expect(
+        "waiting and granted",
+        (gate.waiting(), gate.granted()),
+        (before, 0),
+    )?;
+    ticket_of(gate.enter(0, true))
 }

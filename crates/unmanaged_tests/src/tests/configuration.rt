@@ -1,25 +1,26 @@
 //! Configurations in JSON.
+use super::expected::expect;
 use deadpool_unmanaged::{ConfigError, PoolConfig, Runtime};
 use serde_json::Value;
-use std::alloc::AllocError;
+use std::alloc::{AllocError, Global};
 use std::test::Fail;
 use std::time::Duration;
 
 /// What the text's value reads as.
-fn read<R: AllocGlobal>(rt: &R, text: &str) -> Result<Result<PoolConfig, ConfigError>, Fail> {
-    let value = Value::from_str(rt.alloc(), text)?;
+fn read(alloc: Global, text: &str) -> Result<Result<PoolConfig, ConfigError>, Fail> {
+    let value = Value::from_str(alloc, text)?;
     Ok(PoolConfig::from_json(&value))
 }
 
+fn reads(alloc: Global, text: &str, expected: Result<PoolConfig, ConfigError>) -> Result<(), Fail> {
+    expect(text, read(alloc, text)?, expected)
+}
+
 #[test]
-fn sizes_by_processors(rt: HostRuntime) {
-    for (count, size) in [
-        (0, 0),
-        (9223372036854775807, 18446744073709551614),
-        (9223372036854775808, 18446744073709551615),
-    ] {
-        assert_eq!(rt; PoolConfig::with_processors(count), PoolConfig::new(size));
-    }
+fn sizes_by_processors(_rt: HostRuntime) -> Result<(), Fail> {
+    let found = [0, 9223372036854775807, 9223372036854775808].map(PoolConfig::with_processors);
+    let sizes = [0, 18446744073709551614, 18446744073709551615];
+    expect("the sizes", found, sizes.map(PoolConfig::new))
 }
 
 #[test]
@@ -34,7 +35,7 @@ fn names_the_first_fault(rt: HostRuntime) -> Result<(), Fail> {
             ConfigError::BadDuration,
         ),
     ] {
-        assert_eq!(rt; read(&rt, text)?, Err(fault), "at {text}");
+        reads(rt.alloc(), text, Err(fault))?;
     }
     Ok(())
 }
@@ -55,23 +56,30 @@ fn reads_configurations(rt: HostRuntime) -> Result<(), Fail> {
             timeout,
             ..PoolConfig::new(7)
         };
-        assert_eq!(rt; read(&rt, text)?, Ok(config), "at {text}");
+        reads(rt.alloc(), text, Ok(config))?;
     }
     Ok(())
 }
 
+// Writes what the text reads as, and reads that.
+fn reads_again(alloc: Global, text: &str) -> Result<(), Fail> {
+    let config = read(alloc, text)?.unwrap_or(PoolConfig::new(0));
+    let written = config.to_json(alloc).map_err(|_| AllocError)?;
+    let shown = written.to_string(alloc)?;
+    expect(
+        "what was written, and is read",
+        (shown.as_str(), PoolConfig::from_json(&written)),
+        (text, Ok(config)),
+    )
+}
+
 #[test]
 fn reads_what_it_wrote(rt: HostRuntime) -> Result<(), Fail> {
-    for text in [
-        r#"{"max_size":2,"timeout":null}"#,
+    reads_again(rt.alloc(), r#"{"max_size":2,"timeout":null}"#)?;
+    reads_again(
+        rt.alloc(),
         r#"{"max_size":2,"timeout":{"nanos":5,"secs":1}}"#,
-    ] {
-        let config = read(&rt, text)?.unwrap_or(PoolConfig::new(0));
-        let written = config.to_json(rt.alloc()).map_err(|_| AllocError)?;
-        assert_eq!(rt; written.to_string(rt.alloc())?.as_str(), text);
-        assert_eq!(rt; PoolConfig::from_json(&written), Ok(config));
-    }
-    Ok(())
+    )
 }
 
 #[test]
@@ -81,6 +89,9 @@ fn the_runtime_is_not_written(rt: HostRuntime) -> Result<(), Fail> {
         ..PoolConfig::new(2)
     };
     let written = config.to_json(rt.alloc()).map_err(|_| AllocError)?;
-    assert_eq!(rt; PoolConfig::from_json(&written), Ok(PoolConfig::new(2)));
-    Ok(())
+    expect(
+        "what was written",
+        PoolConfig::from_json(&written),
+        Ok(PoolConfig::new(2)),
+    )
 }

@@ -1,8 +1,15 @@
+use super::expected::expect;
 use deadpool_unmanaged::PoolError;
-use std::alloc::AllocError;
+use std::alloc::Global;
+use std::test::Fail;
+
+fn shows(alloc: Global, error: PoolError, text: &str) -> Result<(), Fail> {
+    let shown = error.to_string(alloc)?;
+    expect("the text", shown.as_str(), text)
+}
 
 #[test]
-fn each_error_has_its_text(rt: HostRuntime) -> Result<(), AllocError> {
+fn each_error_has_its_text(rt: HostRuntime) -> Result<(), Fail> {
     for (error, text) in [
         (
             PoolError::Timeout,
@@ -12,8 +19,7 @@ fn each_error_has_its_text(rt: HostRuntime) -> Result<(), AllocError> {
         (PoolError::NoRuntimeSpecified, "No runtime specified"),
         (PoolError::OutOfMemory, "Out of memory"),
     ] {
-        let shown = error.to_string(rt.alloc())?;
-        assert_eq!(rt; shown.as_str(), text);
+        shows(rt.alloc(), error, text)?;
     }
     Ok(())
 }

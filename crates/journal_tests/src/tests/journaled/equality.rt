@@ -1,4 +1,5 @@
 //! Two journals are equal only if each of their parts is.
+use crate::tests::expected::expect;
 use deadpool_journal::{Entry, Journal};
 use deadpool_managed::{
     AgainReply, CreatedReply, EnterReply, QueueMode, Removal, Removals, Serving, StepReply,
@@ -26,30 +27,63 @@ fn journal(alloc: Global) -> Result<Journal, AllocError> {
     })
 }
 
+// What is changed in a journal.
+#[derive(Clone, Copy, Debug, PartialEq, Eq)]
+enum Part {
+    Nothing,
+    Limit,
+    Mode,
+    MinIdle,
+    Mark,
+    Order,
+    LastEntry,
+}
+
+fn change(journal: &mut Journal, part: Part) {
+    match part {
+        Part::Nothing => {}
+        Part::Limit => journal.limit = 3,
+        Part::Mode => journal.mode = QueueMode::Lifo,
+        Part::MinIdle => journal.min_idle = 0,
+        Part::Mark => journal.full = true,
+        Part::Order => journal.entries.reverse(),
+        Part::LastEntry => {
+            journal.entries.pop();
+        }
+    }
+}
+
+// The change, and whether a journal that has it is like one that was not changed.
+fn compared(alloc: Global, part: Part) -> Result<(Part, bool), AllocError> {
+    let whole = journal(alloc)?;
+    let mut other = journal(alloc)?;
+    change(&mut other, part);
+    Ok((part, whole == other))
+}
+
 #[test]
 fn journals_that_differ_in_one_part_are_not_equal(rt: HostRuntime) -> Result<(), Fail> {
-    let whole = journal(rt.alloc())?;
-    assert!(rt; whole == journal(rt.alloc())?);
-
-    let mut other = journal(rt.alloc())?;
-    other.limit = 3;
-    assert!(rt; whole != other, "the limit");
-    let mut other = journal(rt.alloc())?;
-    other.mode = QueueMode::Lifo;
-    assert!(rt; whole != other, "the mode");
-    let mut other = journal(rt.alloc())?;
-    other.min_idle = 0;
-    assert!(rt; whole != other, "the least number of idle objects");
-    let mut other = journal(rt.alloc())?;
-    other.full = true;
-    assert!(rt; whole != other, "the mark");
-    let mut other = journal(rt.alloc())?;
-    other.entries.reverse();
-    assert!(rt; whole != other, "the order");
-    let mut other = journal(rt.alloc())?;
-    other.entries.pop();
-    assert!(rt; whole != other, "the last entry");
+    for part in [
+        Part::Nothing,
+        Part::Limit,
+        Part::Mode,
+        Part::MinIdle,
+        Part::Mark,
+        Part::Order,
+        Part::LastEntry,
+    ] {
+        let expected = (part, part == Part::Nothing);
+        expect("a journal", compared(rt.alloc(), part)?, expected)?;
+    }
     Ok(())
+}
+
+// Each is equal to itself, and not to the other.
+fn differ(entry: &Entry, other: &Entry) -> Result<(), Fail> {
+    if *entry == *entry && *entry != *other {
+        return Ok(());
+    }
+    Err(Fail::new(format_args!("{entry} and {other}")))
 }
 
 #[test]
@@ -79,16 +113,30 @@ fn entries_that_differ_are_not_equal(rt: HostRuntime) -> Result<(), Fail> {
             Entry::Again(None, AgainReply::Unknown),
             Entry::Again(Some(0), AgainReply::Unknown)
         ),
-        (retained(rt.alloc(), 1, 0)?, retained(rt.alloc(), 2, 0)?),
-        (retained(rt.alloc(), 1, 0)?, retained(rt.alloc(), 1, 3)?),
         (
             Entry::Retain(Ok(Removals::new(Vec::new(rt.alloc())))),
             Entry::Retain(Err(AllocError))
         ),
     ]?;
-    for (entry, other) in &pairs {
-        assert!(rt; *entry == *entry, "{entry}");
-        assert!(rt; *entry != *other, "{entry} and {other}");
+    all_differ(&pairs)
+}
+
+fn all_differ(pairs: &[(Entry, Entry)]) -> Result<(), Fail> {
+    for (entry, other) in pairs {
+        differ(entry, other)?;
     }
     Ok(())
+}
+
+#[test]
+fn retains_that_differ_are_not_equal(rt: HostRuntime) -> Result<(), Fail> {
+    differ_at(rt.alloc(), (1, 0), (2, 0))?;
+    differ_at(rt.alloc(), (1, 0), (1, 3))
+}
+
+// Each retain removed an object from this position, with this number.
+fn differ_at(alloc: Global, first: (usize, usize), second: (usize, usize)) -> Result<(), Fail> {
+    let entry = retained(alloc, first.0, first.1)?;
+    let other = retained(alloc, second.0, second.1)?;
+    differ(&entry, &other)
 }

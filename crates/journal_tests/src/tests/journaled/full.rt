@@ -1,10 +1,12 @@
 //! A journal that is full.
 use super::object;
-use deadpool_journal::Journaled;
+use crate::tests::expected::expect;
+use deadpool_journal::{Journal, Journaled, by_number};
 use deadpool_managed::{
     BackReply, CreatedReply, Desk, EnterReply, HandleReply, Held, Metrics, QueueMode, Retainer,
     Serving, StepReply, TakeReply,
 };
+use std::alloc::Global;
 use std::test::Fail;
 
 // Keeps no object.
@@ -20,60 +22,139 @@ impl Retainer<u64> for Nothing {
 }
 
 // Room for the three steps of `new`, and a step that finds none.
-fn full_journal(rt: &HostRuntime) -> Result<Journaled<u64>, Fail> {
-    let mut pool = Journaled::new(rt.alloc(), 2, QueueMode::Lifo, 3, 0)?;
-    let slot = object(&mut pool)?;
+fn full_journal(alloc: Global) -> Result<Journaled<u64>, Fail> {
+    let mut pool = Journaled::new(alloc, 2, QueueMode::Lifo, 3, 0)?;
+    fill(&mut pool)?;
+    Ok(pool)
+}
+
+fn fill(pool: &mut Journaled<u64>) -> Result<(), Fail> {
+    let slot = object(pool)?;
     pool.back(slot);
     pool.status();
-    Ok(pool)
+    Ok(())
+}
+
+fn is_full(journal: &Journal) -> Result<(), Fail> {
+    let found = (journal.full, journal.entries.len());
+    expect("the mark, and how many entries", found, (true, 3))
+}
+
+// The pool still has this journal.
+fn keeps(pool: &Journaled<u64>, journal: &Journal) -> Result<(), Fail> {
+    let now = pool.journal()?;
+    if now == *journal {
+        return Ok(());
+    }
+    Err(Fail::new(format_args!("{now}")))
 }
 
 #[test]
 fn no_step_of_a_get_changes_a_full_journal(rt: HostRuntime) -> Result<(), Fail> {
-    let mut pool = full_journal(&rt)?;
+    let mut pool = full_journal(rt.alloc())?;
     let journal = pool.journal()?;
-    assert!(rt; journal.full);
-    assert_eq!(rt; journal.entries.len(), 3);
+    gets_change_nothing(&mut pool, &journal)
+}
 
-    // Its first get takes the idle object and gives it up, then creates another in vain.
-    assert!(rt; matches!(pool.enter(true), EnterReply::Served(_)));
-    assert_eq!(rt; pool.discard(), StepReply::Done);
+fn gets_change_nothing(pool: &mut Journaled<u64>, journal: &Journal) -> Result<(), Fail> {
+    is_full(journal)?;
+    gives_up_the_idle_object(pool)?;
+    refuses_a_new_object(pool)?;
+    keeps(pool, journal)?;
+    gives_up_while_it_waits(pool)?;
+    keeps(pool, journal)
+}
+
+// A get takes the idle object and gives it up, then creates another in vain.
+fn gives_up_the_idle_object(pool: &mut Journaled<u64>) -> Result<(), Fail> {
+    let is_served = matches!(pool.enter(true), EnterReply::Served(_));
+    let discarded = pool.discard();
     pool.again(None);
-    assert_eq!(rt; pool.failed(), StepReply::Done);
-    // Its second has a new object refused.
-    assert!(rt; matches!(pool.enter(false), EnterReply::Served(_)));
-    assert!(rt; matches!(pool.created(), CreatedReply::Created(1)));
-    assert_eq!(rt; pool.refused(), StepReply::Done);
-    assert!(rt; journal == pool.journal()?);
+    expect(
+        "served, discarded and failed",
+        (is_served, discarded, pool.failed()),
+        (true, StepReply::Done, StepReply::Done),
+    )
+}
 
-    // Two are out; the next waits, asks and gives up.
-    let (_first, _second) = (object(&mut pool)?, object(&mut pool)?);
+// The second has a new object refused.
+fn refuses_a_new_object(pool: &mut Journaled<u64>) -> Result<(), Fail> {
+    let is_served = matches!(pool.enter(false), EnterReply::Served(_));
+    let created = pool.created();
+    expect(
+        "served, created and refused",
+        (is_served, created, pool.refused()),
+        (true, CreatedReply::Created(1), StepReply::Done),
+    )
+}
+
+// Two are out; the next waits, asks and gives up.
+fn gives_up_while_it_waits(pool: &mut Journaled<u64>) -> Result<(), Fail> {
+    object(pool)?;
+    object(pool)?;
     let EnterReply::Waiting(ticket) = pool.enter(true) else {
         return Err(Fail::new("not queued"));
     };
     pool.ask(ticket, false);
-    assert_eq!(rt; pool.cancel(Held::Ticket(ticket)), StepReply::Done);
-    assert!(rt; journal == pool.journal()?);
-    Ok(())
+    let cancelled = pool.cancel(Held::Ticket(ticket));
+    expect("cancelled", cancelled, StepReply::Done)
 }
 
 #[test]
 fn no_step_of_the_owner_changes_a_full_journal(rt: HostRuntime) -> Result<(), Fail> {
-    let mut pool = full_journal(&rt)?;
+    let mut pool = full_journal(rt.alloc())?;
     let journal = pool.journal()?;
-    assert!(rt; matches!(pool.enter(true), EnterReply::Served(Serving::Object(_, 0))));
-    assert!(rt; matches!(pool.take(), TakeReply::Taken { detach: true }));
-    let slot = object(&mut pool)?;
-    assert!(rt; matches!(pool.back(slot), BackReply::Kept));
-    assert_eq!(rt; pool.status().available, 1);
-    assert!(rt; pool.resize(5).is_ok());
+    the_owner_changes_nothing(&mut pool, &journal)
+}
+
+fn the_owner_changes_nothing(pool: &mut Journaled<u64>, journal: &Journal) -> Result<(), Fail> {
+    is_full(journal)?;
+    takes_the_idle_object(pool)?;
+    keeps_a_new_object(pool)?;
+    grows_and_retains_nothing(pool)?;
+    counts_handles_and_closes(pool)?;
+    keeps(pool, journal)
+}
+
+fn takes_the_idle_object(pool: &mut Journaled<u64>) -> Result<(), Fail> {
+    let entered = by_number::entering(&pool.enter(true));
+    expect(
+        "entered and taken",
+        (entered, pool.take()),
+        (
+            EnterReply::Served(Serving::Object(0, 0)),
+            TakeReply::Taken { detach: true },
+        ),
+    )
+}
+
+fn keeps_a_new_object(pool: &mut Journaled<u64>) -> Result<(), Fail> {
+    let slot = object(pool)?;
+    let back = by_number::coming_back(&pool.back(slot));
+    expect(
+        "what came back, and how many are available",
+        (back, pool.status().available),
+        (BackReply::Kept, 1),
+    )
+}
+
+fn grows_and_retains_nothing(pool: &mut Journaled<u64>) -> Result<(), Fail> {
+    let resized = pool.resize(5);
     let result = pool.retain(&mut Nothing)?;
-    assert_eq!(rt; (result.retained, result.removed.len()), (0, 1));
-    assert_eq!(rt; pool.clone_handle(), HandleReply::Done);
-    assert_eq!(rt; pool.drop_handle(), HandleReply::Done);
-    assert!(rt; pool.upgrade());
+    expect(
+        "resized, retained and removed",
+        (resized, result.retained, result.removed.len()),
+        (Ok(()), 0, 1),
+    )
+}
+
+fn counts_handles_and_closes(pool: &mut Journaled<u64>) -> Result<(), Fail> {
+    let handles = [pool.clone_handle(), pool.drop_handle()];
+    let is_upgraded = pool.upgrade();
     pool.close();
-    assert!(rt; pool.is_closed());
-    assert!(rt; journal == pool.journal()?);
-    Ok(())
+    expect(
+        "the handles, upgraded and closed",
+        (handles, is_upgraded, pool.is_closed()),
+        ([HandleReply::Done, HandleReply::Done], true, true),
+    )
 }

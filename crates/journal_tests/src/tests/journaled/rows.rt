@@ -1,8 +1,10 @@
 //! The journal of a get that creates an object, which comes back: with more room than its six steps take, with just enough,
 //! with too little, and with none.
 use super::object;
-use deadpool_journal::Journaled;
+use crate::tests::expected::expect;
+use deadpool_journal::{Journal, Journaled, by_number};
 use deadpool_managed::{BackReply, Desk, QueueMode};
+use std::alloc::Global;
 use std::test::Fail;
 
 // The get has a handle of the pool, from before it enters until it has its object.
@@ -10,11 +12,25 @@ fn get_and_return(pool: &mut Journaled<u64>) -> Result<(), Fail> {
     pool.clone_handle();
     let slot = object(pool)?;
     pool.drop_handle();
-    let BackReply::Kept = pool.back(slot) else {
-        return Err(Fail::new("not kept"));
-    };
+    let back = by_number::coming_back(&pool.back(slot));
     pool.status();
-    Ok(())
+    expect("what came back", back, BackReply::Kept)
+}
+
+// The journal of the pool with room for so many entries.
+fn journal_with(alloc: Global, room: usize) -> Result<Journal, Fail> {
+    let mut pool = Journaled::new(alloc, 1, QueueMode::Fifo, room, 0)?;
+    get_and_return(&mut pool)?;
+    Ok(pool.journal()?)
+}
+
+fn has_text(alloc: Global, room: usize, text: &str) -> Result<(), Fail> {
+    let shown = journal_with(alloc, room)?.to_string(alloc)?;
+    expect(
+        "the room, and the text",
+        (room, shown.as_str()),
+        (room, text),
+    )
 }
 
 #[test]
@@ -25,14 +41,7 @@ fn a_journal_has_as_many_entries_as_there_is_room_for(rt: HostRuntime) -> Result
         "opened 1 fifo 0\nclone_handle done\nenter create\ncreated 0\ndrop_handle done\nback 0 kept\nfull";
     let none = "opened 1 fifo 0\nfull";
     for (room, text) in [(16, whole), (6, whole), (5, five), (0, none)] {
-        let mut pool = Journaled::new(rt.alloc(), 1, QueueMode::Fifo, room, 0)?;
-        get_and_return(&mut pool)?;
-        let journal = pool.journal()?;
-        assert_eq!(rt;
-            journal.to_string(rt.alloc())?.as_str(),
-            text,
-            "with room for {room}"
-        );
+        has_text(rt.alloc(), room, text)?;
     }
     Ok(())
 }
@@ -42,11 +51,21 @@ fn two_copies_are_equal_until_a_step_is_made(rt: HostRuntime) -> Result<(), Fail
     let mut pool = Journaled::new(rt.alloc(), 1, QueueMode::Fifo, 8, 0)?;
     get_and_return(&mut pool)?;
     let journal = pool.journal()?;
-    assert!(rt; journal == pool.journal()?);
-    assert!(rt; pool.take_wake().is_none());
-    assert!(rt; !pool.is_closed());
-    assert!(rt; journal == pool.journal()?);
+    is_equal_until_a_step(&mut pool, &journal)
+}
+
+fn is_equal_until_a_step(pool: &mut Journaled<u64>, journal: &Journal) -> Result<(), Fail> {
+    let before = has(pool, journal)?;
+    let told = (pool.take_wake(), pool.is_closed());
+    let after = has(pool, journal)?;
     pool.status();
-    assert!(rt; journal != pool.journal()?);
-    Ok(())
+    expect(
+        "before and after it is told, and after a step",
+        (before, told, after, has(pool, journal)?),
+        (true, (None, false), true, false),
+    )
+}
+
+fn has(pool: &Journaled<u64>, journal: &Journal) -> Result<bool, Fail> {
+    Ok(*journal == pool.journal()?)
 }

@@ -1,4 +1,5 @@
 //! The text of an entry of each kind, with each reply.
+use crate::tests::expected::expect;
 use deadpool_journal::{Entry, Journal, Journaled};
 use deadpool_managed::gate::Ticket;
 use deadpool_managed::{
@@ -8,8 +9,8 @@ use deadpool_managed::{
 use std::alloc::{AllocError, Global};
 use std::test::Fail;
 
-// The text of a journal with these entries.
-fn text_of(alloc: Global, entries: Vec<Entry>) -> Result<String, AllocError> {
+// A journal with these entries has this text.
+fn has_text(alloc: Global, entries: Vec<Entry>, text: &str) -> Result<(), Fail> {
     let journal = Journal {
         limit: 3,
         mode: QueueMode::Lifo,
@@ -17,7 +18,8 @@ fn text_of(alloc: Global, entries: Vec<Entry>) -> Result<String, AllocError> {
         entries,
         full: false,
     };
-    journal.to_string(alloc)
+    let shown = journal.to_string(alloc)?;
+    expect("the text", shown.as_str(), text)
 }
 
 // A ticket, whose number is 0: nobody else waits.
@@ -41,6 +43,7 @@ enter out_of_memory";
 
 #[test]
 fn new_gets(rt: HostRuntime) -> Result<(), Fail> {
+    let ticket = ticket(rt.alloc())?;
     let entries = vec![in rt.alloc();
         Entry::Enter(true, EnterReply::Served(Serving::Object(4, 2))),
         Entry::Enter(true, EnterReply::Served(Serving::Create)),
@@ -48,11 +51,10 @@ fn new_gets(rt: HostRuntime) -> Result<(), Fail> {
         Entry::Enter(true, EnterReply::Served(Serving::Exhausted)),
         Entry::Enter(true, EnterReply::Closed),
         Entry::Enter(false, EnterReply::Full),
-        Entry::Enter(true, EnterReply::Waiting(ticket(rt.alloc())?)),
+        Entry::Enter(true, EnterReply::Waiting(ticket)),
         Entry::Enter(true, EnterReply::OutOfMemory),
     ]?;
-    assert_eq!(rt; text_of(rt.alloc(), entries)?.as_str(), ENTERED);
-    Ok(())
+    has_text(rt.alloc(), entries, ENTERED)
 }
 
 const ASKED: &str = "opened 3 lifo 2
@@ -78,8 +80,7 @@ fn gets_that_ask_or_go_on(rt: HostRuntime) -> Result<(), Fail> {
         Entry::Again(Some(0), AgainReply::Served(Serving::Going)),
         Entry::Again(Some(3), AgainReply::Unknown),
     ]?;
-    assert_eq!(rt; text_of(rt.alloc(), entries)?.as_str(), ASKED);
-    Ok(())
+    has_text(rt.alloc(), entries, ASKED)
 }
 
 const PREPARED: &str = "opened 3 lifo 2
@@ -104,8 +105,7 @@ fn creations_and_preparations(rt: HostRuntime) -> Result<(), Fail> {
         Entry::Refused(StepReply::Done),
         Entry::Refused(StepReply::Unknown),
     ]?;
-    assert_eq!(rt; text_of(rt.alloc(), entries)?.as_str(), PREPARED);
-    Ok(())
+    has_text(rt.alloc(), entries, PREPARED)
 }
 
 const GIVEN_BACK: &str = "opened 3 lifo 2
@@ -123,12 +123,13 @@ take unknown";
 
 #[test]
 fn what_is_given_back(rt: HostRuntime) -> Result<(), Fail> {
+    let ticket = ticket(rt.alloc())?;
     let entries = vec![in rt.alloc();
         Entry::Back(5, BackReply::Kept),
         Entry::Back(5, BackReply::Detach(5)),
         Entry::Back(5, BackReply::Dropped(5)),
         Entry::Back(5, BackReply::Unknown(5)),
-        Entry::Cancel(Held::Ticket(ticket(rt.alloc())?), StepReply::Done),
+        Entry::Cancel(Held::Ticket(ticket), StepReply::Done),
         Entry::Cancel(Held::Place, StepReply::Unknown),
         Entry::Cancel(Held::Creation, StepReply::Done),
         Entry::Cancel(Held::Object, StepReply::Unknown),
@@ -136,8 +137,7 @@ fn what_is_given_back(rt: HostRuntime) -> Result<(), Fail> {
         Entry::Take(TakeReply::Taken { detach: false }),
         Entry::Take(TakeReply::Unknown),
     ]?;
-    assert_eq!(rt; text_of(rt.alloc(), entries)?.as_str(), GIVEN_BACK);
-    Ok(())
+    has_text(rt.alloc(), entries, GIVEN_BACK)
 }
 
 const OWNED: &str = "opened 3 lifo 2
@@ -176,8 +176,7 @@ fn steps_of_the_owner(rt: HostRuntime) -> Result<(), Fail> {
         Entry::Retain(Err(AllocError)),
         Entry::Close,
     ]?;
-    assert_eq!(rt; text_of(rt.alloc(), entries)?.as_str(), OWNED);
-    Ok(())
+    has_text(rt.alloc(), entries, OWNED)
 }
 
 const HANDLES: &str = "opened 3 lifo 2
@@ -198,6 +197,5 @@ fn steps_on_handles(rt: HostRuntime) -> Result<(), Fail> {
         Entry::Upgrade(true),
         Entry::Upgrade(false),
     ]?;
-    assert_eq!(rt; text_of(rt.alloc(), entries)?.as_str(), HANDLES);
-    Ok(())
+    has_text(rt.alloc(), entries, HANDLES)
 }

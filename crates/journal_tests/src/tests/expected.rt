@@ -1,0 +1,11 @@
+//! What was expected, and what was found in its place.
+use std::fmt::Debug;
+use std::test::Fail;
+
+/// Fails unless both values are the same.
+pub fn expect<T: PartialEq + Debug + Drop>(what: &str, found: T, expected: T) -> Result<(), Fail> {
+    if found == expected {
+        return Ok(());
+    }
+    Err(Fail::new(format_args!("{what}: found {found:?}, expected {expected:?}")))
+}
