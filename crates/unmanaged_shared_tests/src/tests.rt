@@ -13,8 +13,10 @@ mod trials;
 mod waking;
 
 use deadpool_unmanaged::Status;
+use std::fmt::Debug;
 use std::random::RandomSource;
 use std::sync::Wait;
+use std::test::Fail;
 
 /// What the tests need of a runtime.
 pub trait Host: Wait + RandomSource + AllocGlobal + Copy + Drop + Send + Sync {}
@@ -29,4 +31,12 @@ pub fn stands(max_size: usize, size: usize, available: usize, waiting: usize) ->
         available,
         waiting,
     }
+}
+
+/// Fails unless both values are the same.
+pub fn expect<T: PartialEq + Debug + Drop>(what: &str, found: T, expected: T) -> Result<(), Fail> {
+    if found == expected {
+        return Ok(());
+    }
+    Err(Fail::new(format_args!("{what}: found {found:?}, expected {expected:?}")))
 }

@@ -1,8 +1,8 @@
 //! Each call of a pool.
 use super::clock::{Still, Watch};
-use super::{Host, stands};
+use super::{Host, expect, stands};
 use deadpool_unmanaged::{Moment, PoolConfig, PoolError, Runtime};
-use deadpool_unmanaged_shared::{Object, Pool};
+use deadpool_unmanaged_shared::{Add, Get, Object, Pool, Remove};
 use futures::task::Poll;
 use futures::test::MockTask;
 use std::alloc::AllocError;
@@ -11,171 +11,278 @@ use std::time::Duration;
 
 type Numbers<R> = Pool<u64, Still, R>;
 
+type Watching<R> = Pool<u64, Watch, R>;
+
 fn numbers<R: Host>(rt: R, max_size: usize) -> Result<Numbers<R>, Fail> {
     Ok(Pool::new(rt.alloc(), max_size, Still, rt)?)
 }
 
-// An add that ends in its first poll.
-fn adds<R: Host>(rt: R, pool: &Numbers<R>, value: u64) -> Result<bool, Fail> {
-    let task = MockTask::new(&rt)?;
-    Ok(matches!(task.poll(&mut pool.add(value)), Poll::Ready(Ok(()))))
+// Whether an add ends in its first poll.
+fn adds<R: Host>(task: &MockTask, pool: &Numbers<R>, value: u64) -> bool {
+    is_added(task.poll(&mut pool.add(value)))
+}
+
+fn is_added(polled: Poll<Result<(), (u64, PoolError)>>) -> bool {
+    matches!(polled, Poll::Ready(Ok(())))
 }
 
 // What a removal gives in its first poll.
-fn removes<R: Host>(rt: R, pool: &Numbers<R>, wait: Option<Duration>) -> Result<Option<u64>, Fail> {
-    let task = MockTask::new(&rt)?;
-    match task.poll(&mut pool.timeout_remove(wait)) {
-        Poll::Ready(Ok(value)) => Ok(Some(value)),
-        _ => Ok(None),
+fn removes<R: Host>(task: &MockTask, pool: &Numbers<R>, wait: Option<Duration>) -> Option<u64> {
+    removed(task.poll(&mut pool.timeout_remove(wait)))
+}
+
+fn removed(polled: Poll<Result<u64, PoolError>>) -> Option<u64> {
+    match polled {
+        Poll::Ready(Ok(value)) => Some(value),
+        _ => None,
     }
 }
 
 // What a get comes to in its first poll, if it gives no object.
-fn fails<R: Host>(
-    rt: R,
-    pool: &Numbers<R>,
-    wait: Option<Duration>,
-) -> Result<Option<PoolError>, Fail> {
-    let task = MockTask::new(&rt)?;
-    match task.poll(&mut pool.timeout_get(wait)) {
-        Poll::Ready(Err(cause)) => Ok(Some(cause)),
-        _ => Ok(None),
+fn fails<R: Host>(task: &MockTask, pool: &Numbers<R>, wait: Option<Duration>) -> Option<PoolError> {
+    cause_of(&task.poll(&mut pool.timeout_get(wait)))
+}
+
+fn cause_of<T>(polled: &Poll<Result<T, PoolError>>) -> Option<PoolError> {
+    match polled {
+        Poll::Ready(Err(cause)) => Some(*cause),
+        _ => None,
     }
 }
 
 #[test]
 fn gets_empty_a_pool(rt: HostRuntime) -> Result<(), Fail> {
     let pool = Pool::from_items(rt.alloc(), [11u64, 12, 13].into_iter(), Still, rt)?;
-    let mut kept = Vec::new(rt.alloc());
-    assert_eq!(rt; pool.status(), stands(3, 3, 3, 0));
+    is_emptied(&pool, &mut Vec::new(rt.alloc()))
+}
+
+fn is_emptied<R: Host>(
+    pool: &Numbers<R>,
+    kept: &mut Vec<Object<u64, Still, R>>,
+) -> Result<(), Fail> {
+    expect("the status", pool.status(), stands(3, 3, 3, 0))?;
     for (value, available) in [(13, 2), (12, 1), (11, 0)] {
-        let object = pool.try_get()?;
-        assert_eq!(rt; *object, value);
-        kept.push(object)?;
-        assert_eq!(rt; pool.status(), stands(3, 3, available, 0));
+        expect("the object", get_and_keep(pool, kept)?, value)?;
+        expect("the status", pool.status(), stands(3, 3, available, 0))?;
     }
     Ok(())
+}
+
+// What the object is that a get gives.
+fn get_and_keep<R: Host>(
+    pool: &Numbers<R>,
+    kept: &mut Vec<Object<u64, Still, R>>,
+) -> Result<u64, Fail> {
+    let object = pool.try_get()?;
+    let value = *object;
+    kept.push(object)?;
+    Ok(value)
 }
 
 #[test]
 fn a_closed_pool_refuses_all(rt: HostRuntime) -> Result<(), Fail> {
-    let pool = numbers(rt, 1)?;
-    assert!(rt; adds(rt, &pool, 7)?);
-    let object = pool.try_get()?;
     let task = MockTask::new(&rt)?;
-    let mut waits = pool.get();
-    assert!(rt; task.poll(&mut waits).is_pending());
-    assert!(rt; !pool.is_closed());
-    assert_eq!(rt; pool.status(), stands(1, 1, 0, 1));
-    pool.close();
-    assert!(rt; pool.is_closed());
-    assert!(rt; matches!(task.poll(&mut waits), Poll::Ready(Err(PoolError::Closed))));
-    for wait in [None, Some(Duration::ZERO)] {
-        assert_eq!(rt; fails(rt, &pool, wait)?, Some(PoolError::Closed));
-    }
-    assert!(rt; matches!(pool.try_get(), Err(PoolError::Closed)));
-    assert_eq!(rt; pool.try_add(8), Err((8, PoolError::Closed)));
-    assert_eq!(rt; pool.status(), stands(1, 1, 0, 0));
+    refuses_all_once_closed(&task, &numbers(rt, 1)?)
+}
+
+// One object is out, and a get waits.
+fn refuses_all_once_closed<R: Host>(task: &MockTask, pool: &Numbers<R>) -> Result<(), Fail> {
+    expect("the add ends", adds(task, pool, 7), true)?;
+    let object = pool.try_get()?;
+    is_closed_while_it_waits(task, pool, &mut pool.get())?;
+    refuses_gets_and_adds(task, pool)?;
     drop(object);
-    assert!(rt; pool.is_closed());
-    assert!(rt; matches!(pool.try_get(), Err(PoolError::Closed)));
-    assert_eq!(rt; pool.try_remove(), Err(PoolError::Closed));
-    assert_eq!(rt; pool.status(), stands(1, 0, 0, 0));
-    Ok(())
+    refuses_what_came_back(pool)
+}
+
+fn is_closed_while_it_waits<R: Host>(
+    task: &MockTask,
+    pool: &Numbers<R>,
+    waits: &mut Get<u64, Still, R>,
+) -> Result<(), Fail> {
+    expect("pending", task.poll(waits).is_pending(), true)?;
+    expect("closed", pool.is_closed(), false)?;
+    expect("the status", pool.status(), stands(1, 1, 0, 1))?;
+    pool.close();
+    expect("closed", pool.is_closed(), true)?;
+    expect(
+        "the get",
+        cause_of(&task.poll(waits)),
+        Some(PoolError::Closed),
+    )
+}
+
+fn refuses_gets_and_adds<R: Host>(task: &MockTask, pool: &Numbers<R>) -> Result<(), Fail> {
+    let closed = Some(PoolError::Closed);
+    expect("a get", fails(task, pool, None), closed)?;
+    expect("a get", fails(task, pool, Some(Duration::ZERO)), closed)?;
+    expect("a get", pool.try_get().err(), closed)?;
+    expect("an add", pool.try_add(8), Err((8, PoolError::Closed)))?;
+    expect("the status", pool.status(), stands(1, 1, 0, 0))
+}
+
+fn refuses_what_came_back<R: Host>(pool: &Numbers<R>) -> Result<(), Fail> {
+    expect("closed", pool.is_closed(), true)?;
+    expect("a get", pool.try_get().err(), Some(PoolError::Closed))?;
+    expect("a removal", pool.try_remove(), Err(PoolError::Closed))?;
+    expect("the status", pool.status(), stands(1, 0, 0, 0))
 }
 
 #[test]
 fn adds_and_removals(rt: HostRuntime) -> Result<(), Fail> {
-    let pool = numbers(rt, 2)?;
-    for (value, size) in [(1, 1), (2, 2)] {
-        assert!(rt; adds(rt, &pool, value)?);
-        assert_eq!(rt; pool.status().size, size);
-    }
+    let task = MockTask::new(&rt)?;
+    adds_and_removes(&task, &numbers(rt, 2)?)
+}
+
+fn adds_and_removes<R: Host>(task: &MockTask, pool: &Numbers<R>) -> Result<(), Fail> {
+    add(task, pool, 1, true, 1)?;
+    add(task, pool, 2, true, 2)?;
     // The third is pending, and is dropped.
-    assert!(rt; !adds(rt, &pool, 3)?);
-    assert_eq!(rt; pool.status().size, 2);
-    assert_eq!(rt; removes(rt, &pool, None)?, Some(2));
-    assert_eq!(rt; pool.status().size, 1);
-    assert!(rt; adds(rt, &pool, 3)?);
-    assert_eq!(rt; pool.status().size, 2);
-    for (value, size) in [(3, 1), (1, 0)] {
-        assert_eq!(rt; removes(rt, &pool, None)?, Some(value));
-        assert_eq!(rt; pool.status().size, size);
-    }
-    Ok(())
+    add(task, pool, 3, false, 2)?;
+    remove(task, pool, 2, 1)?;
+    add(task, pool, 3, true, 2)?;
+    remove(task, pool, 3, 1)?;
+    remove(task, pool, 1, 0)
+}
+
+// Whether an add ends in its first poll, and how many objects there are then.
+fn add<R: Host>(
+    task: &MockTask,
+    pool: &Numbers<R>,
+    value: u64,
+    ends: bool,
+    size: usize,
+) -> Result<(), Fail> {
+    expect("the add ends", adds(task, pool, value), ends)?;
+    expect("the size", pool.status().size, size)
+}
+
+// What a removal gives in its first poll, and how many objects there are then.
+fn remove<R: Host>(
+    task: &MockTask,
+    pool: &Numbers<R>,
+    value: u64,
+    size: usize,
+) -> Result<(), Fail> {
+    expect("the removal", removes(task, pool, None), Some(value))?;
+    expect("the size", pool.status().size, size)
 }
 
 #[test]
 fn adds_and_removals_that_do_not_wait(rt: HostRuntime) -> Result<(), Fail> {
-    let pool = numbers(rt, 2)?;
-    for (value, size) in [(1, 1), (2, 2)] {
-        assert_eq!(rt; pool.try_add(value), Ok(()));
-        assert_eq!(rt; pool.status().size, size);
-    }
-    assert_eq!(rt; pool.try_add(3), Err((3, PoolError::Timeout)));
-    assert_eq!(rt; pool.status().size, 2);
-    assert_eq!(rt; pool.try_remove(), Ok(2));
-    assert_eq!(rt; pool.status().size, 1);
-    assert_eq!(rt; pool.try_add(3), Ok(()));
-    assert_eq!(rt; pool.status().size, 2);
-    for (value, size) in [(3, 1), (1, 0)] {
-        assert_eq!(rt; pool.try_remove(), Ok(value));
-        assert_eq!(rt; pool.status().size, size);
-    }
-    assert_eq!(rt; pool.try_remove(), Err(PoolError::Timeout));
-    Ok(())
+    adds_and_removes_at_once(&numbers(rt, 2)?)
+}
+
+fn adds_and_removes_at_once<R: Host>(pool: &Numbers<R>) -> Result<(), Fail> {
+    add_at_once(pool, 1, Ok(()), 1)?;
+    add_at_once(pool, 2, Ok(()), 2)?;
+    add_at_once(pool, 3, Err((3, PoolError::Timeout)), 2)?;
+    remove_at_once(pool, Ok(2), 1)?;
+    add_at_once(pool, 3, Ok(()), 2)?;
+    remove_at_once(pool, Ok(3), 1)?;
+    remove_at_once(pool, Ok(1), 0)?;
+    remove_at_once(pool, Err(PoolError::Timeout), 0)
+}
+
+fn add_at_once<R: Host>(
+    pool: &Numbers<R>,
+    value: u64,
+    reply: Result<(), (u64, PoolError)>,
+    size: usize,
+) -> Result<(), Fail> {
+    expect("the add", pool.try_add(value), reply)?;
+    expect("the size", pool.status().size, size)
+}
+
+fn remove_at_once<R: Host>(
+    pool: &Numbers<R>,
+    reply: Result<u64, PoolError>,
+    size: usize,
+) -> Result<(), Fail> {
+    expect("the removal", pool.try_remove(), reply)?;
+    expect("the size", pool.status().size, size)
 }
 
 #[test]
 fn an_add_waits_for_room(rt: HostRuntime) -> Result<(), Fail> {
-    let pool = Pool::from_items(rt.alloc(), [1u64].into_iter(), Still, rt)?;
     let task = MockTask::new(&rt)?;
-    let mut add = pool.add(2);
-    assert!(rt; task.poll(&mut add).is_pending());
-    assert_eq!(rt; pool.try_remove(), Ok(1));
-    assert!(rt; matches!(task.poll(&mut add), Poll::Ready(Ok(()))));
-    assert!(rt; task.poll(&mut add).is_pending());
-    assert_eq!(rt; pool.status().size, 1);
-    assert_eq!(rt; pool.try_remove(), Ok(2));
-    Ok(())
+    let pool = Pool::from_items(rt.alloc(), [1u64].into_iter(), Still, rt)?;
+    adds_when_there_is_room(&task, &pool, &mut pool.add(2))
+}
+
+fn adds_when_there_is_room<R: Host>(
+    task: &MockTask,
+    pool: &Numbers<R>,
+    add: &mut Add<u64, Still, R>,
+) -> Result<(), Fail> {
+    expect("pending", task.poll(add).is_pending(), true)?;
+    expect("a removal", pool.try_remove(), Ok(1))?;
+    expect("added", is_added(task.poll(add)), true)?;
+    expect("pending", task.poll(add).is_pending(), true)?;
+    expect("the size", pool.status().size, 1)?;
+    expect("a removal", pool.try_remove(), Ok(2))
 }
 
 #[test]
 fn a_clone_of_a_pool_of_one_item(rt: HostRuntime) -> Result<(), Fail> {
+    let task = MockTask::new(&rt)?;
     let first = Pool::from_items(rt.alloc(), [7u64].into_iter(), Still, rt)?;
     let pool = first.clone()?;
     drop(first);
-    assert_eq!(rt; removes(rt, &pool, Some(Duration::ZERO))?, Some(7));
-    assert!(rt; adds(rt, &pool, 8)?);
-    let task = MockTask::new(&rt)?;
-    assert_eq!(rt; task.poll(&mut pool.remove()), Poll::Ready(Ok(8)));
-    assert_eq!(rt; pool.status(), stands(1, 0, 0, 0));
-    Ok(())
+    hands_its_item_over(&task, &pool)
+}
+
+fn hands_its_item_over<R: Host>(task: &MockTask, pool: &Numbers<R>) -> Result<(), Fail> {
+    expect(
+        "a removal",
+        removes(task, pool, Some(Duration::ZERO)),
+        Some(7),
+    )?;
+    expect("the add ends", adds(task, pool, 8), true)?;
+    let value = removed(task.poll(&mut pool.remove()));
+    expect("a removal", value, Some(8))?;
+    expect("the status", pool.status(), stands(1, 0, 0, 0))
 }
 
 #[test]
 fn an_object_is_written_to(rt: HostRuntime) -> Result<(), Fail> {
     let pool: Numbers<_> = Pool::with_processors(rt.alloc(), 2, Still, rt)?;
-    assert_eq!(rt; pool.status(), stands(4, 0, 0, 0));
-    assert_eq!(rt; pool.try_add(40), Ok(()));
+    is_written_to(&pool)
+}
+
+fn is_written_to<R: Host>(pool: &Numbers<R>) -> Result<(), Fail> {
+    expect("the status", pool.status(), stands(4, 0, 0, 0))?;
+    expect("the add", pool.try_add(40), Ok(()))?;
+    writes(pool, 41)?;
+    expect("read and taken", writes_and_takes(pool, 42)?, (41, 42))?;
+    expect("the status", pool.status(), stands(4, 0, 0, 0))
+}
+
+fn writes<R: Host>(pool: &Numbers<R>, value: u64) -> Result<(), Fail> {
     let mut object = pool.try_get()?;
-    *object = 41;
-    drop(object);
-    let mut object = pool.try_get()?;
-    assert_eq!(rt; *object, 41);
-    *object = 42;
-    assert_eq!(rt; Object::take(object), 42);
-    assert_eq!(rt; pool.status(), stands(4, 0, 0, 0));
+    *object = value;
     Ok(())
+}
+
+// What an object was before it was written to, and what it was when it was taken.
+fn writes_and_takes<R: Host>(pool: &Numbers<R>, value: u64) -> Result<(u64, u64), Fail> {
+    let mut object = pool.try_get()?;
+    let before = *object;
+    *object = value;
+    Ok((before, Object::take(object)))
 }
 
 #[test]
 fn a_limit_without_memory(rt: HostRuntime) -> Result<(), Fail> {
-    let refused: Result<Numbers<_>, AllocError> = Pool::new(rt.alloc(), usize::MAX, Still, rt);
-    assert!(rt; refused.is_err());
+    assert!(rt; finds_no_memory(rt, usize::MAX));
     let pool = numbers(rt, 1)?;
     assert_eq!(rt; pool.try_add(1), Ok(()));
     Ok(())
+}
+
+fn finds_no_memory<R: Host>(rt: R, max_size: usize) -> bool {
+    let pool: Result<Numbers<R>, AllocError> = Pool::new(rt.alloc(), max_size, Still, rt);
+    pool.is_err()
 }
 
 // An empty pool whose gets wait a millisecond.
@@ -183,7 +290,7 @@ fn configured<R: Host>(
     rt: R,
     watch: &Watch,
     runtime: Option<Runtime>,
-) -> Result<Pool<u64, Watch, R>, Fail> {
+) -> Result<Watching<R>, Fail> {
     let config = PoolConfig {
         timeout: Some(Duration::from_millis(1)),
         runtime,
@@ -194,62 +301,84 @@ fn configured<R: Host>(
 
 #[test]
 fn a_wait_needs_a_runtime(rt: HostRuntime) -> Result<(), Fail> {
-    let watch = Watch::new(rt.alloc())?;
-    let pool = configured(rt, &watch, None)?;
     let task = MockTask::new(&rt)?;
-    let mut get = pool.get();
-    assert!(rt;
-        matches!(
-            task.poll(&mut get),
-            Poll::Ready(Err(PoolError::NoRuntimeSpecified))
-        )
-    );
-    assert!(rt; task.poll(&mut get).is_pending());
-    let removed = task.poll(&mut pool.remove());
-    assert_eq!(rt; removed, Poll::Ready(Err(PoolError::NoRuntimeSpecified)));
-    let plain = numbers(rt, 1)?;
+    let watch = Watch::new(rt.alloc())?;
+    refuses_what_is_configured(&task, &configured(rt, &watch, None)?)?;
+    refuses_what_is_asked_for(&task, &numbers(rt, 1)?)?;
+    expect("asked", watch.asked(), 0)
+}
+
+fn refuses_what_is_configured<R: Host>(task: &MockTask, pool: &Watching<R>) -> Result<(), Fail> {
+    wants_a_runtime(task, &mut pool.get())?;
+    let cause = cause_of(&task.poll(&mut pool.remove()));
+    expect("a removal", cause, Some(PoolError::NoRuntimeSpecified))
+}
+
+fn wants_a_runtime<R: Host>(task: &MockTask, get: &mut Get<u64, Watch, R>) -> Result<(), Fail> {
+    let cause = cause_of(&task.poll(get));
+    expect("a get", cause, Some(PoolError::NoRuntimeSpecified))?;
+    expect("pending", task.poll(get).is_pending(), true)
+}
+
+fn refuses_what_is_asked_for<R: Host>(task: &MockTask, pool: &Numbers<R>) -> Result<(), Fail> {
     for (millis, cause) in [(1, PoolError::NoRuntimeSpecified), (0, PoolError::Timeout)] {
         let wait = Some(Duration::from_millis(millis));
-        assert_eq!(rt; fails(rt, &plain, wait)?, Some(cause));
+        expect("a get", fails(task, pool, wait), Some(cause))?;
     }
-    assert_eq!(rt; watch.asked(), 0);
     Ok(())
 }
 
 #[test]
 fn a_wait_ends_with_a_runtime(rt: HostRuntime) -> Result<(), Fail> {
+    let task = MockTask::new(&rt)?;
     let watch = Watch::new(rt.alloc())?;
     let pool = configured(rt, &watch, Some(Runtime::Clock))?;
-    let task = MockTask::new(&rt)?;
-    let mut get = pool.get();
-    assert!(rt; task.poll(&mut get).is_pending());
-    assert_eq!(rt; watch.asked(), 1_000_000);
-    assert_eq!(rt; pool.status(), stands(1, 0, 0, 1));
+    waits_as_configured(&task, &watch, &pool, &mut pool.get())
+}
+
+fn waits_as_configured<R: Host>(
+    task: &MockTask,
+    watch: &Watch,
+    pool: &Watching<R>,
+    get: &mut Get<u64, Watch, R>,
+) -> Result<(), Fail> {
+    expect("pending", task.poll(get).is_pending(), true)?;
+    expect("asked", watch.asked(), 1_000_000)?;
+    expect("the status", pool.status(), stands(1, 0, 0, 1))?;
     watch.set(Moment(999_999));
-    assert!(rt; task.poll(&mut get).is_pending());
+    expect("pending", task.poll(get).is_pending(), true)?;
     watch.set(Moment(1_000_000));
-    assert!(rt; matches!(task.poll(&mut get), Poll::Ready(Err(PoolError::Timeout))));
-    assert_eq!(rt; pool.status(), stands(1, 0, 0, 0));
-    assert!(rt; task.poll(&mut get).is_pending());
-    Ok(())
+    expect(
+        "the get",
+        cause_of(&task.poll(get)),
+        Some(PoolError::Timeout),
+    )?;
+    expect("the status", pool.status(), stands(1, 0, 0, 0))?;
+    expect("pending", task.poll(get).is_pending(), true)
 }
 
 #[test]
 fn a_wait_of_its_own_ends_too(rt: HostRuntime) -> Result<(), Fail> {
+    let task = MockTask::new(&rt)?;
     let watch = Watch::new(rt.alloc())?;
     let pool = configured(rt, &watch, Some(Runtime::Clock))?;
-    let task = MockTask::new(&rt)?;
     let mut removal = pool.timeout_remove(Some(Duration::from_millis(2)));
     let mut endless = pool.timeout_get(None);
-    assert!(rt; task.poll(&mut endless).is_pending());
-    assert_eq!(rt; watch.asked(), 0);
-    assert!(rt; task.poll(&mut removal).is_pending());
-    assert_eq!(rt; watch.asked(), 2_000_000);
+    waits_as_asked(&task, &watch, &mut removal, &mut endless)
+}
+
+fn waits_as_asked<R: Host>(
+    task: &MockTask,
+    watch: &Watch,
+    removal: &mut Remove<u64, Watch, R>,
+    endless: &mut Get<u64, Watch, R>,
+) -> Result<(), Fail> {
+    expect("pending", task.poll(endless).is_pending(), true)?;
+    expect("asked", watch.asked(), 0)?;
+    expect("pending", task.poll(removal).is_pending(), true)?;
+    expect("asked", watch.asked(), 2_000_000)?;
     watch.set(Moment(2_000_000));
-    assert_eq!(rt;
-        task.poll(&mut removal),
-        Poll::Ready(Err(PoolError::Timeout))
-    );
-    assert!(rt; task.poll(&mut endless).is_pending());
-    Ok(())
+    let cause = cause_of(&task.poll(removal));
+    expect("the removal", cause, Some(PoolError::Timeout))?;
+    expect("pending", task.poll(endless).is_pending(), true)
 }

@@ -2,7 +2,8 @@
 use super::clock::Still;
 use super::draw::Draw;
 use super::{Host, stands};
-use deadpool_unmanaged_shared::Pool;
+use deadpool_unmanaged::PoolError;
+use deadpool_unmanaged_shared::{Get, Object, Pool};
 use futures::executor::block_on;
 use futures::task::Poll;
 use futures::test::MockTask;
@@ -14,12 +15,16 @@ type Numbers<R> = Pool<u64, Still, R>;
 // Polls a get at most once, waits a while, and gives it up.
 fn gives_up_a_get<R: Host>(rt: &R, pool: &Numbers<R>, draw: &mut Draw) {
     let mut get = pool.get();
-    if draw.below(3) > 0
-        && let Ok(task) = MockTask::new(rt)
-    {
-        drop(task.poll(&mut get));
+    if draw.below(3) > 0 {
+        poll_once(rt, &mut get);
     }
     linger(draw);
+}
+
+fn poll_once<R: Host>(rt: &R, get: &mut Get<u64, Still, R>) {
+    if let Ok(task) = MockTask::new(rt) {
+        drop(task.poll(get));
+    }
 }
 
 fn linger(draw: &mut Draw) {
@@ -33,12 +38,18 @@ fn counts<R: Host>(rt: &R, pool: &Numbers<R>, draw: &mut Draw) -> bool {
     for _get in 0..draw.below(3) {
         gives_up_a_get(rt, pool, draw);
     }
-    let Ok(Ok(mut object)) = block_on(rt, pool.get()) else {
-        return false;
-    };
+    match block_on(rt, pool.get()) {
+        Ok(Ok(object)) => {
+            adds_one(object, draw);
+            true
+        }
+        _ => false,
+    }
+}
+
+fn adds_one<R: Host>(mut object: Object<u64, Still, R>, draw: &mut Draw) {
     *object = object.saturating_add(1);
     linger(draw);
-    true
 }
 
 fn counts_often<R: Host>(rt: R, pool: Numbers<R>, seed: u64) -> bool {
@@ -70,34 +81,47 @@ const TIMES: u64 = 1_000;
 
 // Tries an add once at most, and gives it up if it has to wait. Whether it was added.
 fn adds_at_once<R: Host>(rt: &R, pool: &Numbers<R>, value: u64, draw: &mut Draw) -> bool {
-    let mut add = pool.add(value);
     let Ok(task) = MockTask::new(rt) else {
         return false;
     };
+    let mut add = pool.add(value);
     let polled = task.poll(&mut add);
     linger(draw);
     matches!(polled, Poll::Ready(Ok(())))
 }
 
 fn adds_all<R: Host>(rt: R, pool: Numbers<R>, first: u64) -> bool {
-    let mut draw = Draw::new(first);
-    for value in (0..TIMES).map(|number| first.saturating_add(number)) {
-        let is_added = draw.below(4) == 0 && adds_at_once(&rt, &pool, value, &mut draw);
-        if !is_added && !matches!(block_on(&rt, pool.add(value)), Ok(Ok(()))) {
+    adds_each(&rt, &pool, first, &mut Draw::new(first))
+}
+
+fn adds_each<R: Host>(rt: &R, pool: &Numbers<R>, first: u64, draw: &mut Draw) -> bool {
+    for number in 0..TIMES {
+        if !adds(rt, pool, first.saturating_add(number), draw) {
             return false;
         }
     }
     true
 }
 
+fn adds<R: Host>(rt: &R, pool: &Numbers<R>, value: u64, draw: &mut Draw) -> bool {
+    if draw.below(4) == 0 && adds_at_once(rt, pool, value, draw) {
+        return true;
+    }
+    matches!(block_on(rt, pool.add(value)), Ok(Ok(())))
+}
+
 // Tries a removal once, and gives it up if it has to wait.
 fn removes_at_once<R: Host>(rt: &R, pool: &Numbers<R>, draw: &mut Draw) -> Option<u64> {
-    let mut removal = pool.remove();
     let Ok(task) = MockTask::new(rt) else {
         return None;
     };
+    let mut removal = pool.remove();
     let polled = task.poll(&mut removal);
     linger(draw);
+    removed(polled)
+}
+
+fn removed(polled: Poll<Result<u64, PoolError>>) -> Option<u64> {
     match polled {
         Poll::Ready(Ok(value)) => Some(value),
         _ => None,

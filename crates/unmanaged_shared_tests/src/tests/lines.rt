@@ -48,21 +48,43 @@ pub fn opening_of(line: &str) -> Result<(usize, Option<Runtime>), Fail> {
 /// The move that a line says.
 pub fn move_of(line: &str) -> Result<Move<u64>, Fail> {
     let mut words = line.split(' ');
-    Ok(match words.next() {
-        Some("get") => Move::Get(wait_of(&mut words)),
-        Some("add") => Move::Add(next_number(&mut words)?),
-        Some("poll") => Move::Poll(next_index(&mut words)?, next_moment(&mut words)?),
-        Some("tryget") => Move::TryGet,
-        Some("tryadd") => Move::TryAdd(next_number(&mut words)?),
-        Some("cancel") => Move::Cancel(next_index(&mut words)?),
-        Some("back") => Move::Back(next_index(&mut words)?),
-        Some("take") => Move::Take(next_index(&mut words)?),
-        Some("close") => Move::Close,
-        Some("status") => Move::Status,
-        Some("clone") => Move::Clone,
-        Some("drop") => Move::DropHandle,
-        _ => return Err(Fail::new("not a move")),
-    })
+    let name = words.next().unwrap_or("");
+    if let Some(next) = move_without_words(name) {
+        return Ok(next);
+    }
+    match name {
+        "get" => Ok(Move::Get(wait_of(&mut words))),
+        "poll" => poll_of(&mut words),
+        _ => move_of_number(name, next_number(&mut words)?),
+    }
+}
+
+fn move_without_words(name: &str) -> Option<Move<u64>> {
+    match name {
+        "tryget" => Some(Move::TryGet),
+        "close" => Some(Move::Close),
+        "status" => Some(Move::Status),
+        "clone" => Some(Move::Clone),
+        "drop" => Some(Move::DropHandle),
+        _ => None,
+    }
+}
+
+fn poll_of(words: &mut Words<'_>) -> Result<Move<u64>, Fail> {
+    let party = next_index(words)?;
+    Ok(Move::Poll(party, next_moment(words)?))
+}
+
+// A number is a value, or that of a party or an object.
+fn move_of_number(name: &str, number: u64) -> Result<Move<u64>, Fail> {
+    match name {
+        "add" => Ok(Move::Add(number)),
+        "tryadd" => Ok(Move::TryAdd(number)),
+        "cancel" => Ok(Move::Cancel(number as usize)),
+        "back" => Ok(Move::Back(number as usize)),
+        "take" => Ok(Move::Take(number as usize)),
+        _ => Err(Fail::new("not a move")),
+    }
 }
 
 /// A reply as a line, with the value of the object that it hands out.

@@ -158,34 +158,32 @@ impl<R: Host> Player<R> {
     }
 
     fn start_get(&mut self, wait: Option<Duration>) -> Result<Reply<u64>, Fail> {
+        let task = MockTask::new(&self.rt)?;
         match self.pools.last() {
             None => Ok(Reply::NoHandle),
             Some(pool) => {
                 let get = pool.timeout_get(wait);
-                self.start(Visitor::Get(get))
+                self.start(task, Visitor::Get(get))
             }
         }
     }
 
     fn start_add(&mut self, value: u64) -> Result<Reply<u64>, Fail> {
         let number = self.next;
+        let task = MockTask::new(&self.rt)?;
         match self.pools.last() {
             None => Ok(Reply::NoHandle),
             Some(pool) => {
                 let add = pool.add(Item::new(number, value, &self.drops)?);
                 self.next = number.saturating_add(1);
-                self.start(Visitor::Add(number, add))
+                self.start(task, Visitor::Add(number, add))
             }
         }
     }
 
-    fn start(&mut self, visitor: Visitor<R>) -> Result<Reply<u64>, Fail> {
+    fn start(&mut self, task: MockTask, visitor: Visitor<R>) -> Result<Reply<u64>, Fail> {
         let number = self.parties.len();
-        self.parties.push(Party {
-            task: MockTask::new(&self.rt)?,
-            visitor: Some(visitor),
-            stage: Stage::Unpolled,
-        })?;
+        self.parties.push(Party::new(task, visitor))?;
         Ok(Reply::Started(number))
     }
 
@@ -195,11 +193,20 @@ impl<R: Host> Player<R> {
             return Ok(Reply::NoSuch);
         };
         let (reply, object) = party.poll();
-        party.sees(&reply)?;
+        let is_as_told = party.sees(&reply);
+        self.keep(object)?;
+        if is_as_told {
+            Ok(reply)
+        } else {
+            Err(Fail::new("a poll is not as its task was told"))
+        }
+    }
+
+    fn keep(&mut self, object: Option<Numbered<R>>) -> Result<(), Fail> {
         if let Some(object) = object {
             self.out.push(object)?;
         }
-        Ok(reply)
+        Ok(())
     }
 
     fn try_get(&mut self) -> Result<Reply<u64>, Fail> {
@@ -305,14 +312,19 @@ impl<R: Host> Player<R> {
 }
 
 impl<R: Host> Party<R> {
+    fn new(task: MockTask, visitor: Visitor<R>) -> Self {
+        Party {
+            task,
+            visitor: Some(visitor),
+            stage: Stage::Unpolled,
+        }
+    }
+
     // The reply, and the object that it hands out.
     fn poll(&mut self) -> (Reply<u64>, Option<Numbered<R>>) {
-        let Some(visitor) = &mut self.visitor else {
-            return (Reply::NoSuch, None);
-        };
-        match visitor {
-            Visitor::Get(get) => after_get(self.task.poll(get)),
-            Visitor::Add(number, add) => (after_add(*number, self.task.poll(add)), None),
+        match &mut self.visitor {
+            None => (Reply::NoSuch, None),
+            Some(visitor) => visitor.poll(&self.task),
         }
     }
 
@@ -338,8 +350,8 @@ impl<R: Host> Party<R> {
         self.task.enter(|_cx| ());
     }
 
-    // Who was woken is pending no more. Who was not is pending still, or its time is over.
-    fn sees(&mut self, reply: &Reply<u64>) -> Result<(), Fail> {
+    // Whether who was woken is pending no more, and who was not is pending still, or its time is over.
+    fn sees(&mut self, reply: &Reply<u64>) -> bool {
         let is_pending = matches!(reply, Reply::Pending);
         let is_as_told = match self.stage {
             Stage::Unpolled => true,
@@ -352,10 +364,15 @@ impl<R: Host> Party<R> {
         } else {
             self.ends();
         }
-        if is_as_told {
-            Ok(())
-        } else {
-            Err(Fail::new("a poll is not as its task was told"))
+        is_as_told
+    }
+}
+
+impl<R: Host> Visitor<R> {
+    fn poll(&mut self, task: &MockTask) -> (Reply<u64>, Option<Numbered<R>>) {
+        match self {
+            Visitor::Get(get) => after_get(task.poll(get)),
+            Visitor::Add(number, add) => (after_add(*number, task.poll(add)), None),
         }
     }
 }

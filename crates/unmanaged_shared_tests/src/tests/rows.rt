@@ -1,12 +1,11 @@
 //! Scripts, line by line: each has its reply, and wakes those that it says and no others.
-use super::Host;
 use super::drops::Drops;
 use super::lines::{line_of, move_of, opening_of};
 use super::player::Player;
 use super::scripts::{SCRIPTS, Script};
+use super::{Host, expect};
 use deadpool_unmanaged::PoolConfig;
 use deadpool_unmanaged::replay::Reply;
-use std::process::Abort;
 use std::test::Fail;
 
 // A pool as the first line of a script opens it.
@@ -34,23 +33,48 @@ fn played<R: Host>(rt: R, player: &mut Player<R>, line: &str) -> Result<String, 
     Ok(text)
 }
 
-/// Plays a script, and compares what comes of each of its lines. In the end each object was dropped once.
-pub fn plays<R: Host + Abort>(rt: R, script: &Script) -> Result<(), Fail> {
+// Plays the lines that have a reply, and compares what comes of each.
+fn plays_lines<R: Host>(
+    rt: R,
+    player: &mut Player<R>,
+    name: &str,
+    lines: &str,
+) -> Result<(), Fail> {
+    for line in lines.split('\n') {
+        plays_line(rt, player, name, line)?;
+    }
+    Ok(())
+}
+
+fn plays_line<R: Host>(rt: R, player: &mut Player<R>, name: &str, line: &str) -> Result<(), Fail> {
+    let Some((line, expected)) = line.split_once(" => ") else {
+        return Ok(());
+    };
+    let came = played(rt, player, line)?;
+    if came.as_str() == expected {
+        return Ok(());
+    }
+    Err(Fail::new(format_args!("{name}: {line}: found {came}, expected {expected}")))
+}
+
+// Plays a script, and gives how many objects it made.
+fn made_by<R: Host>(rt: R, script: &Script, drops: &Drops) -> Result<u64, Fail> {
     let (name, text) = *script;
-    let mut lines = text.split('\n').filter_map(|line| line.split_once(" => "));
-    let Some((opening, "ok")) = lines.next() else {
+    let (first, lines) = text.split_once('\n').unwrap_or((text, ""));
+    let Some(opening) = first.strip_suffix(" => ok") else {
         return Err(Fail::new("no pool is opened"));
     };
+    let mut player = opened(rt, opening, drops)?;
+    plays_lines(rt, &mut player, name, lines)?;
+    Ok(player.made())
+}
+
+/// Plays a script, and compares what comes of each of its lines. In the end each object was dropped once.
+pub fn plays<R: Host>(rt: R, script: &Script) -> Result<(), Fail> {
     let drops = Drops::new(rt.alloc())?;
-    let mut player = opened(rt, opening, &drops)?;
-    for (line, expected) in lines {
-        let came = played(rt, &mut player, line)?;
-        assert_eq!(rt; came.as_str(), expected, "{name}: {line}");
-    }
-    let made = player.made();
-    drop(player);
-    assert_eq!(rt; drops.count(), made, "{name}");
-    Ok(())
+    let made = made_by(rt, script, &drops)?;
+    let (name, _) = *script;
+    expect(name, drops.count(), made)
 }
 
 #[test]
