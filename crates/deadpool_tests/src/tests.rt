@@ -10,5 +10,6 @@ mod told;
 mod unmanaged;
 mod unmanaged_crowds;
 mod unmanaged_drops;
+mod unmanaged_steps;
 mod wakes;
 mod watched;

@@ -3,7 +3,7 @@ use super::polls::{poll, task};
 use super::watched::Watched;
 use deadpool::managed::{
     BackReply, Desk, EnterReply, Environment, GetState, Hook, Hooks, NoHook, PoolError, QueueMode,
-    Serving, Timeouts,
+    Serving, Slot, Timeouts,
 };
 use futures::task::Solo;
 use std::random::RandomSource;
@@ -32,14 +32,68 @@ fn desk_with_object<'a, R: RandomSource + AllocGlobal>(
         hooks: Hooks::new(rt.alloc()),
         runtime: None,
     };
+    make_idle(&mut desk, &environment, task)?;
+    Ok((desk, environment))
+}
+
+// A get creates an object, and it comes back.
+fn make_idle<'a>(
+    desk: &mut Watched<'a, u64>,
+    environment: &Plain<'a>,
+    task: &Solo,
+) -> Result<(), Fail> {
     let mut state = GetState::new(Timeouts::new());
-    match poll(&mut state, &mut desk, &environment, task) {
-        Some(Ok(slot)) => match desk.back(slot) {
-            BackReply::Kept => Ok((desk, environment)),
-            _ => Err(Fail::new("not kept")),
-        },
+    match poll(&mut state, desk, environment, task) {
+        Some(Ok(slot)) => keep(desk, slot),
         _ => Err(Fail::new("no object")),
     }
+}
+
+fn keep(desk: &mut Watched<'_, u64>, slot: Slot<u64>) -> Result<(), Fail> {
+    match desk.back(slot) {
+        BackReply::Kept => Ok(()),
+        _ => Err(Fail::new("not kept")),
+    }
+}
+
+// Whether a get went as it is to, and how many were detached at its step and after it.
+type Detached = (bool, usize, usize);
+
+// A get is cancelled that recycles.
+fn detached_by_a_cancel<R: RandomSource + AllocGlobal>(
+    rt: &R,
+    task: &Solo,
+    knows: bool,
+) -> Result<Detached, Fail> {
+    let calls = Calls::new();
+    let (mut desk, environment) = desk_with_object(rt, &calls, task)?;
+    desk.knows = knows;
+    calls.answers.set(false);
+    let mut state = GetState::new(Timeouts::new());
+    let is_pending = poll(&mut state, &mut desk, &environment, task).is_none();
+    state.cancel(&mut desk, &environment);
+    Ok((is_pending, desk.detached, calls.detached.get()))
+}
+
+// A get recycles, for which it has a timeout but no runtime.
+fn detached_by_a_timeout<R: RandomSource + AllocGlobal>(
+    rt: &R,
+    task: &Solo,
+    knows: bool,
+) -> Result<Detached, Fail> {
+    let calls = Calls::new();
+    let (mut desk, environment) = desk_with_object(rt, &calls, task)?;
+    desk.knows = knows;
+    let mut state = GetState::new(Timeouts {
+        recycle: Some(Duration::from_nanos(5)),
+        ..Timeouts::new()
+    });
+    let is_as_told = match poll(&mut state, &mut desk, &environment, task) {
+        Some(Ok(_)) => knows,
+        Some(Err(PoolError::Closed)) => !knows,
+        _ => false,
+    };
+    Ok((is_as_told, desk.detached, calls.detached.get()))
 }
 
 #[test]
@@ -47,55 +101,46 @@ fn an_object_is_detached_after_its_step(rt: HostRuntime) -> Result<(), Fail> {
     let task = task(&rt)?;
     // A step that is not known of gives nothing up.
     for (knows, detached) in [(true, 1), (false, 0)] {
-        let calls = Calls::new();
-        let (mut desk, environment) = desk_with_object(&rt, &calls, &task)?;
-        desk.knows = knows;
-        calls.answers.set(false);
-        let mut state = GetState::new(Timeouts::new());
-        assert!(rt; poll(&mut state, &mut desk, &environment, &task).is_none());
-        state.cancel(&mut desk, &environment);
-        assert_eq!(rt; (desk.detached, calls.detached.get()), (0, detached));
-
-        let calls = Calls::new();
-        let (mut desk, environment) = desk_with_object(&rt, &calls, &task)?;
-        desk.knows = knows;
-        let mut state = GetState::new(Timeouts {
-            recycle: Some(Duration::from_nanos(5)),
-            ..Timeouts::new()
-        });
-        let ended = poll(&mut state, &mut desk, &environment, &task);
-        match knows {
-            true => assert!(rt; matches!(ended, Some(Ok(_)))),
-            false => assert!(rt; matches!(ended, Some(Err(PoolError::Closed)))),
-        }
-        assert_eq!(rt; (desk.detached, calls.detached.get()), (0, detached));
+        let cancelled = detached_by_a_cancel(&rt, &task, knows)?;
+        assert_eq!(rt; cancelled, (true, 0, detached));
+        let late = detached_by_a_timeout(&rt, &task, knows)?;
+        assert_eq!(rt; late, (true, 0, detached));
     }
     Ok(())
+}
+
+// A hook refuses a new object.
+fn detached_by_a_hook<R: RandomSource + AllocGlobal>(
+    rt: &R,
+    task: &Solo,
+    knows: bool,
+) -> Result<Detached, Fail> {
+    let calls = Calls::new();
+    let (mut desk, mut environment) = desk_with_object(rt, &calls, task)?;
+    // The one idle object is out for good, so the next get creates one.
+    let is_out = matches!(
+        desk.core.enter(false),
+        EnterReply::Served(Serving::Object(_, 0))
+    );
+    desk.knows = knows;
+    let hook = Hook::async_fn(Answering::Refuses);
+    let is_added = environment.hooks.add_post_create(hook).is_ok();
+    let mut state = GetState::new(Timeouts::new());
+    let is_as_told = match poll(&mut state, &mut desk, &environment, task) {
+        Some(Err(PoolError::PostCreateHook(_))) => knows,
+        Some(Err(PoolError::Closed)) => !knows,
+        _ => false,
+    };
+    let is_well = is_out && is_added && is_as_told;
+    Ok((is_well, desk.detached, calls.detached.get()))
 }
 
 #[test]
 fn a_new_object_is_detached_after_its_step(rt: HostRuntime) -> Result<(), Fail> {
     let task = task(&rt)?;
     for (knows, detached) in [(true, 1), (false, 0)] {
-        let calls = Calls::new();
-        let (mut desk, mut environment) = desk_with_object(&rt, &calls, &task)?;
-        // The one idle object is out for good, so the next get creates one.
-        assert!(rt;
-            matches!(
-                desk.core.enter(false),
-                EnterReply::Served(Serving::Object(_, 0))
-            )
-        );
-        desk.knows = knows;
-        let hook = Hook::async_fn(Answering::Refuses);
-        assert!(rt; environment.hooks.add_post_create(hook).is_ok());
-        let mut state = GetState::new(Timeouts::new());
-        let ended = poll(&mut state, &mut desk, &environment, &task);
-        match knows {
-            true => assert!(rt; matches!(ended, Some(Err(PoolError::PostCreateHook(_))))),
-            false => assert!(rt; matches!(ended, Some(Err(PoolError::Closed)))),
-        }
-        assert_eq!(rt; (desk.detached, calls.detached.get()), (0, detached));
+        let refused = detached_by_a_hook(&rt, &task, knows)?;
+        assert_eq!(rt; refused, (true, 0, detached));
     }
     Ok(())
 }

@@ -5,6 +5,7 @@ use deadpool::managed::{
 use deadpool::{Moment, unmanaged};
 use std::cell::Cell;
 use std::test::Fail;
+use test_support::expected::expect;
 use test_support::managers::count;
 
 /// An object that counts its drop.
@@ -45,72 +46,94 @@ fn keep<'a>(core: &mut Core<Tracked<'a>>, slot: Slot<Tracked<'a>>) -> Result<(),
     }
 }
 
+// Two objects come back, and a third is out.
+fn two_idle_and_one_out<'a>(
+    core: &mut Core<Tracked<'a>>,
+    drops: &'a Cell<usize>,
+) -> Result<Slot<Tracked<'a>>, Fail> {
+    let first = created(core, drops)?;
+    let second = created(core, drops)?;
+    let third = created(core, drops)?;
+    keep(core, first)?;
+    keep(core, second)?;
+    Ok(third)
+}
+
+fn two_idle<'a>(core: &mut Core<Tracked<'a>>, drops: &'a Cell<usize>) -> Result<(), Fail> {
+    let first = created(core, drops)?;
+    let second = created(core, drops)?;
+    keep(core, first)?;
+    keep(core, second)
+}
+
+fn one_idle_and_one_out<'a>(
+    core: &mut Core<Tracked<'a>>,
+    drops: &'a Cell<usize>,
+) -> Result<Slot<Tracked<'a>>, Fail> {
+    let idle = created(core, drops)?;
+    let out = created(core, drops)?;
+    keep(core, idle)?;
+    Ok(out)
+}
+
 #[test]
 fn a_smaller_limit_drops_each_once(rt: HostRuntime) -> Result<(), Fail> {
     let drops = Cell::new(0);
     let mut core = Core::new(rt.alloc(), 3, QueueMode::Fifo, 0, 0)?;
-    let first = created(&mut core, &drops)?;
-    let second = created(&mut core, &drops)?;
-    let third = created(&mut core, &drops)?;
-    keep(&mut core, first)?;
-    keep(&mut core, second)?;
-    assert_eq!(rt; drops.get(), 0);
+    let third = two_idle_and_one_out(&mut core, &drops)?;
+    let before = drops.get();
     core.resize(2)?;
-    assert_eq!(rt; drops.get(), 1);
+    let resized = drops.get();
     core.close();
-    assert_eq!(rt; drops.get(), 2);
+    let closed = drops.get();
     // A closed pool hands the third back, to be detached and dropped here.
     let reply = core.back(third);
     drop(core);
-    assert_eq!(rt; drops.get(), 2);
+    let back = drops.get();
     drop(reply);
-    assert_eq!(rt; drops.get(), 3);
-    Ok(())
+    let seen = [before, resized, closed, back, drops.get()];
+    expect("dropped", seen, [0, 1, 2, 2, 3])
 }
 
 #[test]
 fn what_stays_idle_is_not_dropped(rt: HostRuntime) -> Result<(), Fail> {
     let drops = Cell::new(0);
     let mut core = Core::new(rt.alloc(), 2, QueueMode::Fifo, 0, 2)?;
-    let first = created(&mut core, &drops)?;
-    let second = created(&mut core, &drops)?;
-    keep(&mut core, first)?;
-    keep(&mut core, second)?;
+    two_idle(&mut core, &drops)?;
     // Two are to stay, and one has to go for the limit.
     core.resize(1)?;
-    assert_eq!(rt; drops.get(), 1);
+    let resized = drops.get();
     // The last handle spares none.
     core.drop_handle();
-    assert_eq!(rt; drops.get(), 2);
-    Ok(())
+    expect("dropped", [resized, drops.get()], [1, 2])
 }
 
 #[test]
 fn the_last_handle_drops_each_once(rt: HostRuntime) -> Result<(), Fail> {
     let drops = Cell::new(0);
     let mut core = Core::new(rt.alloc(), 2, QueueMode::Lifo, 0, 0)?;
-    let idle = created(&mut core, &drops)?;
-    let out = created(&mut core, &drops)?;
-    keep(&mut core, idle)?;
+    let out = one_idle_and_one_out(&mut core, &drops)?;
     core.drop_handle();
-    assert_eq!(rt; drops.get(), 1);
+    let closed = drops.get();
     let reply = core.back(out);
     drop(core);
-    assert_eq!(rt; drops.get(), 1);
+    let back = drops.get();
     drop(reply);
-    assert_eq!(rt; drops.get(), 2);
-    Ok(())
+    expect("dropped", [closed, back, drops.get()], [1, 1, 2])
 }
 
 #[test]
 fn a_pool_that_is_dropped_drops_its_idle_objects(rt: HostRuntime) -> Result<(), Fail> {
     let drops = Cell::new(0);
     let mut core = Core::new(rt.alloc(), 1, QueueMode::Fifo, 0, 0)?;
-    let slot = created(&mut core, &drops)?;
-    keep(&mut core, slot)?;
+    one_idle(&mut core, &drops)?;
     drop(core);
-    assert_eq!(rt; drops.get(), 1);
-    Ok(())
+    expect("dropped", drops.get(), 1)
+}
+
+fn one_idle<'a>(core: &mut Core<Tracked<'a>>, drops: &'a Cell<usize>) -> Result<(), Fail> {
+    let slot = created(core, drops)?;
+    keep(core, slot)
 }
 
 #[test]
@@ -119,16 +142,16 @@ fn an_unmanaged_pool_drops_each_once(rt: HostRuntime) -> Result<(), Fail> {
     let mut core = unmanaged::Core::new(rt.alloc(), 2)?;
     core.add_enter(Tracked { drops: &drops }, false);
     core.add_enter(Tracked { drops: &drops }, false);
-    assert_eq!(rt; drops.get(), 0);
+    let stored = drops.get();
     // The one that is refused is handed back, and dropped here.
     core.add_enter(Tracked { drops: &drops }, false);
-    assert_eq!(rt; drops.get(), 1);
+    let refused = drops.get();
     let out = core.get_enter(false);
     core.close();
-    assert_eq!(rt; drops.get(), 2);
+    let closed = drops.get();
     drop(core);
-    assert_eq!(rt; drops.get(), 2);
+    let gone = drops.get();
     drop(out);
-    assert_eq!(rt; drops.get(), 3);
-    Ok(())
+    let seen = [stored, refused, closed, gone, drops.get()];
+    expect("dropped", seen, [0, 1, 2, 2, 3])
 }

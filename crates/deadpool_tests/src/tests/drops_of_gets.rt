@@ -14,6 +14,7 @@ use std::test::Fail;
 use std::time::Duration;
 use test_support::answering::Answering;
 use test_support::bench::new_core;
+use test_support::expected::expect;
 use test_support::managers::Calls;
 
 // The desk of a pool for one object, which knows of the steps that give up or not.
@@ -69,10 +70,33 @@ fn play(
     [polled, environment.manager.living()]
 }
 
+// An object of the pool that is idle.
+fn make_idle(core: &mut Core<Object>, value: &Object) -> Result<(), Fail> {
+    let slot = created(core, value)?;
+    match core.back(slot) {
+        BackReply::Kept => Ok(()),
+        _ => Err(Fail::new("not kept")),
+    }
+}
+
+// What a get leaves that recycles an idle object.
+fn left_by_a_recycling(
+    alloc: Global,
+    task: &Solo,
+    recycling: Answer,
+    timeouts: Timeouts,
+    knows: bool,
+) -> Result<[(usize, usize); 2], Fail> {
+    let calls = Calls::new();
+    let environment = environment(alloc, Answer::Accepts, recycling)?;
+    let mut desk = desk(alloc, &calls, knows)?;
+    make_idle(&mut desk.core, &environment.manager.objects)?;
+    Ok(play(&mut desk, &environment, timeouts, task))
+}
+
 #[test]
 fn an_idle_object_that_is_given_up(rt: HostRuntime) -> Result<(), Fail> {
     let task = task(&rt)?;
-    let calls = Calls::new();
     for (recycling, timeouts, knows, polled) in [
         // One that is refused or late is dropped in the poll, and if the step is known another is out.
         (Answer::Refuses, NO_TIMEOUTS, true, (1, 0)),
@@ -83,20 +107,29 @@ fn an_idle_object_that_is_given_up(rt: HostRuntime) -> Result<(), Fail> {
         (Answer::Stalls, NO_TIMEOUTS, false, (1, 1)),
         (Answer::Accepts, NO_TIMEOUTS, true, (1, 0)),
     ] {
-        let environment = environment(rt.alloc(), Answer::Accepts, recycling)?;
-        let mut desk = desk(rt.alloc(), &calls, knows)?;
-        let slot = created(&mut desk.core, &environment.manager.objects)?;
-        assert!(rt; matches!(desk.core.back(slot), BackReply::Kept));
-        let living = play(&mut desk, &environment, timeouts, &task);
+        let living = left_by_a_recycling(rt.alloc(), &task, recycling, timeouts, knows)?;
         assert_eq!(rt; living, [polled, (0, 0)], "{recycling:?}, {knows}");
     }
     Ok(())
 }
 
+// What a get leaves that creates an object.
+fn left_by_a_creation(
+    alloc: Global,
+    task: &Solo,
+    creation: Answer,
+    timeouts: Timeouts,
+    knows: bool,
+) -> Result<[(usize, usize); 2], Fail> {
+    let calls = Calls::new();
+    let environment = environment(alloc, creation, Answer::Accepts)?;
+    let mut desk = desk(alloc, &calls, knows)?;
+    Ok(play(&mut desk, &environment, timeouts, task))
+}
+
 #[test]
 fn a_creation_that_is_given_up(rt: HostRuntime) -> Result<(), Fail> {
     let task = task(&rt)?;
-    let calls = Calls::new();
     for (creation, timeouts, knows, polled) in [
         (Answer::Refuses, NO_TIMEOUTS, true, (0, 0)),
         (Answer::Stalls, AT_ONCE, true, (0, 0)),
@@ -104,29 +137,44 @@ fn a_creation_that_is_given_up(rt: HostRuntime) -> Result<(), Fail> {
         (Answer::Stalls, NO_TIMEOUTS, false, (0, 1)),
         (Answer::Accepts, NO_TIMEOUTS, true, (1, 0)),
     ] {
-        let environment = environment(rt.alloc(), creation, Answer::Accepts)?;
-        let mut desk = desk(rt.alloc(), &calls, knows)?;
-        let living = play(&mut desk, &environment, timeouts, &task);
+        let living = left_by_a_creation(rt.alloc(), &task, creation, timeouts, knows)?;
         assert_eq!(rt; living, [polled, (0, 0)], "{creation:?}, {knows}");
     }
     Ok(())
 }
 
+// What a get leaves whose new object is shown to a hook.
+fn left_by_a_hook(
+    alloc: Global,
+    task: &Solo,
+    hook: Answering,
+    knows: bool,
+) -> Result<[(usize, usize); 2], Fail> {
+    let calls = Calls::new();
+    let environment = with_hook(alloc, hook)?;
+    let mut desk = desk(alloc, &calls, knows)?;
+    Ok(play(&mut desk, &environment, NO_TIMEOUTS, task))
+}
+
+// What a pool with a hook lends to its gets, whose manager accepts.
+fn with_hook(alloc: Global, hook: Answering) -> Result<Lent, Fail> {
+    let mut environment = environment(alloc, Answer::Accepts, Answer::Accepts)?;
+    match environment.hooks.add_post_create(Hook::async_fn(hook)) {
+        Ok(()) => Ok(environment),
+        Err(_) => Err(Fail::new("no memory for a hook")),
+    }
+}
+
 #[test]
 fn a_new_object_that_is_given_up(rt: HostRuntime) -> Result<(), Fail> {
     let task = task(&rt)?;
-    let calls = Calls::new();
     for (hook, knows, polled) in [
         (Answering::Refuses, true, (0, 0)),
         (Answering::Refuses, false, (0, 0)),
         (Answering::Stalls, true, (1, 0)),
         (Answering::Stalls, false, (1, 0)),
     ] {
-        let mut environment = environment(rt.alloc(), Answer::Accepts, Answer::Accepts)?;
-        let hook = Hook::async_fn(hook);
-        assert!(rt; environment.hooks.add_post_create(hook).is_ok());
-        let mut desk = desk(rt.alloc(), &calls, knows)?;
-        let living = play(&mut desk, &environment, NO_TIMEOUTS, &task);
+        let living = left_by_a_hook(rt.alloc(), &task, hook, knows)?;
         assert_eq!(rt; living, [polled, (0, 0)], "{polled:?}, {knows}");
     }
     Ok(())
@@ -137,26 +185,41 @@ fn an_object_that_the_pool_does_not_know(rt: HostRuntime) -> Result<(), Fail> {
     let task = task(&rt)?;
     let environment = environment(rt.alloc(), Answer::Stalls, Answer::Accepts)?;
     let mut core = new_core(rt.alloc(), 1, QueueMode::Fifo)?;
-    let mut state = GetState::new(NO_TIMEOUTS);
-    assert!(rt; poll(&mut state, &mut core, &environment, &task).is_none());
-    assert_eq!(rt; environment.manager.living(), (0, 1));
-    // The creation ends behind the get's back, and then with an object.
-    assert_eq!(rt; core.failed(), StepReply::Done);
-    environment.manager.creation.set(Answer::Accepts);
-    assert!(rt;
-        matches!(
-            poll(&mut state, &mut core, &environment, &task),
-            Some(Err(_))
-        )
-    );
-    assert_eq!(rt; environment.manager.living(), (0, 0));
-
-    // An object of another pool comes back, and is handed back.
+    ends_behind_a_gets_back(&mut core, &environment, &task)?;
     let mut other = new_core(rt.alloc(), 1, QueueMode::Fifo)?;
-    let reply = core.back(created(&mut other, &environment.manager.objects)?);
-    assert!(rt; matches!(reply, BackReply::Unknown(_)));
-    assert_eq!(rt; environment.manager.living(), (1, 0));
+    hands_an_object_back(&mut core, &mut other, &environment)
+}
+
+// The creation ends behind the get's back, and then with an object.
+fn ends_behind_a_gets_back(
+    core: &mut Core<Object>,
+    environment: &Lent,
+    task: &Solo,
+) -> Result<(), Fail> {
+    let mut state = GetState::new(NO_TIMEOUTS);
+    let is_pending = poll(&mut state, core, environment, task).is_none();
+    let begun = environment.manager.living();
+    let step = core.failed();
+    environment.manager.creation.set(Answer::Accepts);
+    let ended = poll(&mut state, core, environment, task);
+    let is_refused = matches!(ended, Some(Err(_)));
+    let left = environment.manager.living();
+    expect("pending, refused", (is_pending, is_refused), (true, true))?;
+    expect("the step", step, StepReply::Done)?;
+    expect("living", [begun, left], [(0, 1), (0, 0)])
+}
+
+// An object of another pool comes back, and is handed back.
+fn hands_an_object_back(
+    core: &mut Core<Object>,
+    other: &mut Core<Object>,
+    environment: &Lent,
+) -> Result<(), Fail> {
+    let reply = core.back(created(other, &environment.manager.objects)?);
+    let is_unknown = matches!(reply, BackReply::Unknown(_));
+    let handed_back = environment.manager.living();
     drop(reply);
-    assert_eq!(rt; environment.manager.living(), (0, 0));
-    Ok(())
+    let left = environment.manager.living();
+    expect("unknown", is_unknown, true)?;
+    expect("living", [handed_back, left], [(1, 0), (0, 0)])
 }

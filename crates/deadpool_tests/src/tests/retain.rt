@@ -6,6 +6,7 @@ use deadpool::managed::{
 use std::test::Fail;
 use std::time::Duration;
 use test_support::bench::stands;
+use test_support::expected::expect;
 
 // A new object, created at a moment.
 fn object(core: &mut Core<u64>, created: u128) -> Result<Slot<u64>, Fail> {
@@ -55,19 +56,27 @@ impl Retainer<u64> for Younger {
 fn keeps_the_young(rt: HostRuntime) -> Result<(), Fail> {
     let mut core = Core::new(rt.alloc(), 4, QueueMode::Fifo, 0, 0)?;
     pool(&mut core, &[0, 0, 10])?;
-    assert_eq!(rt; core.status(), stands(4, 3, 3, 0));
+    expect("the status", core.status(), stands(4, 3, 3, 0))?;
+    keeps_one_and_then_none(&mut core)
+}
+
+fn keeps_one_and_then_none(core: &mut Core<u64>) -> Result<(), Fail> {
     let mut younger = Younger {
         than: Duration::from_nanos(10),
         now: Moment(10),
     };
-    let result = core.retain(&mut younger)?;
-    assert_eq!(rt; (result.retained, result.removed.len()), (1, 2));
-    assert_eq!(rt; core.status(), stands(4, 1, 1, 0));
+    keeps(core, &mut younger, (1, 2))?;
+    expect("the status", core.status(), stands(4, 1, 1, 0))?;
     younger.now = Moment(20);
-    let result = core.retain(&mut younger)?;
-    assert_eq!(rt; (result.retained, result.removed.len()), (0, 1));
-    assert_eq!(rt; core.status(), stands(4, 0, 0, 0));
-    Ok(())
+    keeps(core, &mut younger, (0, 1))?;
+    expect("the status", core.status(), stands(4, 0, 0, 0))
+}
+
+// So many are retained, and so many are removed.
+fn keeps(core: &mut Core<u64>, younger: &mut Younger, counts: (usize, usize)) -> Result<(), Fail> {
+    let result = core.retain(younger)?;
+    let seen = (result.retained, result.removed.len());
+    expect("retained, removed", seen, counts)
 }
 
 // Keeps nothing. It counts its calls, and leaves on each value the count of its questions.
@@ -89,35 +98,37 @@ impl Retainer<u64> for Counting {
     }
 }
 
-#[test]
-fn asks_once_about_each(rt: HostRuntime) -> Result<(), Fail> {
-    let mut core = Core::new(rt.alloc(), 4, QueueMode::Lifo, 0, 0)?;
-    pool(&mut core, &[0, 0, 0, 0])?;
+// So many are retained when each was asked about, and these are left on the values of those that are removed.
+fn asks(core: &mut Core<u64>, retained: usize, removed: &[u64]) -> Result<(), Fail> {
     let mut counting = Counting {
         asked: 0,
         detached: 0,
     };
     let result = core.retain(&mut counting)?;
-    assert_eq!(rt; result.retained, 0);
+    let are_removed = result.removed.as_slice() == removed;
+    let seen = (result.retained, counting.asked, counting.detached);
+    drop(result);
+    expect("the values", are_removed, true)?;
+    expect(
+        "retained, asked, detached",
+        seen,
+        (retained, 4, removed.len() as u64),
+    )
+}
+
+#[test]
+fn asks_once_about_each(rt: HostRuntime) -> Result<(), Fail> {
+    let mut core = Core::new(rt.alloc(), 4, QueueMode::Lifo, 0, 0)?;
+    pool(&mut core, &[0, 0, 0, 0])?;
     // The nth was detached after n questions.
-    assert_eq!(rt; result.removed.as_slice(), [1, 2, 3, 4].as_slice());
-    assert_eq!(rt; (counting.asked, counting.detached), (4, 4));
-    assert_eq!(rt; core.status(), stands(4, 0, 0, 0));
-    Ok(())
+    asks(&mut core, 0, &[1, 2, 3, 4])?;
+    expect("the status", core.status(), stands(4, 0, 0, 0))
 }
 
 #[test]
 fn asks_about_those_that_it_spares(rt: HostRuntime) -> Result<(), Fail> {
     let mut core = Core::new(rt.alloc(), 4, QueueMode::Fifo, 0, 3)?;
     pool(&mut core, &[0, 0, 0, 0])?;
-    let mut counting = Counting {
-        asked: 0,
-        detached: 0,
-    };
-    let result = core.retain(&mut counting)?;
-    assert_eq!(rt; result.retained, 3);
-    assert_eq!(rt; result.removed.as_slice(), [1].as_slice());
-    assert_eq!(rt; (counting.asked, counting.detached), (4, 1));
-    assert_eq!(rt; core.status(), stands(4, 3, 3, 0));
-    Ok(())
+    asks(&mut core, 3, &[1])?;
+    expect("the status", core.status(), stands(4, 3, 3, 0))
 }

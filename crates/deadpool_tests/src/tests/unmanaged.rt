@@ -1,15 +1,13 @@
-//! Unmanaged pools on one thread, by the moves of a trial and by the steps of their state.
+//! Unmanaged pools on one thread, by the moves of a trial.
 use deadpool::replay::unmanaged::{Move, Reply, Trial};
-use deadpool::unmanaged::{
-    AddEnterReply, AddState, BackReply, Core, GetEnterReply, GetState, HandleReply, PoolConfig,
-    PoolError, TakeReply,
-};
+use deadpool::unmanaged::{Core, GetState, PoolConfig, PoolError};
 use deadpool::{Moment, Runtime, Status};
 use futures::task::Poll;
 use std::alloc::Global;
 use std::test::Fail;
 use std::time::Duration;
 use test_support::bench::stands;
+use test_support::expected::expect;
 
 /// A trial of numbers, by one move at a time.
 #[derive(Drop)]
@@ -27,10 +25,15 @@ impl Bench {
     /// A pool that is full of these.
     fn with_items(alloc: Global, items: &[u64]) -> Result<Self, Fail> {
         let mut bench = Bench::new(alloc, items.len())?;
-        for item in items {
-            bench.add_at_once(*item)?;
-        }
+        bench.add_all(items)?;
         Ok(bench)
+    }
+
+    fn add_all(&mut self, items: &[u64]) -> Result<(), Fail> {
+        for item in items {
+            self.add_at_once(*item)?;
+        }
+        Ok(())
     }
 
     fn make(&mut self, next: Move<u64>) -> Reply<u64> {
@@ -90,20 +93,28 @@ impl Bench {
         }
     }
 
-    fn status(&mut self) -> Result<Status, Fail> {
+    /// The pool stands so.
+    fn stands_at(&mut self, status: Status) -> Result<(), Fail> {
         match self.make(Move::Status) {
-            Reply::Stands(status) => Ok(status),
+            Reply::Stands(seen) => expect("the status", seen, status),
             _ => Err(Fail::new("no status")),
         }
     }
 
-    fn size(&mut self) -> Result<usize, Fail> {
-        Ok(self.status()?.size)
+    /// There are so many objects.
+    fn has_size(&mut self, size: usize) -> Result<(), Fail> {
+        match self.make(Move::Status) {
+            Reply::Stands(seen) => expect("the size", seen.size, size),
+            _ => Err(Fail::new("no status")),
+        }
     }
 
-    /// Whether a move is refused since the pool is closed.
-    fn is_refused(&mut self, next: Move<u64>) -> Result<bool, Fail> {
-        Ok(matches!(self.make(next), Reply::Failed(PoolError::Closed)))
+    /// A move is refused since the pool is closed.
+    fn refuses(&mut self, next: Move<u64>) -> Result<(), Fail> {
+        match self.make(next) {
+            Reply::Failed(cause) => expect("the cause", cause, PoolError::Closed),
+            _ => Err(Fail::new("not refused")),
+        }
     }
 
     /// Starts a get or an add that has to wait, and gives its number.
@@ -115,101 +126,134 @@ impl Bench {
         }
     }
 
-    /// The values that leave the pool one after another, each with the size that is left.
-    fn removes(&mut self, left: &[(u64, usize)]) -> Result<(), Fail> {
-        for (value, size) in left {
-            if self.try_remove()? != *value || self.size()? != *size {
-                return Err(Fail::new("another object left, or another size"));
-            }
-        }
-        Ok(())
+    /// Adds a value in one poll. There are so many objects then.
+    fn adds(&mut self, value: u64, size: usize) -> Result<(), Fail> {
+        self.add_at_once(value)?;
+        self.has_size(size)
+    }
+
+    /// Adds a value with no wait, and it gets this number. There are so many objects then.
+    fn adds_as(&mut self, value: u64, number: usize, size: usize) -> Result<(), Fail> {
+        expect("the number", self.try_add(value)?, number)?;
+        self.has_size(size)
+    }
+
+    /// A value leaves the pool. There are so many objects then.
+    fn removes(&mut self, value: u64, size: usize) -> Result<(), Fail> {
+        expect("the value", self.try_remove()?, value)?;
+        self.has_size(size)
     }
 }
 
 #[test]
 fn gets_empty_a_pool(rt: HostRuntime) -> Result<(), Fail> {
-    let mut bench = Bench::with_items(rt.alloc(), &[11, 12, 13])?;
-    assert_eq!(rt; bench.status()?, stands(3, 3, 3, 0));
+    is_emptied(&mut Bench::with_items(rt.alloc(), &[11, 12, 13])?)
+}
+
+fn is_emptied(bench: &mut Bench) -> Result<(), Fail> {
+    bench.stands_at(stands(3, 3, 3, 0))?;
     for (number, value, available) in [(2, 13, 2), (1, 12, 1), (0, 11, 0)] {
-        assert_eq!(rt; bench.get_at_once()?, number);
-        assert_eq!(rt; bench.trial.value(number), Some(&value));
-        assert_eq!(rt; bench.status()?, stands(3, 3, available, 0));
+        hands_out(bench, number, value)?;
+        bench.stands_at(stands(3, 3, available, 0))?;
     }
-    assert_eq!(rt; bench.trial.value(3), None);
-    Ok(())
+    expect("no value", bench.trial.value(3).copied(), None)
+}
+
+fn hands_out(bench: &mut Bench, number: usize, value: u64) -> Result<(), Fail> {
+    expect("the object", bench.get_at_once()?, number)?;
+    expect("its value", bench.trial.value(number).copied(), Some(value))
 }
 
 #[test]
 fn a_closed_pool_refuses_all(rt: HostRuntime) -> Result<(), Fail> {
     let mut bench = Bench::new(rt.alloc(), 1)?;
+    let number = is_closed_while_a_get_waits(&mut bench)?;
+    refuses_what_came_back(&mut bench, number)
+}
+
+// Gives the number of an object that is out.
+fn is_closed_while_a_get_waits(bench: &mut Bench) -> Result<usize, Fail> {
     bench.add_at_once(0)?;
     let number = bench.get_at_once()?;
     let waiting = bench.waits(Move::Get(None))?;
-    assert_eq!(rt; bench.status()?, stands(1, 1, 0, 1));
-    assert!(rt; matches!(bench.make(Move::Close), Reply::Done));
+    bench.stands_at(stands(1, 1, 0, 1))?;
+    is_closed_to(bench, waiting)?;
+    Ok(number)
+}
 
+// It is closed for a get that waits, for one that comes late, and for one that does not wait.
+fn is_closed_to(bench: &mut Bench, waiting: usize) -> Result<(), Fail> {
+    let is_done = matches!(bench.make(Move::Close), Reply::Done);
+    expect("done", is_done, true)?;
     let late = bench.start(Move::Get(None))?;
-    for party in [waiting, late] {
-        assert!(rt; bench.is_refused(Move::Poll(party, Moment(0)))?);
-    }
-    assert!(rt; bench.is_refused(Move::TryGet)?);
-    assert_eq!(rt; bench.status()?, stands(1, 1, 0, 0));
+    bench.refuses(Move::Poll(waiting, Moment(0)))?;
+    bench.refuses(Move::Poll(late, Moment(0)))?;
+    bench.refuses(Move::TryGet)?;
+    bench.stands_at(stands(1, 1, 0, 0))
+}
 
-    assert!(rt; matches!(bench.make(Move::Back(number)), Reply::Dropped));
-    assert!(rt; bench.is_refused(Move::TryGet)?);
-    assert_eq!(rt; bench.status()?, stands(1, 0, 0, 0));
-    Ok(())
+fn refuses_what_came_back(bench: &mut Bench, number: usize) -> Result<(), Fail> {
+    let is_dropped = matches!(bench.make(Move::Back(number)), Reply::Dropped);
+    expect("dropped", is_dropped, true)?;
+    bench.refuses(Move::TryGet)?;
+    bench.stands_at(stands(1, 0, 0, 0))
 }
 
 #[test]
 fn adds_and_removals(rt: HostRuntime) -> Result<(), Fail> {
-    let mut bench = Bench::new(rt.alloc(), 2)?;
-    for (value, size) in [(1, 1), (2, 2)] {
-        bench.add_at_once(value)?;
-        assert_eq!(rt; bench.size()?, size);
-    }
+    adds_and_removes(&mut Bench::new(rt.alloc(), 2)?)
+}
 
-    // The third waits, and is given up.
+fn adds_and_removes(bench: &mut Bench) -> Result<(), Fail> {
+    bench.adds(1, 1)?;
+    bench.adds(2, 2)?;
+    gives_an_add_up(bench)?;
+    bench.removes(2, 1)?;
+    bench.adds(3, 2)?;
+    bench.removes(3, 1)?;
+    bench.removes(1, 0)
+}
+
+// The third waits, and is given up.
+fn gives_an_add_up(bench: &mut Bench) -> Result<(), Fail> {
     let third = bench.waits(Move::Add(3))?;
-    assert!(rt; matches!(bench.make(Move::Cancel(third)), Reply::Cancelled));
-    assert_eq!(rt; bench.size()?, 2);
-
-    bench.removes(&[(2, 1)])?;
-    bench.add_at_once(3)?;
-    assert_eq!(rt; bench.size()?, 2);
-    bench.removes(&[(3, 1), (1, 0)])
+    let is_cancelled = matches!(bench.make(Move::Cancel(third)), Reply::Cancelled);
+    expect("cancelled", is_cancelled, true)?;
+    bench.has_size(2)
 }
 
 #[test]
 fn adds_and_removals_that_do_not_wait(rt: HostRuntime) -> Result<(), Fail> {
-    let mut bench = Bench::new(rt.alloc(), 2)?;
-    for (value, number, size) in [(1, 0, 1), (2, 1, 2)] {
-        assert_eq!(rt; bench.try_add(value)?, number);
-        assert_eq!(rt; bench.size()?, size);
-    }
+    adds_and_removes_at_once(&mut Bench::new(rt.alloc(), 2)?)
+}
 
+fn adds_and_removes_at_once(bench: &mut Bench) -> Result<(), Fail> {
+    bench.adds_as(1, 0, 1)?;
+    bench.adds_as(2, 1, 2)?;
     let refused = bench.make(Move::TryAdd(3));
-    assert!(rt; matches!(refused, Reply::Refused(PoolError::Timeout, 3)));
-    assert_eq!(rt; bench.size()?, 2);
-
-    bench.removes(&[(2, 1)])?;
+    let is_refused = matches!(refused, Reply::Refused(PoolError::Timeout, 3));
+    expect("refused", is_refused, true)?;
+    bench.has_size(2)?;
+    bench.removes(2, 1)?;
     // The one that was refused had the number 2.
-    assert_eq!(rt; bench.try_add(3)?, 3);
-    assert_eq!(rt; bench.size()?, 2);
-    bench.removes(&[(3, 1), (1, 0)])
+    bench.adds_as(3, 3, 2)?;
+    bench.removes(3, 1)?;
+    bench.removes(1, 0)
 }
 
 #[test]
 fn an_add_waits_for_room(rt: HostRuntime) -> Result<(), Fail> {
-    let mut bench = Bench::with_items(rt.alloc(), &[1])?;
-    let add = bench.start(Move::Add(2))?;
-    assert!(rt; matches!(bench.poll(add), Reply::Pending));
-    assert_eq!(rt; bench.size()?, 1);
-    assert_eq!(rt; bench.try_remove()?, 1);
-    assert!(rt; matches!(bench.poll(add), Reply::Added(1)));
-    assert_eq!(rt; bench.size()?, 1);
-    assert_eq!(rt; bench.try_remove()?, 2);
-    Ok(())
+    adds_when_there_is_room(&mut Bench::with_items(rt.alloc(), &[1])?)
+}
+
+fn adds_when_there_is_room(bench: &mut Bench) -> Result<(), Fail> {
+    let add = bench.waits(Move::Add(2))?;
+    bench.has_size(1)?;
+    bench.removes(1, 0)?;
+    let is_added = matches!(bench.poll(add), Reply::Added(1));
+    expect("added", is_added, true)?;
+    bench.has_size(1)?;
+    bench.removes(2, 0)
 }
 
 // A pool of a configuration whose gets wait so long, and what a get of such a wait comes to at the moments.
@@ -256,110 +300,5 @@ fn a_wait_ends_with_a_runtime(rt: HostRuntime) -> Result<(), Fail> {
     assert!(rt; matches!(ended, Poll::Ready(Err(PoolError::Timeout))));
     let (first, early) = gives_at(&rt, wait, runtime, 5, MILLISECOND + 4)?;
     assert!(rt; matches!((first, early), (Poll::Pending, Poll::Pending)));
-    Ok(())
-}
-
-// A pool of one object, which is out.
-fn with_object_out(alloc: Global, value: u64) -> Result<Core<u64>, Fail> {
-    let mut core = Core::new(alloc, 1)?;
-    if !matches!(core.add_enter(value, false), AddEnterReply::Stored) {
-        return Err(Fail::new("not stored"));
-    }
-    match core.get_enter(false) {
-        GetEnterReply::Object(_) => Ok(core),
-        _ => Err(Fail::new("no object")),
-    }
-}
-
-#[test]
-fn an_add_has_its_object_until_it_ends(rt: HostRuntime) -> Result<(), Fail> {
-    let mut core = Core::new(rt.alloc(), 1)?;
-    let mut first = AddState::new("first");
-    assert_eq!(rt; first.value(), Some(&"first"));
-    assert!(rt; matches!(first.poll(&mut core), Poll::Ready(Ok(()))));
-    assert_eq!(rt; first.value(), None);
-    assert!(rt; matches!(first.poll(&mut core), Poll::Pending));
-
-    let mut second = AddState::new("second");
-    assert!(rt; matches!(second.poll(&mut core), Poll::Pending));
-    assert_eq!(rt; second.value(), Some(&"second"));
-    core.close();
-    let refused = second.poll(&mut core);
-    assert!(rt; matches!(refused, Poll::Ready(Err(("second", PoolError::Closed)))));
-    assert!(rt; matches!(second.poll(&mut core), Poll::Pending));
-    assert_eq!(rt; second.value(), None);
-    Ok(())
-}
-
-#[test]
-fn a_cancelled_add_leaves_its_room_to_the_next(rt: HostRuntime) -> Result<(), Fail> {
-    let mut core = with_object_out(rt.alloc(), 1)?;
-    let mut first = AddState::new(2);
-    let mut second = AddState::new(3);
-    assert!(rt; matches!(first.poll(&mut core), Poll::Pending));
-    assert!(rt; matches!(second.poll(&mut core), Poll::Pending));
-    assert_eq!(rt; core.take(), TakeReply::Taken);
-    first.cancel(&mut core);
-    assert!(rt; matches!(core.add_enter(4, false), AddEnterReply::Full(4)));
-    assert!(rt; matches!(second.poll(&mut core), Poll::Ready(Ok(()))));
-    assert_eq!(rt; core.status(), stands(1, 1, 1, 0));
-    Ok(())
-}
-
-#[test]
-fn a_cancelled_get_leaves_its_object_to_others(rt: HostRuntime) -> Result<(), Fail> {
-    let mut core = with_object_out(rt.alloc(), 1)?;
-    let mut get = GetState::new(None);
-    assert!(rt; matches!(get.poll(&mut core, None, Moment(0)), Poll::Pending));
-    assert!(rt; matches!(core.back(1), BackReply::Kept));
-    assert_eq!(rt; core.status(), stands(1, 1, 1, 1));
-    assert!(rt; matches!(core.get_enter(false), GetEnterReply::Full));
-    get.cancel(&mut core);
-    assert!(rt; matches!(core.get_enter(false), GetEnterReply::Object(1)));
-    Ok(())
-}
-
-#[test]
-fn steps_of_newcomers(rt: HostRuntime) -> Result<(), Fail> {
-    let mut core = with_object_out(rt.alloc(), 7)?;
-    assert!(rt; matches!(core.get_enter(false), GetEnterReply::Full));
-    assert!(rt; matches!(core.add_enter(8, false), AddEnterReply::Full(8)));
-    assert!(rt; matches!(core.get_enter(true), GetEnterReply::Waiting(_)));
-    assert!(rt; matches!(core.add_enter(9, true), AddEnterReply::Waiting(_, 9)));
-    assert_eq!(rt; core.status(), stands(1, 1, 0, 1));
-    core.close();
-    assert!(rt; matches!(core.get_enter(true), GetEnterReply::Closed));
-    assert!(rt; matches!(core.add_enter(9, true), AddEnterReply::Closed(9)));
-    Ok(())
-}
-
-#[test]
-fn steps_of_an_object(rt: HostRuntime) -> Result<(), Fail> {
-    let mut core = with_object_out(rt.alloc(), 7)?;
-    assert!(rt; matches!(core.back(7), BackReply::Kept));
-    assert!(rt; matches!(core.back(7), BackReply::Unknown(7)));
-    assert_eq!(rt; core.take(), TakeReply::Unknown);
-    assert!(rt; matches!(core.get_enter(true), GetEnterReply::Object(7)));
-    core.close();
-    assert_eq!(rt; core.status(), stands(1, 1, 0, 0));
-    assert!(rt; matches!(core.back(7), BackReply::Dropped(7)));
-    assert_eq!(rt; core.status(), stands(1, 0, 0, 0));
-    Ok(())
-}
-
-#[test]
-fn steps_of_a_handle(rt: HostRuntime) -> Result<(), Fail> {
-    let mut core = with_object_out(rt.alloc(), 7)?;
-    assert!(rt; matches!(core.back(7), BackReply::Kept));
-    assert_eq!(rt; core.clone_handle(), HandleReply::Done);
-    assert_eq!(rt; core.drop_handle(), HandleReply::Done);
-    assert!(rt; core.upgrade());
-    assert_eq!(rt; core.drop_handle(), HandleReply::Done);
-    assert_eq!(rt; core.status(), stands(1, 1, 1, 0));
-    assert_eq!(rt; core.drop_handle(), HandleReply::Done);
-    assert_eq!(rt; core.status(), stands(1, 0, 0, 0));
-    assert_eq!(rt; core.drop_handle(), HandleReply::NoHandle);
-    assert_eq!(rt; core.clone_handle(), HandleReply::NoHandle);
-    assert!(rt; !core.upgrade());
     Ok(())
 }

@@ -5,6 +5,7 @@ use deadpool::{Moment, Status};
 use std::alloc::Global;
 use std::test::Fail;
 use test_support::bench::stands;
+use test_support::expected::expect;
 
 const CROWD: usize = 1_024;
 
@@ -66,12 +67,18 @@ fn is_added(replies: &[Reply<u64>]) -> bool {
 #[test]
 fn a_list_that_adds_and_one_that_goes_on(rt: HostRuntime) -> Result<(), Fail> {
     let mut trial = Trial::new(rt.alloc(), 2, None, 4)?;
-    let replies = run(&mut trial, fills_and_gets(rt.alloc())?)?;
-    assert!(rt; is_filled(&replies));
-    let replies = run(&mut trial, takes_and_gets(rt.alloc())?)?;
-    assert!(rt; is_added(&replies));
-    assert_eq!(rt; status(&mut trial, rt.alloc())?, stands(2, 2, 1, 0));
-    Ok(())
+    adds_and_goes_on(&mut trial, rt.alloc())?;
+    expect(
+        "the status",
+        status(&mut trial, rt.alloc())?,
+        stands(2, 2, 1, 0),
+    )
+}
+
+fn adds_and_goes_on(trial: &mut Trial<u64>, alloc: Global) -> Result<(), Fail> {
+    let filled = is_filled(&run(trial, fills_and_gets(alloc)?)?);
+    let added = is_added(&run(trial, takes_and_gets(alloc)?)?);
+    expect("filled, added", (filled, added), (true, true))
 }
 
 // A crowd of gets and then one of adds start, and each is polled.
@@ -93,34 +100,64 @@ fn crowd(alloc: Global) -> Result<Vec<Move<u64>>, Fail> {
 fn crowds_of_gets_and_adds_wait(rt: HostRuntime) -> Result<(), Fail> {
     let mut trial = Trial::new(rt.alloc(), 0, None, 2 * CROWD)?;
     let replies = run(&mut trial, crowd(rt.alloc())?)?;
-    assert_eq!(rt; replies.len(), 4 * CROWD);
+    all_wait(&replies)?;
+    expect(
+        "the status",
+        status(&mut trial, rt.alloc())?,
+        stands(0, 0, 0, CROWD),
+    )
+}
+
+fn all_wait(replies: &[Reply<u64>]) -> Result<(), Fail> {
+    expect("replies", replies.len(), 4 * CROWD)?;
     for (at, reply) in replies.iter().enumerate() {
         let is_as_expected = match reply {
             Reply::Started(party) => *party == at,
             Reply::Pending => 2 * CROWD <= at,
             _ => false,
         };
-        assert!(rt; is_as_expected, "at {at}");
+        expect("started or pending", (at, is_as_expected), (at, true))?;
     }
-    assert_eq!(rt; status(&mut trial, rt.alloc())?, stands(0, 0, 0, CROWD));
     Ok(())
 }
 
 #[test]
 fn a_large_unmanaged_pool(rt: HostRuntime) -> Result<(), Fail> {
     let mut core = Core::new(rt.alloc(), LARGE)?;
+    fills(&mut core)?;
+    empties(&mut core)?;
+    takes_all_back(&mut core)
+}
+
+fn fills(core: &mut Core<usize>) -> Result<(), Fail> {
     for value in 0..LARGE {
-        assert!(rt; matches!(core.add_enter(value, false), AddEnterReply::Stored));
+        let is_stored = matches!(core.add_enter(value, false), AddEnterReply::Stored);
+        expect("stored", (value, is_stored), (value, true))?;
     }
-    assert!(rt; matches!(core.add_enter(LARGE, false), AddEnterReply::Full(LARGE)));
-    assert_eq!(rt; core.status(), stands(LARGE, LARGE, LARGE, 0));
+    let is_full = matches!(core.add_enter(LARGE, false), AddEnterReply::Full(LARGE));
+    expect("full", is_full, true)?;
+    expect("the status", core.status(), stands(LARGE, LARGE, LARGE, 0))
+}
+
+fn empties(core: &mut Core<usize>) -> Result<(), Fail> {
     for left in (0..LARGE).rev() {
-        assert!(rt; matches!(core.get_enter(false), GetEnterReply::Object(value) if value == left));
+        expect("the object", object_of(core.get_enter(false)), Some(left))?;
     }
-    assert!(rt; matches!(core.get_enter(false), GetEnterReply::Full));
+    let is_full = matches!(core.get_enter(false), GetEnterReply::Full);
+    expect("no object", is_full, true)
+}
+
+fn object_of(reply: GetEnterReply<usize>) -> Option<usize> {
+    match reply {
+        GetEnterReply::Object(value) => Some(value),
+        _ => None,
+    }
+}
+
+fn takes_all_back(core: &mut Core<usize>) -> Result<(), Fail> {
     for value in 0..LARGE {
-        assert!(rt; matches!(core.back(value), BackReply::Kept));
+        let is_kept = matches!(core.back(value), BackReply::Kept);
+        expect("kept", (value, is_kept), (value, true))?;
     }
-    assert_eq!(rt; core.status(), stands(LARGE, LARGE, LARGE, 0));
-    Ok(())
+    expect("the status", core.status(), stands(LARGE, LARGE, LARGE, 0))
 }

@@ -7,6 +7,7 @@ use futures::task::Poll;
 use std::alloc::Global;
 use std::cell::Cell;
 use std::test::Fail;
+use test_support::expected::expect;
 
 // A pool for one object, with that one idle.
 fn with_idle<'a>(alloc: Global, drops: &'a Cell<usize>) -> Result<Core<Tracked<'a>>, Fail> {
@@ -23,12 +24,11 @@ fn the_last_handle_of_an_unmanaged_pool(rt: HostRuntime) -> Result<(), Fail> {
     let mut core = with_idle(rt.alloc(), &drops)?;
     core.clone_handle();
     core.drop_handle();
-    assert_eq!(rt; drops.get(), 0);
+    let before = drops.get();
     core.drop_handle();
-    assert_eq!(rt; drops.get(), 1);
+    let last = drops.get();
     drop(core);
-    assert_eq!(rt; drops.get(), 1);
-    Ok(())
+    expect("dropped", [before, last, drops.get()], [0, 1, 1])
 }
 
 #[test]
@@ -40,36 +40,38 @@ fn an_object_that_is_out_at_the_last_handle(rt: HostRuntime) -> Result<(), Fail>
     };
     core.drop_handle();
     let reply = core.back(value);
-    assert!(rt; matches!(reply, BackReply::Dropped(_)));
-    assert_eq!(rt; drops.get(), 0);
+    let is_dropped = matches!(reply, BackReply::Dropped(_));
+    let back = drops.get();
     drop(reply);
-    assert_eq!(rt; drops.get(), 1);
+    let first = drops.get();
     // One that was not out comes back too.
     drop(core.back(Tracked { drops: &drops }));
-    assert_eq!(rt; drops.get(), 2);
+    let second = drops.get();
     drop(core);
-    assert_eq!(rt; drops.get(), 2);
-    Ok(())
+    expect("handed back", is_dropped, true)?;
+    expect("dropped", [back, first, second, drops.get()], [0, 1, 2, 2])
 }
 
 #[test]
 fn a_cancelled_add_hands_its_object_back(rt: HostRuntime) -> Result<(), Fail> {
     // Before its first poll, and in the queue.
-    for polls in [0, 1] {
-        let drops = Cell::new(0);
-        let mut core = with_idle(rt.alloc(), &drops)?;
-        let mut add = AddState::new(Tracked { drops: &drops });
-        for _poll in 0..polls {
-            assert!(rt; matches!(add.poll(&mut core), Poll::Pending));
-        }
-        let value = add.cancel(&mut core);
-        assert_eq!(rt; (value.is_some(), drops.get()), (true, 0));
-        drop(value);
-        assert_eq!(rt; drops.get(), 1);
-        drop(core);
-        assert_eq!(rt; drops.get(), 2);
-    }
-    Ok(())
+    cancels_an_add(rt.alloc(), false)?;
+    cancels_an_add(rt.alloc(), true)
+}
+
+fn cancels_an_add(alloc: Global, waits: bool) -> Result<(), Fail> {
+    let drops = Cell::new(0);
+    let mut core = with_idle(alloc, &drops)?;
+    let mut add = AddState::new(Tracked { drops: &drops });
+    let is_pending = !waits || matches!(add.poll(&mut core), Poll::Pending);
+    let value = add.cancel(&mut core);
+    let is_back = value.is_some();
+    let cancelled = drops.get();
+    drop(value);
+    let back = drops.get();
+    drop(core);
+    expect("pending, handed back", (is_pending, is_back), (true, true))?;
+    expect("dropped", [cancelled, back, drops.get()], [0, 1, 2])
 }
 
 #[test]
@@ -77,16 +79,18 @@ fn a_refused_add_hands_its_object_back(rt: HostRuntime) -> Result<(), Fail> {
     let drops = Cell::new(0);
     let mut core = with_idle(rt.alloc(), &drops)?;
     let mut add = AddState::new(Tracked { drops: &drops });
-    assert!(rt; matches!(add.poll(&mut core), Poll::Pending));
+    let is_pending = matches!(add.poll(&mut core), Poll::Pending);
     core.close();
-    assert_eq!(rt; drops.get(), 1);
+    let closed = drops.get();
     let refused = add.poll(&mut core);
-    assert!(rt; matches!(refused, Poll::Ready(Err(_))));
-    assert_eq!(rt; drops.get(), 1);
+    let is_refused = matches!(refused, Poll::Ready(Err(_)));
+    let back = drops.get();
     drop(refused);
     drop(add);
-    assert_eq!(rt; drops.get(), 2);
-    Ok(())
+    let seen = [closed, back, drops.get()];
+    drop(core);
+    expect("pending, refused", (is_pending, is_refused), (true, true))?;
+    expect("dropped", seen, [1, 1, 2])
 }
 
 #[test]
@@ -94,18 +98,20 @@ fn an_add_that_the_queue_does_not_know(rt: HostRuntime) -> Result<(), Fail> {
     let drops = Cell::new(0);
     let mut core = with_idle(rt.alloc(), &drops)?;
     let mut add = AddState::new(Tracked { drops: &drops });
-    assert!(rt; matches!(add.poll(&mut core), Poll::Pending));
+    let is_pending = matches!(add.poll(&mut core), Poll::Pending);
     let Some(ticket) = add.ticket() else {
         return Err(Fail::new("not in the queue"));
     };
     core.add_cancel(ticket);
     let refused = add.poll(&mut core);
-    assert!(rt; matches!(refused, Poll::Ready(Err(_))));
-    assert_eq!(rt; drops.get(), 0);
+    let is_refused = matches!(refused, Poll::Ready(Err(_)));
+    let back = drops.get();
     drop(refused);
     drop(add);
-    assert_eq!(rt; drops.get(), 1);
-    Ok(())
+    let seen = [back, drops.get()];
+    drop(core);
+    expect("pending, refused", (is_pending, is_refused), (true, true))?;
+    expect("dropped", seen, [0, 1])
 }
 
 // A trial for one object, in which these moves were made.
@@ -130,8 +136,7 @@ fn adds_of_a_trial_drop_their_objects(rt: HostRuntime) -> Result<(), Fail> {
     ]?;
     // Both adds are cancelled, the second before its first poll.
     let trial = played(rt.alloc(), moves)?;
-    assert_eq!(rt; drops.get(), 2);
+    let cancelled = drops.get();
     drop(trial);
-    assert_eq!(rt; drops.get(), 3);
-    Ok(())
+    expect("dropped", [cancelled, drops.get()], [2, 3])
 }

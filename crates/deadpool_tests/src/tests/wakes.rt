@@ -6,14 +6,12 @@ use futures::test::MockTask;
 use std::test::Fail;
 use test_support::answering::Answering;
 use test_support::bench::new_core;
+use test_support::expected::expect;
+
+type Get = GetState<Told, Answering>;
 
 // Polls a get of a pool, and says whether it is pending and has left its task asleep.
-fn sleeps(
-    task: &MockTask,
-    state: &mut GetState<Told, Answering>,
-    core: &mut Core<Object>,
-    environment: &Lent,
-) -> bool {
+fn sleeps(task: &MockTask, state: &mut Get, core: &mut Core<Object>, environment: &Lent) -> bool {
     let turn = task.enter(|cx| state.poll_over(core, environment, Moment(0), cx));
     matches!(turn, Turn::Pending) && !task.is_woken()
 }
@@ -25,19 +23,44 @@ fn a_get_that_waits_leaves_its_task_asleep(rt: HostRuntime) -> Result<(), Fail> 
     let mut core = new_core(rt.alloc(), 1, QueueMode::Fifo)?;
     let mut creating = GetState::new(Timeouts::new());
     let mut queued = GetState::new(Timeouts::new());
+    both_wait(&task, &mut creating, &mut queued, &mut core, &environment)
+}
+
+// One waits for its creation, and the other for its turn.
+fn both_wait(
+    task: &MockTask,
+    creating: &mut Get,
+    queued: &mut Get,
+    core: &mut Core<Object>,
+    environment: &Lent,
+) -> Result<(), Fail> {
     for _turn in 0..2 {
-        assert!(rt; sleeps(&task, &mut creating, &mut core, &environment));
-        assert!(rt; sleeps(&task, &mut queued, &mut core, &environment));
+        sleep(task, creating, core, environment, true)?;
+        sleep(task, queued, core, environment, true)?;
     }
     environment.manager.creation.set(Answer::Accepts);
-    assert!(rt; !sleeps(&task, &mut creating, &mut core, &environment));
-    assert!(rt; !task.is_woken());
+    sleep(task, creating, core, environment, false)?;
+    expect("woken", task.is_woken(), false)?;
     // It has ended.
-    assert!(rt; sleeps(&task, &mut creating, &mut core, &environment));
+    sleep(task, creating, core, environment, true)?;
     core.close();
-    assert!(rt; !sleeps(&task, &mut queued, &mut core, &environment));
-    assert!(rt; sleeps(&task, &mut queued, &mut core, &environment));
-    Ok(())
+    sleep(task, queued, core, environment, false)?;
+    sleep(task, queued, core, environment, true)
+}
+
+// Polls a get of a pool that is to be pending, and to leave its task asleep, or is not.
+fn sleep(
+    task: &MockTask,
+    state: &mut Get,
+    core: &mut Core<Object>,
+    environment: &Lent,
+    expected: bool,
+) -> Result<(), Fail> {
+    expect(
+        "pending and asleep",
+        sleeps(task, state, core, environment),
+        expected,
+    )
 }
 
 #[test]
@@ -48,10 +71,17 @@ fn a_get_with_a_new_object_leaves_its_task_asleep(rt: HostRuntime) -> Result<(),
     let task = MockTask::new(&rt)?;
     let mut core = new_core(rt.alloc(), 1, QueueMode::Fifo)?;
     let mut checking = GetState::new(Timeouts::new());
-    for _turn in 0..2 {
-        assert!(rt; sleeps(&task, &mut checking, &mut core, &environment));
-    }
-    Ok(())
+    sleep_twice(&task, &mut checking, &mut core, &environment)
+}
+
+fn sleep_twice(
+    task: &MockTask,
+    state: &mut Get,
+    core: &mut Core<Object>,
+    environment: &Lent,
+) -> Result<(), Fail> {
+    sleep(task, state, core, environment, true)?;
+    sleep(task, state, core, environment, true)
 }
 
 #[test]
@@ -66,8 +96,5 @@ fn a_get_with_an_idle_object_leaves_its_task_asleep(rt: HostRuntime) -> Result<(
     };
     assert!(rt; matches!(core.back(slot), BackReply::Kept));
     let mut recycling = GetState::new(Timeouts::new());
-    for _turn in 0..2 {
-        assert!(rt; sleeps(&task, &mut recycling, &mut core, &environment));
-    }
-    Ok(())
+    sleep_twice(&task, &mut recycling, &mut core, &environment)
 }
