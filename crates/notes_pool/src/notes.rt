@@ -1,0 +1,119 @@
+//! Has the notes written, and says what is found at the end.
+ghost use Rattle.deadpool.specs.Opens.{Opens};
+
+use crate::fault::Fault;
+use crate::notebook::{NoTime, Notebook, NotesPool};
+use crate::source::Counting;
+use crate::table::{SCHEMA, rows_and_sum};
+use crate::writers::{Host, run_all};
+use deadpool::Status;
+use deadpool::managed::PoolBuilder;
+use deadpool_sqlite::{RecyclingMethod, Source, SqliteManager};
+use futures::executor::block_on;
+use sqlite::Error;
+use std::marker::Brand;
+use std::random::RandomSource;
+use std::sync::Wait;
+use std::sync::ledger::{Blank, Ledger};
+
+/// What is found at the end.
+#[derive(Drop)]
+struct Found {
+    rows: i64,
+    sum: i64,
+    status: Status,
+    made: usize,
+}
+
+/// Has the threads write their notes, and says what is in the file then: as the pool shows it, and as a connection that
+/// `alone` opens after it does.
+pub fn write_notes<B, R>(rt: R, source: Counting<B>, alone: &B) -> Result<String, Fault>
+where
+    B: Source + Send + Sync + 'static,
+    B::Storage: Send + 'static,
+    R: Host,
+{
+    let manager = SqliteManager {
+        source,
+        batch: String::from_str(rt.alloc(), SCHEMA)?,
+        method: RecyclingMethod::Verified,
+    };
+    let going = Blank::new(u64::MAX);
+    let creations = Blank::new(u64::MAX);
+    let outside = Blank::new(u64::MAX);
+    let found = written::<SqliteManager<Counting<B>>, R, Brand, Brand, Brand>(
+        rt, manager, going, creations, outside,
+    )?;
+    let by_itself = found_alone(alone)?;
+    told(&rt, &found, by_itself)
+}
+
+fn found_alone<B: Source>(alone: &B) -> Result<(i64, i64), Error> {
+    let mut conn = alone.open()?;
+    rows_and_sum(&mut conn)
+}
+
+fn told<R: AllocGlobal>(rt: &R, found: &Found, by_itself: (i64, i64)) -> Result<String, Fault> {
+    let mut text = String::new(rt.alloc());
+    let status = found.status;
+    writeln!(text, "rows {} sum {}", found.rows, found.sum)?;
+    writeln!(
+        text,
+        "max {} size {} available {} waiting {}",
+        status.max_size, status.size, status.available, status.waiting
+    )?;
+    writeln!(text, "connections {}", found.made)?;
+    let (rows, sum) = by_itself;
+    writeln!(text, "the file by itself: rows {rows} sum {sum}")?;
+    Ok(text)
+}
+
+// Has the threads write by a pool of one object, and looks by the same pool.
+fn written<M, R, G, N, O>(
+    rt: R,
+    manager: M,
+    going: Blank,
+    creations: Blank,
+    outside: Blank,
+) -> Result<Found, Fault>
+where
+    M: Notebook + Drop + Send + Sync + 'static,
+    M::Type: Send + 'static,
+    M::Error: Send + 'static,
+    M::Creating: Send + 'static,
+    M::Recycling: Send + 'static,
+    R: Host,
+    G: Ledger + Send + Sync + 'static,
+    N: Ledger + Send + Sync + 'static,
+    O: Ledger + Send + Sync + 'static,
+    requires going { Opens G.Ledger going }
+    requires creations { Opens N.Ledger creations }
+    requires outside { Opens O.Ledger outside }
+{
+    let builder = PoolBuilder::new(rt.alloc(), manager, NoTime).max_size(1);
+    let built = builder.build(going, creations, outside, rt);
+    let pool: NotesPool<M, R, G, N, O> = built.map_err(|_| Fault::OutOfMemory)?;
+    run_all(rt, &pool)?;
+    let (rows, sum) = shown(&rt, &pool)?;
+    Ok(Found {
+        rows,
+        sum,
+        status: pool.status(),
+        made: pool.manager().made(),
+    })
+}
+
+// What the next user sees.
+fn shown<M, R, G, N, O>(rt: &R, pool: &NotesPool<M, R, G, N, O>) -> Result<(i64, i64), Fault>
+where
+    M: Notebook + Drop,
+    R: Wait + RandomSource + AllocGlobal + Drop,
+    G: Ledger,
+    N: Ledger,
+    O: Ledger,
+{
+    let Ok(Ok(mut object)) = block_on(rt, pool.get()) else {
+        return Err(Fault::Refused);
+    };
+    M::rows_and_sum(&mut object).map_err(Fault::Database)
+}
