@@ -4,5 +4,6 @@ mod files;
 mod held;
 mod left_open;
 mod lines;
+mod promise;
 mod recycling;
 mod schemas;
