@@ -1,12 +1,11 @@
 //! A pool of connections as the moves see it.
 use crate::question::{Question, ask};
 use crate::reply::Reply;
-use deadpool::managed::{Manager, NoHook, Object, ObjectId, Pool, PoolError};
+use deadpool::managed::{NoHook, Object, ObjectId, Pool, PoolError};
 use deadpool::{Clock, Moment, Status};
-use deadpool_sqlite::{Source, SqliteManager};
-use futures::Future;
+use deadpool_sqlite::{PooledConnection, Source, SqliteManager, poll_connection};
 use futures::task::{Context, Doorbell, Poll, Solo};
-use sqlite::{Connection, Error};
+use sqlite::Error;
 use std::random::RandomSource;
 use std::sync::Wait;
 use std::sync::ledger::Ledger;
@@ -47,44 +46,26 @@ pub trait Connections: Drop {
     fn take_and_close(out: Self::Out);
 }
 
-/// A manager whose objects answer questions.
-pub trait Asked: Manager<Error = Error> + Drop {
-    /// What an object answers.
-    fn answer(object: &mut Self::Type, question: Question) -> Reply;
-}
-
-/// A pool of such objects, with no hooks.
-pub type AskedPool<M, R, G, N, O> = Pool<M, NoHook, NoHook, NoTime, R, G, N, O>;
-
-/// Such an object, which is out.
-pub type AskedObject<M, R, G, N, O> = Object<M, NoHook, NoHook, NoTime, R, G, N, O>;
-
-impl<B: Source> Asked for SqliteManager<B> {
-    fn answer(conn: &mut Connection<B::Storage>, question: Question) -> Reply {
-        ask(conn, question)
-    }
-}
-
-impl<M, R, G, N, O> Connections for Pool<M, NoHook, NoHook, NoTime, R, G, N, O>
+impl<B, R, G, N, O> Connections for Pool<SqliteManager<B>, NoHook, NoHook, NoTime, R, G, N, O>
 where
-    M: Asked,
+    B: Source,
     R: Wait + Drop,
     G: Ledger,
     N: Ledger,
     O: Ledger,
 {
-    type Out = AskedObject<M, R, G, N, O>;
+    type Out = PooledConnection<B, NoTime, R, G, N, O>;
 
     fn get<H: RandomSource + AllocGlobal>(
         &self,
         rt: &H,
-    ) -> Option<Poll<Result<AskedObject<M, R, G, N, O>, PoolError<Error>>>> {
+    ) -> Option<Poll<Result<PooledConnection<B, NoTime, R, G, N, O>, PoolError<Error>>>> {
         let Ok(task) = Solo::new(rt, Doorbell::spinning()) else {
             return None;
         };
         let mut get = Pool::get(self);
         let mut cx = task.begin();
-        let polled = get.poll(&mut cx);
+        let polled = poll_connection(&mut get, &mut cx);
         cx.cancel();
         Some(polled)
     }
@@ -93,16 +74,16 @@ where
         Pool::status(self)
     }
 
-    fn past(out: &AskedObject<M, R, G, N, O>) -> (ObjectId, usize) {
+    fn past(out: &PooledConnection<B, NoTime, R, G, N, O>) -> (ObjectId, usize) {
         (Object::id(out), Object::metrics(out).recycle_count)
     }
 
-    fn answer(out: &mut AskedObject<M, R, G, N, O>, question: Question) -> Reply {
-        M::answer(out, question)
+    fn answer(out: &mut PooledConnection<B, NoTime, R, G, N, O>, question: Question) -> Reply {
+        ask(out, question)
     }
 
     // A drop closes a connection, and gives the lock of its file back.
-    fn take_and_close(out: AskedObject<M, R, G, N, O>) {
+    fn take_and_close(out: PooledConnection<B, NoTime, R, G, N, O>) {
         drop(Object::take(out));
     }
 }

@@ -3,9 +3,8 @@ use crate::change::{make_folder, path};
 use crate::fault::Fault;
 use crate::moves::Move;
 use crate::play::{Host, Opened, Run, play};
-use crate::polled::hands_out_at_once;
 use crate::sources::{Failing, FailingDisk, FailingMemory, Scarce};
-use deadpool_sqlite::{AtPath, InMemory, RecyclingMethod, SqliteManager};
+use deadpool_sqlite::{AtPath, InMemory};
 use std::alloc::AllocError;
 use std::fs;
 use std::rt::HostRuntime;
@@ -78,16 +77,6 @@ pub fn in_memory<R: Host>(
         folder: String::new(alloc),
     };
     play(rt, source, other, opened, &run)
-}
-
-/// Whether the first poll of a get hands a connection out of a new pool over databases in memory.
-pub fn poll_in_memory<R: Host>(rt: R) -> Result<bool, Fault> {
-    let manager = SqliteManager {
-        source: InMemory { alloc: rt.alloc() },
-        batch: String::new(rt.alloc()),
-        method: RecyclingMethod::Fast,
-    };
-    hands_out_at_once(rt, manager)
 }
 
 /// Plays over databases in memory whose log fails.

@@ -2,11 +2,11 @@
 ghost use Rattle.deadpool.specs.Opens.{Opens};
 
 use crate::change::make_change;
-use crate::connections::{Asked, AskedPool, Connections, NoTime};
+use crate::connections::{Connections, NoTime};
 use crate::fault::Fault;
 use crate::moves::Move;
 use crate::table::Table;
-use deadpool::managed::PoolBuilder;
+use deadpool::managed::{NoHook, Pool, PoolBuilder};
 use deadpool_sqlite::{RecyclingMethod, Source, SqliteManager};
 use std::alloc::AllocError;
 use std::env::Env;
@@ -66,7 +66,7 @@ where
     let creations = Blank::new(u64::MAX);
     let outside = Blank::new(u64::MAX);
     let mut replies = String::new(rt.alloc());
-    over::<SqliteManager<B>, B, R, Brand, Brand, Brand>(
+    over::<B, R, Brand, Brand, Brand>(
         rt,
         pooled,
         alone,
@@ -80,10 +80,10 @@ where
     Ok(replies)
 }
 
-// Makes the moves over a new pool.
-fn over<M, B, R, G, N, O>(
+// A blank opens each ledger of the pool.
+fn over<B, R, G, N, O>(
     rt: R,
-    manager: M,
+    manager: SqliteManager<B>,
     other: SqliteManager<B>,
     max_size: usize,
     run: &Run,
@@ -93,44 +93,8 @@ fn over<M, B, R, G, N, O>(
     outside: Blank,
 ) -> Result<(), Fault>
 where
-    M: Asked + Send + Sync,
-    M::Type: Send,
-    M::Creating: Send,
-    M::Recycling: Send,
-    B: Source,
-    R: Host,
-    G: Ledger,
-    N: Ledger,
-    O: Ledger,
-    requires going { Opens G.Ledger going }
-    requires creations { Opens N.Ledger creations }
-    requires outside { Opens O.Ledger outside }
-{
-    let pool: AskedPool<M, R, G, N, O> = built(rt, manager, max_size, going, creations, outside)?;
-    let mut table = Table {
-        pool: Some(pool),
-        out: Vec::new(rt.alloc()),
-        known: Vec::new(rt.alloc()),
-        manager: other,
-        alone: None,
-    };
-    make_all(&rt, &mut table, run, replies)
-}
-
-/// Builds a pool. A blank opens each of its ledgers.
-pub fn built<M, R, G, N, O>(
-    rt: R,
-    manager: M,
-    max_size: usize,
-    going: Blank,
-    creations: Blank,
-    outside: Blank,
-) -> Result<AskedPool<M, R, G, N, O>, Fault>
-where
-    M: Asked + Send + Sync,
-    M::Type: Send,
-    M::Creating: Send,
-    M::Recycling: Send,
+    B: Source + Send + Sync,
+    B::Storage: Send,
     R: Host,
     G: Ledger,
     N: Ledger,
@@ -141,7 +105,17 @@ where
 {
     let builder = PoolBuilder::new(rt.alloc(), manager, NoTime).max_size(max_size);
     let built = builder.build(going, creations, outside, rt);
-    built.map_err(|_| Fault::OutOfMemory)
+    let pool: Pool<SqliteManager<B>, NoHook, NoHook, NoTime, R, G, N, O> = built.map_err(
+        |_| Fault::OutOfMemory,
+    )?;
+    let mut table = Table {
+        pool: Some(pool),
+        out: Vec::new(rt.alloc()),
+        known: Vec::new(rt.alloc()),
+        manager: other,
+        alone: None,
+    };
+    make_all(&rt, &mut table, run, replies)
 }
 
 fn make_all<P: Connections, B: Source, R: Host>(

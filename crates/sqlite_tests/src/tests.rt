@@ -4,6 +4,5 @@ mod files;
 mod held;
 mod left_open;
 mod lines;
-mod promise;
 mod recycling;
 mod schemas;
