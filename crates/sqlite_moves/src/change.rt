@@ -8,22 +8,25 @@ use std::{env, fs};
 
 /// What is done to a file or a folder, whose path goes on from that of the folder of the run.
 #[derive(Clone, Copy, Debug)]
-pub enum Change {
-    /// Writes this text into the file.
-    Write(&'static str, &'static str),
-    RemoveFile(&'static str),
-    MakeFolder(&'static str),
-    RemoveFolder(&'static str),
+pub enum Change<'a> {
+    /// Writes this line into the file.
+    Write(&'a str, &'a str),
+    RemoveFile(&'a str),
+    MakeFolder(&'a str),
+    RemoveFolder(&'a str),
 }
 
 /// Does it.
 pub fn make_change<R: Files + AllocGlobal>(
     rt: &R,
     folder: &str,
-    change: Change,
+    change: Change<'_>,
 ) -> Result<Reply, AllocError> {
     let changed = match change {
-        Change::Write(name, text) => fs::write(rt, path(rt, folder, name)?.as_str(), text),
+        Change::Write(name, text) => {
+            let line = format!(in rt.alloc(); "{text}\n")?;
+            fs::write(rt, path(rt, folder, name)?.as_str(), line.as_str())
+        }
         Change::RemoveFile(name) => fs::remove_file(rt, path(rt, folder, name)?.as_str()),
         Change::MakeFolder(name) => fs::create_dir(rt, path(rt, folder, name)?.as_str()),
         Change::RemoveFolder(name) => fs::remove_dir(rt, path(rt, folder, name)?.as_str()),

@@ -1,7 +1,7 @@
 //! A pool of connections as the moves see it.
 use crate::question::{Question, ask};
 use crate::reply::Reply;
-use deadpool::managed::{NoHook, Object, ObjectId, Pool, PoolError};
+use deadpool::managed::{Manager, NoHook, Object, ObjectId, Pool, PoolError};
 use deadpool::{Clock, Moment, Status};
 use deadpool_sqlite::{PooledConnection, Source, SqliteManager, poll_connection};
 use futures::task::{Context, Doorbell, Poll, Solo};
@@ -40,7 +40,7 @@ pub trait Connections: Drop {
     fn past(out: &Self::Out) -> (ObjectId, usize);
 
     /// What a connection answers.
-    fn answer(out: &mut Self::Out, question: Question) -> Reply;
+    fn answer(out: &mut Self::Out, question: Question<'_>) -> Reply;
 
     /// Takes a connection from its pool, and closes it.
     fn take_and_close(out: Self::Out);
@@ -75,10 +75,10 @@ where
     }
 
     fn past(out: &PooledConnection<B, NoTime, R, G, N, O>) -> (ObjectId, usize) {
-        (Object::id(out), Object::metrics(out).recycle_count)
+        past_of(out)
     }
 
-    fn answer(out: &mut PooledConnection<B, NoTime, R, G, N, O>, question: Question) -> Reply {
+    fn answer(out: &mut PooledConnection<B, NoTime, R, G, N, O>, question: Question<'_>) -> Reply {
         ask(out, question)
     }
 
@@ -86,4 +86,18 @@ where
     fn take_and_close(out: PooledConnection<B, NoTime, R, G, N, O>) {
         drop(Object::take(out));
     }
+}
+
+// The number of an object of any manager, and how often it was recycled.
+fn past_of<M, R, G, N, O>(
+    object: &Object<M, NoHook, NoHook, NoTime, R, G, N, O>,
+) -> (ObjectId, usize)
+where
+    M: Manager + Drop,
+    R: Wait + Drop,
+    G: Ledger,
+    N: Ledger,
+    O: Ledger,
+{
+    (Object::id(object), Object::metrics(object).recycle_count)
 }

@@ -1,4 +1,4 @@
-//! Plays lists of moves over a pool of connections to databases, and says in a text what came of each.
+//! Plays scripts over a pool of connections to databases: a move a line, and what came of it on the next.
 #![tactic(auto)]
 
 mod change;
@@ -9,12 +9,10 @@ mod places;
 mod play;
 mod question;
 mod reply;
+mod script;
 mod sources;
 mod table;
 
-pub use change::Change;
 pub use fault::Fault;
-pub use moves::Move;
 pub use places::{Disk, File, Memory, in_memory, on_disk, on_file};
 pub use play::{Host, Opened};
-pub use question::Question;

@@ -1,7 +1,6 @@
 //! The databases over which moves are played. Nothing else names what keeps them.
 use crate::change::{make_folder, path};
 use crate::fault::Fault;
-use crate::moves::Move;
 use crate::play::{Host, Opened, Run, play};
 use crate::sources::{Failing, FailingDisk, FailingMemory, Scarce};
 use deadpool_sqlite::{AtPath, InMemory};
@@ -39,21 +38,28 @@ fn at_path(rt: &HostRuntime, folder: &str, file: File) -> Result<AtPath, AllocEr
     Ok(AtPath { rt: *rt, path })
 }
 
+fn run<R: AllocGlobal>(rt: &R, script: &str, folder: String) -> Result<Run, AllocError> {
+    Ok(Run {
+        script: String::from_str(rt.alloc(), script)?,
+        folder,
+    })
+}
+
 /// Plays over a file. The folder of the run is new, and is removed at the end.
 pub fn on_file<R: Host>(
     rt: R,
     host: &HostRuntime,
     file: File,
     opened: Opened,
-    moves: Vec<Move>,
+    script: &str,
 ) -> Result<String, Fault> {
     let folder = make_folder(&rt)?;
     let source = at_path(host, folder.as_str(), file)?;
     let other = at_path(host, folder.as_str(), file)?;
-    let run = Run { moves, folder };
-    let replies = play(rt, source, other, opened, &run);
+    let run = run(&rt, script, folder)?;
+    let played = play(rt, source, other, opened, &run);
     fs::remove_dir_all(&rt, run.folder.as_str()).map_err(|_| Fault::Folder)?;
-    replies
+    played
 }
 
 /// Plays over databases in memory.
@@ -61,7 +67,7 @@ pub fn in_memory<R: Host>(
     rt: R,
     memory: Memory,
     opened: Opened,
-    moves: Vec<Move>,
+    script: &str,
 ) -> Result<String, Fault> {
     let alloc = rt.alloc();
     let source = Scarce {
@@ -72,21 +78,13 @@ pub fn in_memory<R: Host>(
         refusals: AtomicUsize::new(0),
         inner: InMemory { alloc },
     };
-    let run = Run {
-        moves,
-        folder: String::new(alloc),
-    };
+    let run = run(&rt, script, String::new(alloc))?;
     play(rt, source, other, opened, &run)
 }
 
 /// Plays over databases in memory whose log fails.
-pub fn on_disk<R: Host>(
-    rt: R,
-    disk: Disk,
-    opened: Opened,
-    moves: Vec<Move>,
-) -> Result<String, Fault> {
-    on_failing::<R, FailingMemory>(rt, disk, opened, moves)
+pub fn on_disk<R: Host>(rt: R, disk: Disk, opened: Opened, script: &str) -> Result<String, Fault> {
+    on_failing::<R, FailingMemory>(rt, disk, opened, script)
 }
 
 // The same, whatever keeps the files.
@@ -94,13 +92,10 @@ fn on_failing<R: Host, D: FailingDisk + Drop + Send + Sync>(
     rt: R,
     disk: Disk,
     opened: Opened,
-    moves: Vec<Move>,
+    script: &str,
 ) -> Result<String, Fault> {
     let alloc = rt.alloc();
-    let run = Run {
-        moves,
-        folder: String::new(alloc),
-    };
+    let run = run(&rt, script, String::new(alloc))?;
     play::<Failing<D>, R>(
         rt,
         Failing::new(alloc, disk.calls),

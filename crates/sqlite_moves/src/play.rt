@@ -5,9 +5,11 @@ use crate::change::make_change;
 use crate::connections::{Connections, NoTime};
 use crate::fault::Fault;
 use crate::moves::Move;
+use crate::reply::Reply;
+use crate::script::{PROMPT, parse};
 use crate::table::Table;
-use deadpool::managed::{NoHook, Pool, PoolBuilder};
-use deadpool_sqlite::{RecyclingMethod, Source, SqliteManager};
+use deadpool::managed::{Manager, NoHook, Pool, PoolBuilder};
+use deadpool_sqlite::{RecyclingMethod, Source, SqliteManager, SqlitePool};
 use std::alloc::AllocError;
 use std::env::Env;
 use std::fs::Files;
@@ -29,10 +31,10 @@ pub struct Opened {
     pub max_size: usize,
 }
 
-/// A list of moves, and the folder in which files are changed.
+/// A script, and the folder in which files are changed.
 #[derive(Drop)]
 pub struct Run {
-    pub moves: Vec<Move>,
+    pub script: String,
     pub folder: String,
 }
 
@@ -48,7 +50,7 @@ fn manager<B: Source, R: AllocGlobal>(
     })
 }
 
-/// Makes the moves of a run over a new pool, and gives a line for each. The other source opens the connection without the
+/// Makes the moves of a run over a new pool, and gives each with its reply. The other source opens the connection without the
 /// pool.
 pub fn play<B: Source + Send + Sync, R: Host>(
     rt: R,
@@ -65,29 +67,29 @@ where
     let going = Blank::new(u64::MAX);
     let creations = Blank::new(u64::MAX);
     let outside = Blank::new(u64::MAX);
-    let mut replies = String::new(rt.alloc());
+    let mut played = String::new(rt.alloc());
     over::<B, R, Brand, Brand, Brand>(
         rt,
         pooled,
         alone,
         opened.max_size,
         run,
-        &mut replies,
+        &mut played,
         going,
         creations,
         outside,
     )?;
-    Ok(replies)
+    Ok(played)
 }
 
-// A blank opens each ledger of the pool.
+// Makes the moves over a new pool.
 fn over<B, R, G, N, O>(
     rt: R,
     manager: SqliteManager<B>,
     other: SqliteManager<B>,
     max_size: usize,
     run: &Run,
-    replies: &mut String,
+    played: &mut String,
     going: Blank,
     creations: Blank,
     outside: Blank,
@@ -103,11 +105,69 @@ where
     requires creations { Opens N.Ledger creations }
     requires outside { Opens O.Ledger outside }
 {
+    let pool = open_pool::<B, R, G, N, O>(rt, manager, max_size, going, creations, outside)?;
+    make_all(&rt, pool, other, run, played)
+}
+
+// Builds the pool. A blank opens each of its ledgers.
+fn open_pool<B, R, G, N, O>(
+    rt: R,
+    manager: SqliteManager<B>,
+    max_size: usize,
+    going: Blank,
+    creations: Blank,
+    outside: Blank,
+) -> Result<SqlitePool<B, NoTime, R, G, N, O>, Fault>
+where
+    B: Source + Send + Sync,
+    B::Storage: Send,
+    R: Host,
+    G: Ledger,
+    N: Ledger,
+    O: Ledger,
+    requires going { Opens G.Ledger going }
+    requires creations { Opens N.Ledger creations }
+    requires outside { Opens O.Ledger outside }
+{
+    built(rt, manager, max_size, going, creations, outside)
+}
+
+// The same for any manager.
+fn built<M, R, G, N, O>(
+    rt: R,
+    manager: M,
+    max_size: usize,
+    going: Blank,
+    creations: Blank,
+    outside: Blank,
+) -> Result<Pool<M, NoHook, NoHook, NoTime, R, G, N, O>, Fault>
+where
+    M: Manager + Drop + Send + Sync,
+    M::Type: Send,
+    M::Error: Send,
+    M::Creating: Send,
+    M::Recycling: Send,
+    R: Host,
+    G: Ledger,
+    N: Ledger,
+    O: Ledger,
+    requires going { Opens G.Ledger going }
+    requires creations { Opens N.Ledger creations }
+    requires outside { Opens O.Ledger outside }
+{
     let builder = PoolBuilder::new(rt.alloc(), manager, NoTime).max_size(max_size);
-    let built = builder.build(going, creations, outside, rt);
-    let pool: Pool<SqliteManager<B>, NoHook, NoHook, NoTime, R, G, N, O> = built.map_err(
-        |_| Fault::OutOfMemory,
-    )?;
+    builder
+        .build(going, creations, outside, rt)
+        .map_err(|_| Fault::OutOfMemory)
+}
+
+fn make_all<P: Connections, B: Source, R: Host>(
+    rt: &R,
+    pool: P,
+    other: SqliteManager<B>,
+    run: &Run,
+    played: &mut String,
+) -> Result<(), Fault> {
     let mut table = Table {
         pool: Some(pool),
         out: Vec::new(rt.alloc()),
@@ -115,21 +175,29 @@ where
         manager: other,
         alone: None,
     };
-    make_all(&rt, &mut table, run, replies)
-}
-
-fn make_all<P: Connections, B: Source, R: Host>(
-    rt: &R,
-    table: &mut Table<P, B>,
-    run: &Run,
-    replies: &mut String,
-) -> Result<(), Fault> {
-    for next in &run.moves {
-        let reply = match *next {
-            Move::Change(what) => make_change(rt, run.folder.as_str(), what)?,
-            other => table.make(rt, other),
-        };
-        writeln!(replies, "{reply}")?;
+    for line in run.script.lines() {
+        if let Some(text) = line.strip_prefix(PROMPT) {
+            let reply = make(rt, &mut table, run.folder.as_str(), text)?;
+            write_down(played, line, &reply)?;
+        }
     }
     Ok(())
+}
+
+fn make<P: Connections, B: Source, R: Host>(
+    rt: &R,
+    table: &mut Table<P, B>,
+    folder: &str,
+    text: &str,
+) -> Result<Reply, AllocError> {
+    match parse(text) {
+        Some(Move::Change(what)) => make_change(rt, folder, what),
+        Some(next) => Ok(table.make(rt, next)),
+        None => Ok(Reply::NotAMove),
+    }
+}
+
+// A move and what came of it, a line each.
+fn write_down(played: &mut String, line: &str, reply: &Reply) -> Result<(), AllocError> {
+    writeln!(played, "{line}\n{reply}")
 }

@@ -4,9 +4,9 @@ use sqlite::{Alter, Connection, Error, ErrorCode};
 
 /// What a connection is asked, whoever has it.
 #[derive(Clone, Copy, Debug)]
-pub enum Question {
+pub enum Question<'a> {
     /// To run a statement that shows no rows.
-    Run(&'static str),
+    Run(&'a str),
     /// To answer a query that reads no table.
     Query,
     /// How many notes and tables it shows, and whether it has a transaction open.
@@ -22,7 +22,7 @@ pub enum Question {
 const INSERT: &str = "INSERT INTO note (title) VALUES ('written')";
 
 /// Asks it.
-pub fn ask<S: Alter>(conn: &mut Connection<S>, question: Question) -> Reply {
+pub fn ask<S: Alter>(conn: &mut Connection<S>, question: Question<'_>) -> Reply {
     match question {
         Question::Run(sql) => match conn.execute(sql, &[]) {
             Ok(changed) => Reply::Changed(changed),

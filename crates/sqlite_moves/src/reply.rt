@@ -36,6 +36,8 @@ pub enum Reply {
     Failed(Error),
     /// A file or a folder was not changed.
     Unchanged,
+    /// The line asks for no move.
+    NotAMove,
     /// There is no connection at the place, no other connection, or no pool.
     Missing,
     OutOfMemory,
@@ -71,6 +73,7 @@ impl fmt::Display for Reply {
             Reply::GivenUp(cause) => write!(f, "{cause}"),
             Reply::Failed(cause) => write!(f, "{cause}"),
             Reply::Unchanged => f.write_str("not changed"),
+            Reply::NotAMove => f.write_str("not a move"),
             Reply::Missing => f.write_str("missing"),
             Reply::OutOfMemory => f.write_str("no memory for the move"),
         }

@@ -1,7 +1,7 @@
 //! What the moves are made with.
 use crate::connections::Connections;
-use crate::moves::Move;
-use crate::question::ask;
+use crate::moves::{Asked, Move};
+use crate::question::{Question, ask};
 use crate::reply::Reply;
 use deadpool::Moment;
 use deadpool::managed::{Manager, Metrics, ObjectId};
@@ -26,15 +26,12 @@ pub struct Table<P: Connections, B: Source> {
 
 impl<P: Connections, B: Source> Table<P, B> {
     /// Makes a move with the pool or the other connection. A change of files is not made here.
-    pub fn make<H: RandomSource + AllocGlobal>(&mut self, rt: &H, next: Move) -> Reply {
+    pub fn make<H: RandomSource + AllocGlobal>(&mut self, rt: &H, next: Move<'_>) -> Reply {
         match next {
             Move::Get => self.get(rt),
-            Move::Ask(place, question) => match self.out.get_mut(place) {
-                Some(out) => P::answer(out, question),
-                None => Reply::Missing,
-            },
+            Move::Ask(asked, question) => self.ask(asked, question),
             Move::Back(place) => self.back(place),
-            Move::TakeAndClose(place) => self.take(place),
+            Move::Take(place) => self.take(place),
             Move::Status => match &self.pool {
                 Some(pool) => Reply::Stands(pool.status()),
                 None => Reply::Missing,
@@ -44,10 +41,6 @@ impl<P: Connections, B: Source> Table<P, B> {
                 Reply::Done
             }
             Move::Open => self.open(),
-            Move::AskAlone(question) => match &mut self.alone {
-                Some(conn) => ask(conn, question),
-                None => Reply::Missing,
-            },
             Move::Recycle => self.recycle(rt),
             Move::Close => {
                 self.alone = None;
@@ -78,6 +71,19 @@ impl<P: Connections, B: Source> Table<P, B> {
         match self.out.push(out) {
             Ok(()) => Reply::Handed { number, recycled },
             Err(_refused) => Reply::OutOfMemory,
+        }
+    }
+
+    fn ask(&mut self, asked: Asked, question: Question<'_>) -> Reply {
+        match asked {
+            Asked::Place(place) => match self.out.get_mut(place) {
+                Some(out) => P::answer(out, question),
+                None => Reply::Missing,
+            },
+            Asked::Alone => match &mut self.alone {
+                Some(conn) => ask(conn, question),
+                None => Reply::Missing,
+            },
         }
     }
 

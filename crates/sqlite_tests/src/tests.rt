@@ -3,6 +3,6 @@ mod broken;
 mod files;
 mod held;
 mod left_open;
-mod lines;
 mod recycling;
 mod schemas;
+mod scripts;

@@ -1,75 +1,91 @@
 //! Files that are not opened: the database's own error, and a later get that is served once it can be.
-use super::lines::{FILE, Line, ONE, WRITE, play_on_file};
-use sqlite_moves::{Change, File, Move};
+use super::scripts::{FILE, ONE, play_on_file};
+use sqlite_moves::File;
 use std::rt::HostRuntime;
 use std::test::Fail;
 
-const NO_DATABASE: &str =
-    "Error occurred while creating a new object: file is not a database that obeys its schema";
+const NO_DATABASE: &str = "\
+> get
+Error occurred while creating a new object: file is not a database that obeys its schema
+> status
+max 1 size 0 available 0 waiting 0
+";
 
-const CANNOT_OPEN: &str =
-    "Error occurred while creating a new object: unable to open database file";
+const CANNOT_OPEN: &str = "\
+> get
+Error occurred while creating a new object: unable to open database file
+> status
+max 1 size 0 available 0 waiting 0
+";
 
-const EMPTY: &str = "max 1 size 0 available 0 waiting 0";
+// What stood in the way is away.
+const IS_OPENED: &str = "\
+> get
+connection 0 recycled 0
+> ask 0 run INSERT INTO note (title) VALUES ('kept')
+changed 1
+> back 0
+done
+> status
+max 1 size 1 available 1 waiting 0
+";
 
-// Something stands at the path, gets are refused with an error, and a get is served once it is away.
-fn obstacle(put: Line, error: &'static str, remove: Line) -> [Line; 10] {
-    [
-        put,
-        (Move::Get, error),
-        (Move::Status, EMPTY),
-        (Move::Get, error),
-        (Move::Status, EMPTY),
-        remove,
-        (Move::Get, "connection 0 recycled 0"),
-        (WRITE, "changed 1"),
-        (Move::Back(0), "done"),
-        (Move::Status, "max 1 size 1 available 1 waiting 0"),
-    ]
-}
+const REMOVE_FILE: &str = "\
+> change remove-file notes.db
+done
+";
 
-fn change(change: Change) -> Line {
-    (Move::Change(change), "done")
-}
+const TEXTS: [&str; 2] = [
+    "> change write notes.db This is no database, but a line of text.\ndone\n",
+    "> change write notes.db .\ndone\n",
+];
 
 #[test]
 fn a_text_is_no_database(rt: HostRuntime) -> Result<(), Fail> {
-    for text in ["This is no database, but a line of text.\n", "\n\n"] {
-        let put = change(Change::Write("notes.db", text));
-        let remove = change(Change::RemoveFile("notes.db"));
-        let lines = obstacle(put, NO_DATABASE, remove);
-        play_on_file(rt, &rt, FILE, ONE, &[&lines])?;
+    for write in TEXTS {
+        let parts = [write, NO_DATABASE, NO_DATABASE, REMOVE_FILE, IS_OPENED];
+        play_on_file(rt, &rt, FILE, ONE, &parts)?;
     }
     Ok(())
 }
 
+const MAKE_FOLDER: &str = "\
+> change make-folder notes.db
+done
+";
+
+const REMOVE_FOLDER: &str = "\
+> change remove-folder notes.db
+done
+";
+
 #[test]
 fn a_folder_is_not_opened(rt: HostRuntime) -> Result<(), Fail> {
-    let put = change(Change::MakeFolder("notes.db"));
-    let remove = change(Change::RemoveFolder("notes.db"));
-    let lines = obstacle(put, CANNOT_OPEN, remove);
-    play_on_file(rt, &rt, FILE, ONE, &[&lines])
+    let parts = [
+        MAKE_FOLDER,
+        CANNOT_OPEN,
+        CANNOT_OPEN,
+        REMOVE_FOLDER,
+        IS_OPENED,
+    ];
+    play_on_file(rt, &rt, FILE, ONE, &parts)
 }
+
+const MAKE_THE_MISSING: &str = "\
+> change make-folder missing
+done
+";
 
 #[test]
 fn a_file_in_a_missing_folder_is_not_opened(rt: HostRuntime) -> Result<(), Fail> {
-    let put = change(Change::Write("other.db", ""));
-    let make = change(Change::MakeFolder("missing"));
-    let lines = obstacle(put, CANNOT_OPEN, make);
-    play_on_file(rt, &rt, File::InFolder("missing/notes.db"), ONE, &[&lines])
+    let parts = [CANNOT_OPEN, CANNOT_OPEN, MAKE_THE_MISSING, IS_OPENED];
+    play_on_file(rt, &rt, File::InFolder("missing/notes.db"), ONE, &parts)
 }
-
-const REFUSED: [Line; 4] = [
-    (Move::Get, CANNOT_OPEN),
-    (Move::Status, EMPTY),
-    (Move::Get, CANNOT_OPEN),
-    (Move::Status, EMPTY),
-];
 
 #[test]
 fn a_path_that_names_no_file_is_not_opened(rt: HostRuntime) -> Result<(), Fail> {
     for path in [":memory:", "", "file:notes.db"] {
-        play_on_file(rt, &rt, File::At(path), ONE, &[&REFUSED])?;
+        play_on_file(rt, &rt, File::At(path), ONE, &[CANNOT_OPEN, CANNOT_OPEN])?;
     }
     Ok(())
 }
