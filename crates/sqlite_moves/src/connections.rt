@@ -3,7 +3,7 @@ use crate::question::{Question, ask};
 use crate::reply::Reply;
 use deadpool::managed::{Manager, NoHook, Object, ObjectId, Pool, PoolError};
 use deadpool::{Clock, Moment, Status};
-use deadpool_sqlite::{PooledConnection, Source, SqliteManager, poll_connection};
+use deadpool_sqlite::{GetConnection, PooledConnection, Source, SqliteManager, poll_connection};
 use futures::task::{Context, Doorbell, Poll, Solo};
 use sqlite::Error;
 use std::random::RandomSource;
@@ -60,14 +60,7 @@ where
         &self,
         rt: &H,
     ) -> Option<Poll<Result<PooledConnection<B, NoTime, R, G, N, O>, PoolError<Error>>>> {
-        let Ok(task) = Solo::new(rt, Doorbell::spinning()) else {
-            return None;
-        };
-        let mut get = Pool::get(self);
-        let mut cx = task.begin();
-        let polled = poll_connection(&mut get, &mut cx);
-        cx.cancel();
-        Some(polled)
+        polled(rt, Pool::get(self))
     }
 
     fn status(&self) -> Status {
@@ -86,6 +79,26 @@ where
     fn take_and_close(out: PooledConnection<B, NoTime, R, G, N, O>) {
         drop(Object::take(out));
     }
+}
+
+// What comes of the first poll of a get.
+fn polled<B, R, G, N, O, H>(
+    rt: &H,
+    mut get: GetConnection<B, NoTime, R, G, N, O>,
+) -> Option<Poll<Result<PooledConnection<B, NoTime, R, G, N, O>, PoolError<Error>>>>
+where
+    B: Source,
+    R: Wait + Drop,
+    G: Ledger,
+    N: Ledger,
+    O: Ledger,
+    H: RandomSource + AllocGlobal,
+{
+    let task = Solo::new(rt, Doorbell::spinning()).ok()?;
+    let mut cx = task.begin();
+    let polled = poll_connection(&mut get, &mut cx);
+    cx.cancel();
+    Some(polled)
 }
 
 // The number of an object of any manager, and how often it was recycled.

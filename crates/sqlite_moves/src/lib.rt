@@ -1,18 +1,17 @@
-//! Plays scripts over a pool of connections to databases: a move a line, and what came of it on the next.
+//! The moves over a pool of connections to databases, and what comes of them, each a line of text.
 #![tactic(auto)]
 
 mod change;
 mod connections;
-mod fault;
 mod moves;
-mod places;
-mod play;
 mod question;
 mod reply;
 mod script;
-mod sources;
 mod table;
 
-pub use fault::Fault;
-pub use places::{Disk, File, Memory, in_memory, on_disk, on_file};
-pub use play::{Host, Opened};
+pub use change::Change;
+pub use connections::{Connections, NoTime};
+pub use moves::Move;
+pub use reply::Reply;
+pub use script::{PROMPT, parse};
+pub use table::Table;

@@ -3,7 +3,7 @@ use crate::change::Change;
 use crate::question::Question;
 
 /// One thing that is done with a pool of connections, or beside it.
-#[derive(Clone, Copy, Debug)]
+#[derive(Clone, Copy)]
 pub enum Move<'a> {
     /// Polls a new get once. Its connection takes the next place.
     Get,
@@ -28,7 +28,7 @@ pub enum Move<'a> {
 }
 
 /// Which connection is asked.
-#[derive(Clone, Copy, Debug)]
+#[derive(Clone, Copy)]
 pub enum Asked {
     /// The one at this place. Those that are out have places, from 0 on, in the order in which they came.
     Place(usize),

@@ -3,7 +3,7 @@ use crate::reply::Reply;
 use sqlite::{Alter, Connection, Error, ErrorCode};
 
 /// What a connection is asked, whoever has it.
-#[derive(Clone, Copy, Debug)]
+#[derive(Clone, Copy)]
 pub enum Question<'a> {
     /// To run a statement that shows no rows.
     Run(&'a str),

@@ -5,7 +5,7 @@ use sqlite::Error;
 use std::fmt;
 
 /// What came of a move. Its text is a line.
-#[derive(Debug, Drop)]
+#[derive(Drop)]
 pub enum Reply {
     Done,
     /// The answer is yes or no.

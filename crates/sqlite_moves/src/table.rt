@@ -14,17 +14,27 @@ use std::random::RandomSource;
 /// A pool, its connections that are out, and a connection without it.
 #[derive(Drop)]
 pub struct Table<P: Connections, B: Source> {
-    /// None once it was dropped.
-    pub pool: Option<P>,
-    pub out: Vec<P::Out>,
-    /// Those that were handed out, each once.
-    pub known: Vec<ObjectId>,
-    /// Opens and recycles the connection without the pool.
-    pub manager: SqliteManager<B>,
-    pub alone: Option<Connection<B::Storage>>,
+    // None once it was dropped.
+    pool: Option<P>,
+    out: Vec<P::Out>,
+    // Those that were handed out, each once.
+    known: Vec<ObjectId>,
+    manager: SqliteManager<B>,
+    alone: Option<Connection<B::Storage>>,
 }
 
 impl<P: Connections, B: Source> Table<P, B> {
+    /// None of the pool's connections is out. The manager opens and recycles the connection without the pool.
+    pub fn new<H: AllocGlobal>(rt: &H, pool: P, manager: SqliteManager<B>) -> Self {
+        Table {
+            pool: Some(pool),
+            out: Vec::new(rt.alloc()),
+            known: Vec::new(rt.alloc()),
+            manager,
+            alone: None,
+        }
+    }
+
     /// Makes a move with the pool or the other connection. A change of files is not made here.
     pub fn make<H: RandomSource + AllocGlobal>(&mut self, rt: &H, next: Move<'_>) -> Reply {
         match next {

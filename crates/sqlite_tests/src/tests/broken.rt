@@ -1,6 +1,6 @@
 //! Sources that find no memory at first, and disks that fail.
 use super::scripts::{ONE, VERIFIED, agree, play_in_memory};
-use sqlite_moves::{Disk, Host, Memory, Opened, on_disk};
+use sqlite_scripts::{Disk, Host, Memory, Opened, on_disk};
 use std::rt::HostRuntime;
 use std::test::Fail;
 

@@ -1,6 +1,6 @@
 //! Files that are not opened: the database's own error, and a later get that is served once it can be.
 use super::scripts::{FILE, ONE, play_on_file};
-use sqlite_moves::File;
+use sqlite_scripts::File;
 use std::rt::HostRuntime;
 use std::test::Fail;
 
@@ -37,7 +37,7 @@ done
 
 const TEXTS: [&str; 2] = [
     "> change write notes.db This is no database, but a line of text.\ndone\n",
-    "> change write notes.db .\ndone\n",
+    "> change write notes.db |\ndone\n",
 ];
 
 #[test]

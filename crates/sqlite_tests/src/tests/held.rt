@@ -1,7 +1,7 @@
 //! Who has the lock of a file.
 use super::scripts::{FILE, ONE, SCHEMA, play_on_file};
 use deadpool_sqlite::RecyclingMethod;
-use sqlite_moves::Opened;
+use sqlite_scripts::Opened;
 use std::rt::HostRuntime;
 use std::test::Fail;
 

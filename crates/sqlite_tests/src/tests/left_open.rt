@@ -1,7 +1,7 @@
 //! What the next user sees of a connection that came back in the midst of something.
 use super::scripts::{FILE, MEMORY, ONE, SCHEMA, VERIFIED, play_in_memory, play_on_file};
 use deadpool_sqlite::RecyclingMethod;
-use sqlite_moves::Opened;
+use sqlite_scripts::Opened;
 use std::rt::HostRuntime;
 use std::test::Fail;
 

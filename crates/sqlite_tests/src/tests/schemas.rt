@@ -1,7 +1,7 @@
 //! Batches that do not prepare a connection, and how often a batch runs.
 use super::scripts::{FILE, MEMORY, SCHEMA, play_in_memory, play_on_file};
 use deadpool_sqlite::RecyclingMethod;
-use sqlite_moves::Opened;
+use sqlite_scripts::Opened;
 use std::rt::HostRuntime;
 use std::test::Fail;
 

@@ -1,6 +1,6 @@
 //! Plays scripts, and sees that each reply is as the script has it.
 use deadpool_sqlite::RecyclingMethod;
-use sqlite_moves::{File, Host, Memory, Opened, in_memory, on_file};
+use sqlite_scripts::{File, Host, Memory, Opened, in_memory, on_file};
 use std::alloc::AllocError;
 use std::rt::HostRuntime;
 use std::test::Fail;

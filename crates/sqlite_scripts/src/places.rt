@@ -1,7 +1,9 @@
 //! The databases over which moves are played. Nothing else names what keeps them.
-use crate::change::{make_folder, path};
+use crate::change::path;
 use crate::fault::Fault;
-use crate::play::{Host, Opened, Run, play};
+use crate::folder::make_folder;
+use crate::play::{Host, Opened, play};
+use crate::run::Run;
 use crate::sources::{Failing, FailingDisk, FailingMemory, Scarce};
 use deadpool_sqlite::{AtPath, InMemory};
 use std::alloc::AllocError;

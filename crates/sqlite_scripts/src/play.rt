@@ -1,15 +1,11 @@
 //! Builds a pool, and plays moves over it.
 ghost use Rattle.deadpool.specs.Opens.{Opens};
 
-use crate::change::make_change;
-use crate::connections::{Connections, NoTime};
 use crate::fault::Fault;
-use crate::moves::Move;
-use crate::reply::Reply;
-use crate::script::{PROMPT, parse};
-use crate::table::Table;
+use crate::run::{Run, make_moves};
 use deadpool::managed::{Manager, NoHook, Pool, PoolBuilder};
-use deadpool_sqlite::{RecyclingMethod, Source, SqliteManager, SqlitePool};
+use deadpool_sqlite::{RecyclingMethod, Source, SqliteManager};
+use sqlite_moves::NoTime;
 use std::alloc::AllocError;
 use std::env::Env;
 use std::fs::Files;
@@ -29,13 +25,6 @@ pub struct Opened {
     pub batch: &'static str,
     pub method: RecyclingMethod,
     pub max_size: usize,
-}
-
-/// A script, and the folder in which files are changed.
-#[derive(Drop)]
-pub struct Run {
-    pub script: String,
-    pub folder: String,
 }
 
 fn manager<B: Source, R: AllocGlobal>(
@@ -105,35 +94,14 @@ where
     requires creations { Opens N.Ledger creations }
     requires outside { Opens O.Ledger outside }
 {
-    let pool = open_pool::<B, R, G, N, O>(rt, manager, max_size, going, creations, outside)?;
-    make_all(&rt, pool, other, run, played)
+    let pool = build::<SqliteManager<B>, R, G, N, O>(
+        rt, manager, max_size, going, creations, outside,
+    )?;
+    Ok(make_moves(&rt, pool, other, run, played)?)
 }
 
-// Builds the pool. A blank opens each of its ledgers.
-fn open_pool<B, R, G, N, O>(
-    rt: R,
-    manager: SqliteManager<B>,
-    max_size: usize,
-    going: Blank,
-    creations: Blank,
-    outside: Blank,
-) -> Result<SqlitePool<B, NoTime, R, G, N, O>, Fault>
-where
-    B: Source + Send + Sync,
-    B::Storage: Send,
-    R: Host,
-    G: Ledger,
-    N: Ledger,
-    O: Ledger,
-    requires going { Opens G.Ledger going }
-    requires creations { Opens N.Ledger creations }
-    requires outside { Opens O.Ledger outside }
-{
-    built(rt, manager, max_size, going, creations, outside)
-}
-
-// The same for any manager.
-fn built<M, R, G, N, O>(
+// Builds a pool of any manager. A blank opens each of its ledgers.
+fn build<M, R, G, N, O>(
     rt: R,
     manager: M,
     max_size: usize,
@@ -159,45 +127,4 @@ where
     builder
         .build(going, creations, outside, rt)
         .map_err(|_| Fault::OutOfMemory)
-}
-
-fn make_all<P: Connections, B: Source, R: Host>(
-    rt: &R,
-    pool: P,
-    other: SqliteManager<B>,
-    run: &Run,
-    played: &mut String,
-) -> Result<(), Fault> {
-    let mut table = Table {
-        pool: Some(pool),
-        out: Vec::new(rt.alloc()),
-        known: Vec::new(rt.alloc()),
-        manager: other,
-        alone: None,
-    };
-    for line in run.script.lines() {
-        if let Some(text) = line.strip_prefix(PROMPT) {
-            let reply = make(rt, &mut table, run.folder.as_str(), text)?;
-            write_down(played, line, &reply)?;
-        }
-    }
-    Ok(())
-}
-
-fn make<P: Connections, B: Source, R: Host>(
-    rt: &R,
-    table: &mut Table<P, B>,
-    folder: &str,
-    text: &str,
-) -> Result<Reply, AllocError> {
-    match parse(text) {
-        Some(Move::Change(what)) => make_change(rt, folder, what),
-        Some(next) => Ok(table.make(rt, next)),
-        None => Ok(Reply::NotAMove),
-    }
-}
-
-// A move and what came of it, a line each.
-fn write_down(played: &mut String, line: &str, reply: &Reply) -> Result<(), AllocError> {
-    writeln!(played, "{line}\n{reply}")
 }

@@ -1,4 +1,4 @@
-use Rattle.sqlite_moves.proofs.play.play.Given as goal
+use Rattle.sqlite_scripts.proofs.play.play.Given as goal
 
 abbrev pub ghosts-over-G-Ledger : goal.ghosts-over-G-Ledger
 ghosts-over-G-Ledger g a = record { name = a.going.name; parts = a.going.parts }
