@@ -60,7 +60,11 @@ where
         &self,
         rt: &H,
     ) -> Option<Poll<Result<PooledConnection<B, NoTime, R, G, N, O>, PoolError<Error>>>> {
-        polled(rt, Pool::get(self))
+        let Ok(task) = Solo::new(rt, Doorbell::spinning()) else {
+            return None;
+        };
+        let mut get = Pool::get(self);
+        Some(poll_once(&task, &mut get))
     }
 
     fn status(&self) -> Status {
@@ -82,23 +86,14 @@ where
 }
 
 // What comes of the first poll of a get.
-fn polled<B, R, G, N, O, H>(
-    rt: &H,
-    mut get: GetConnection<B, NoTime, R, G, N, O>,
-) -> Option<Poll<Result<PooledConnection<B, NoTime, R, G, N, O>, PoolError<Error>>>>
-where
-    B: Source,
-    R: Wait + Drop,
-    G: Ledger,
-    N: Ledger,
-    O: Ledger,
-    H: RandomSource + AllocGlobal,
-{
-    let task = Solo::new(rt, Doorbell::spinning()).ok()?;
+fn poll_once<B: Source, R: Wait + Drop, G: Ledger, N: Ledger, O: Ledger>(
+    task: &Solo,
+    get: &mut GetConnection<B, NoTime, R, G, N, O>,
+) -> Poll<Result<PooledConnection<B, NoTime, R, G, N, O>, PoolError<Error>>> {
     let mut cx = task.begin();
-    let polled = poll_connection(&mut get, &mut cx);
+    let polled = poll_connection(get, &mut cx);
     cx.cancel();
-    Some(polled)
+    polled
 }
 
 // The number of an object of any manager, and how often it was recycled.

@@ -4,7 +4,7 @@ ghost use Rattle.deadpool.specs.Opens.{Opens};
 use crate::fault::Fault;
 use crate::run::{Run, make_moves};
 use deadpool::managed::{Manager, NoHook, Pool, PoolBuilder};
-use deadpool_sqlite::{RecyclingMethod, Source, SqliteManager};
+use deadpool_sqlite::{RecyclingMethod, Source, SqliteManager, SqlitePool};
 use sqlite_moves::NoTime;
 use std::alloc::AllocError;
 use std::env::Env;
@@ -51,17 +51,15 @@ pub fn play<B: Source + Send + Sync, R: Host>(
 where
     B::Storage: Send,
 {
-    let pooled = manager(&rt, source, opened)?;
-    let alone = manager(&rt, other, opened)?;
     let going = Blank::new(u64::MAX);
     let creations = Blank::new(u64::MAX);
     let outside = Blank::new(u64::MAX);
     let mut played = String::new(rt.alloc());
     over::<B, R, Brand, Brand, Brand>(
         rt,
-        pooled,
-        alone,
-        opened.max_size,
+        source,
+        other,
+        opened,
         run,
         &mut played,
         going,
@@ -74,9 +72,9 @@ where
 // Makes the moves over a new pool.
 fn over<B, R, G, N, O>(
     rt: R,
-    manager: SqliteManager<B>,
-    other: SqliteManager<B>,
-    max_size: usize,
+    source: B,
+    other: B,
+    opened: Opened,
     run: &Run,
     played: &mut String,
     going: Blank,
@@ -94,10 +92,33 @@ where
     requires creations { Opens N.Ledger creations }
     requires outside { Opens O.Ledger outside }
 {
-    let pool = build::<SqliteManager<B>, R, G, N, O>(
-        rt, manager, max_size, going, creations, outside,
-    )?;
-    Ok(make_moves(&rt, pool, other, run, played)?)
+    let alone = manager(&rt, other, opened)?;
+    let pool = open::<B, R, G, N, O>(rt, source, opened, going, creations, outside)?;
+    Ok(make_moves(&rt, pool, alone, run, played)?)
+}
+
+// Opens a pool over this source.
+fn open<B, R, G, N, O>(
+    rt: R,
+    source: B,
+    opened: Opened,
+    going: Blank,
+    creations: Blank,
+    outside: Blank,
+) -> Result<SqlitePool<B, NoTime, R, G, N, O>, Fault>
+where
+    B: Source + Send + Sync,
+    B::Storage: Send,
+    R: Host,
+    G: Ledger,
+    N: Ledger,
+    O: Ledger,
+    requires going { Opens G.Ledger going }
+    requires creations { Opens N.Ledger creations }
+    requires outside { Opens O.Ledger outside }
+{
+    let manager = manager(&rt, source, opened)?;
+    build(rt, manager, opened.max_size, going, creations, outside)
 }
 
 // Builds a pool of any manager. A blank opens each of its ledgers.
