@@ -8,7 +8,7 @@ use Rattle.deadpool_managed.specs.declared.prepare.Prepared.TheVariants as prepa
 use Rattle.deadpool_managed.specs.declared.get.Stage.TheVariants as stage
 use Rattle.deadpool_managed.specs.declared.get.Turn.TheVariants as turn
 use Rattle.deadpool_parts.specs.declared.replies.StepReply.TheVariants as step
-use Rattle.deadpool_managed.specs.declared.desk.CreatedReply.TheVariants as numbered
+use Rattle.deadpool_desk.specs.declared.desk.CreatedReply.TheVariants as numbered
 use Rattle.deadpool.specs.declared.replay.moves.Reply.TheVariants as reply
 use Rattle.deadpool.proofs.DeskImage.{NoTicket, owned-same, goes, creates, prepares, lasts, Shifts, put, put_off, IsCounted-set, put-image, put_off-image, Gives-same, holds_creation, holds_object, ends_free}
 use Rattle.deadpool.proofs.Fixed.{Fixed, image_of, get_at, party_at}

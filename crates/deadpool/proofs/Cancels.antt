@@ -3,7 +3,7 @@ use Rattle.deadpool.proofs.Basics.{◌≡◌, ℕ, ◌-◌, ◌≤◌, List, tru
 use Rattle.deadpool.proofs.Words.{given, Moment, Timeouts, DeskState, settled, is_listed, desk_unqueued as unqueued, Fails, Refuses, DeskCancels, Getting, May, object_of, Made, no_step, cancelling, DeskMakes as Makes, CancelsFrom, GivesUp, Pool, prepared_at, removed, cancel, NobodyWaits, standing_of, has_ticket, queue_of, IsCounted, Slot, Stage, StepReply, Held, core_desk}
 use Rattle.deadpool_managed.specs.declared.get.Stage.TheVariants as stage
 use Rattle.deadpool_parts.specs.declared.replies.StepReply.TheVariants as step
-use Rattle.deadpool_managed.specs.declared.desk.Held.TheVariants as held
+use Rattle.deadpool_desk.specs.declared.desk.Held.TheVariants as held
 use Rattle.deadpool.specs.declared.replay.moves.Reply.TheVariants as reply
 use Rattle.deadpool.proofs.DeskImage.{NoTicket, goes, creates, prepares, Shifts, IsCounted-set, put_off-unqueued, put_off-image, holds_place, holds_creation, holds_object, ends_free, ends_empty}
 use Rattle.deadpool.proofs.Fixed.{Fixed, image_of, get_at}

@@ -4,9 +4,9 @@ use Rattle.deadpool.proofs.Words.{Standing, deadline_after, is_reached, is_posit
 use Rattle.deadpool_parts.specs.declared.errors.TimeoutType.TheVariants as phase
 use Rattle.deadpool_managed.specs.declared.get.Stage.TheVariants as stage
 use Rattle.deadpool_managed.specs.declared.get.Turn.TheVariants as turn
-use Rattle.deadpool_managed.specs.declared.desk.EnterReply.TheVariants as entered
-use Rattle.deadpool_managed.specs.declared.desk.AskReply.TheVariants as asked
-use Rattle.deadpool_managed.specs.declared.desk.AgainReply.TheVariants as again
+use Rattle.deadpool_desk.specs.declared.desk.EnterReply.TheVariants as entered
+use Rattle.deadpool_desk.specs.declared.desk.AskReply.TheVariants as asked
+use Rattle.deadpool_desk.specs.declared.desk.AgainReply.TheVariants as again
 use Rattle.deadpool.specs.declared.replay.moves.Reply.TheVariants as reply
 use Rattle.deadpool.proofs.NumberLists.{without-twice}
 use Rattle.deadpool.proofs.DeskImage.{Owns, NoTicket, queueing, put_off, IsCounted-set, put_off-unqueued, put-queueing, unqueued-none, places-image, put-image, Gives-same, holds_place, ends_quietly, ends_empty, nobody_waits-closed, nobody_waits-unqueued, goes, creates, prepares, lasts}

@@ -1,7 +1,7 @@
 -- Objects that are out: one gets another value, leaves the pool for good, or comes back.
 use Rattle.deadpool.proofs.Basics.{◌≡◌, ℕ, suc, List, [], ◌∷◌, ◌==◌, length, set, refl, ap, inl, inr, Some, get_or, position, position_or_len, one-add, cases_Bool, place_is, found_at_place, arith, Option, ◌+◌, ◌-◌, length-without_numbered, ◌++◌, true, false, nat_le, sym, le-leb, lt-leb, eq-eqb, ne_eqb, Gives}
 use Rattle.deadpool.proofs.Words.{find_slot, with_put, Slot, DeskState, Getting, IsCounted, settled, settle, without_slot, slot_number, May, TakesBack, Pool, size, moved, IsTaken, reply_to_back, BackReply, Reply}
-use Rattle.deadpool_managed.specs.declared.desk.BackReply.TheVariants as back
+use Rattle.deadpool_desk.specs.declared.desk.BackReply.TheVariants as back
 use Rattle.deadpool.specs.declared.replay.moves.Move.TheVariants as move
 use Rattle.deadpool.specs.declared.replay.moves.Reply.TheVariants as reply
 use Rattle.deadpool.proofs.DeskImage.{settles, counted_settled}

@@ -1,7 +1,7 @@
 -- The steps of a pool's owner: another limit, a close and handles, and a take, at the desk and in the pool.
 use Rattle.deadpool.proofs.Basics.{eq-eqb, ne_eqb, ◌≡◌, ℕ, ◌+◌, ◌-◌, List, [], Bool, true, false, ◌==◌, length, drop, min, max, refl, ap, ◌∙◌, arith, Option, if◌then◌else◌, append-nil, drop_all, most_handles, ◌≢◌, cond, not, nat_lt, Some, Ok, Err, sym, subst, inl, inr, nat_tests, cases_Bool, Gives, Return, ask, ◌>>=◌}
 use Rattle.deadpool.proofs.Words.{DeskState, desk_size as size, settled, desk_given_up as given_up_core, Getting, Pool, places, size as pool_size, settle, given_up, resized, closed, cloned, handle_dropped, IsCounted, Slot, given, Asking, May, Reserve, Takes, Resizes, Closes, Clones, DropsHandle, Upgrades, desk_resized as resized_core, find_slot, without_slot, moved, by_handle, reply_to_take, reply_to_handle, TakeReply, HandleReply, Reply}
-use Rattle.deadpool_managed.specs.declared.desk.TakeReply.TheVariants as taking
+use Rattle.deadpool_desk.specs.declared.desk.TakeReply.TheVariants as taking
 use Rattle.deadpool_parts.specs.declared.replies.HandleReply.TheVariants as handle
 use Rattle.deadpool.specs.declared.replay.moves.Move.TheVariants as move
 use Rattle.deadpool.specs.declared.replay.moves.Reply.TheVariants as reply

@@ -15,24 +15,24 @@ pub use Rattle.deadpool_managed.proofs.CoreDesk.{core_desk, own_desk, makes_at_d
 pub use Rattle.deadpool_managed.proofs.IdleLists.{other_idle-shorter}
 pub use Rattle.deadpool_managed.specs.Answers.{LeavesOrKeeps}
 pub use Rattle.deadpool_managed.specs.Calls.{start, pass}
-pub use Rattle.deadpool_managed.specs.CoreState.{CoreState}
-pub use Rattle.deadpool_managed.specs.DeskState.{DeskState, settled, places as desk_places, grants as desk_grants, size as desk_size, pending as desk_pending, status_of as desk_status_of, next_idle, other_idle, least_idle as desk_least_idle}
-pub use Rattle.deadpool_managed.specs.DeskSteps.{Fails, is_listed, unqueued as desk_unqueued, Refuses, Cancels as DeskCancels, Enters, Asks, AsksAgain, TakesBack, given_up as desk_given_up, Takes, Resizes, Closes, Clones, DropsHandle, Upgrades, resized as desk_resized, Serves}
+pub use Rattle.deadpool_desk.specs.CoreState.{CoreState}
+pub use Rattle.deadpool_desk.specs.DeskState.{DeskState, settled, places as desk_places, grants as desk_grants, size as desk_size, pending as desk_pending, status_of as desk_status_of, next_idle, other_idle, least_idle as desk_least_idle}
+pub use Rattle.deadpool_desk.specs.DeskSteps.{Fails, is_listed, unqueued as desk_unqueued, Refuses, Cancels as DeskCancels, Enters, Asks, AsksAgain, TakesBack, given_up as desk_given_up, Takes, Resizes, Closes, Clones, DropsHandle, Upgrades, resized as desk_resized, Serves}
 pub use Rattle.deadpool_managed.specs.Get.{Made, no_step, discarding, creating as by_creation, failing, refusing, Makes as DeskMakes, AfterCreation, AfterPrepared, AfterChecked, AdvancesCreation, ended_by, cancelling, CancelsFrom, GivesUp, AfterEntered, AfterAsked, AfterAskedAgain, AfterServing, entering, asking, asking_again, AdvancesFrom}
 pub use Rattle.deadpool_managed.specs.HookLists.{HookLists}
-pub use Rattle.deadpool_managed.specs.Metrics.{new_metrics}
+pub use Rattle.deadpool_desk.specs.Metrics.{new_metrics}
 pub use Rattle.deadpool_managed.specs.Outside.{May, Asking, may, Reserve, Detach}
 pub use Rattle.deadpool_managed.specs.Prepare.{create, prepare, check, with_value, object_of, approved, approve, recycled, poll_recycling, begin_recycling, reviewed as prepare_reviewed}
-pub use Rattle.deadpool_managed.specs.Retained.{Retained}
-pub use Rattle.deadpool_managed.specs.Retains.{Reviews, Retains}
+pub use Rattle.deadpool_desk.specs.Retained.{Retained}
+pub use Rattle.deadpool_desk.specs.Retains.{Reviews, Retains}
 pub use Rattle.deadpool_managed.specs.Stages.{Getting}
-pub use Rattle.deadpool_managed.specs.declared.desk.AgainReply.{AgainReply}
-pub use Rattle.deadpool_managed.specs.declared.desk.AskReply.{AskReply}
-pub use Rattle.deadpool_managed.specs.declared.desk.BackReply.{BackReply}
-pub use Rattle.deadpool_managed.specs.declared.desk.EnterReply.{EnterReply}
-pub use Rattle.deadpool_managed.specs.declared.desk.Held.{Held}
-pub use Rattle.deadpool_managed.specs.declared.desk.Serving.{Serving}
-pub use Rattle.deadpool_managed.specs.declared.desk.TakeReply.{TakeReply}
+pub use Rattle.deadpool_desk.specs.declared.desk.AgainReply.{AgainReply}
+pub use Rattle.deadpool_desk.specs.declared.desk.AskReply.{AskReply}
+pub use Rattle.deadpool_desk.specs.declared.desk.BackReply.{BackReply}
+pub use Rattle.deadpool_desk.specs.declared.desk.EnterReply.{EnterReply}
+pub use Rattle.deadpool_desk.specs.declared.desk.Held.{Held}
+pub use Rattle.deadpool_desk.specs.declared.desk.Serving.{Serving}
+pub use Rattle.deadpool_desk.specs.declared.desk.TakeReply.{TakeReply}
 pub use Rattle.deadpool_managed.specs.declared.get.Stage.{Stage}
 pub use Rattle.deadpool_managed.specs.declared.get.Turn.{Turn}
 pub use Rattle.deadpool_managed.specs.declared.hooks.AsyncHook.{Ghosts as AsyncHookOf}
@@ -44,8 +44,8 @@ pub use Rattle.deadpool_managed.specs.declared.prepare.Preparation.TheVariants.{
 pub use Rattle.deadpool_managed.specs.declared.prepare.Prepared.{Prepared}
 pub use Rattle.deadpool_managed.specs.declared.prepare.Prepared.TheVariants.{Accepted, GivenUp, Pending}
 pub use Rattle.deadpool_managed.specs.declared.prepare.Verdict.{Verdict}
-pub use Rattle.deadpool_managed.specs.declared.retain.Retainer.{Ghosts as RetainerOf}
-pub use Rattle.deadpool_managed.specs.declared.slot.Slot.{Slot}
+pub use Rattle.deadpool_desk.specs.declared.retain.Retainer.{Ghosts as RetainerOf}
+pub use Rattle.deadpool_desk.specs.declared.slot.Slot.{Slot}
 pub use Rattle.deadpool_parts.specs.Moments.{deadline_after, is_reached, lacks_runtime, is_positive}
 pub use Rattle.deadpool_parts.specs.declared.config.QueueMode.{QueueMode}
 pub use Rattle.deadpool_parts.specs.declared.config.QueueMode.TheVariants.{Fifo, Lifo}

@@ -23,7 +23,7 @@ pub mod Image
 -- What a user of the shared pools cites: that ledgers open, what gets and objects hold, the hooks of a pool, and the
 -- answers of managers and hooks.
 pub use Rattle.deadpool_shared.specs.Opens
-pub use Rattle.deadpool_managed.specs.declared.desk.Holding
+pub use Rattle.deadpool_desk.specs.declared.desk.Holding
 pub use Rattle.deadpool_managed.specs.HookLists
 pub use Rattle.deadpool_managed.specs.Answers
 pub use Rattle.deadpool_parts.specs.declared.errors.RecycleError

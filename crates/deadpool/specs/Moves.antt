@@ -9,7 +9,7 @@ use Rattle.deadpool_managed.specs.Outside.{Asking, May, Detach, Reserve}
 use Rattle.deadpool.specs.Pool.{Pool, Party, unpolled, places, size, least_idle, reach, settle, status_of}
 use Rattle.deadpool.specs.Steps.{find_slot, without_slot, with_put, resized, closed, cloned, handle_dropped}
 use Rattle.deadpool.specs.Party.{advance, cancel}
-use Rattle.deadpool_managed.specs.declared.slot.Slot.{Slot}
+use Rattle.deadpool_desk.specs.declared.slot.Slot.{Slot}
 use Rattle.deadpool.specs.declared.replay.moves.Move.{Move}
 use Rattle.deadpool.specs.declared.replay.moves.Move.TheVariants as move
 use Rattle.deadpool.specs.declared.replay.moves.Reply.{Reply}

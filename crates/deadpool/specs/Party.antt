@@ -9,12 +9,12 @@ use Rattle.deadpool_parts.specs.declared.moment.Moment.{Moment}
 use Rattle.deadpool_parts.specs.declared.errors.PoolError.TheVariants.{Timeout, Backend, Closed, NoRuntimeSpecified, PostCreateHook, OutOfMemory}
 use Rattle.deadpool_parts.specs.declared.errors.TimeoutType.TheVariants as phase
 use Rattle.deadpool_managed.specs.Calls.{start}
-use Rattle.deadpool_managed.specs.Metrics.{new_metrics}
+use Rattle.deadpool_desk.specs.Metrics.{new_metrics}
 use Rattle.deadpool_managed.specs.Outside.{Asking, Detach, Reserve}
 use Rattle.deadpool_managed.specs.Prepare.{create, prepare, check, with_value}
 use Rattle.deadpool.specs.Pool.{Pool, Party, Standing, unpolled, queued, going, creating, recycling, checking, finished, prepared_at, places}
 use Rattle.deadpool.specs.Steps.{to, unqueued, removed, fail, rest, go_on, serve, with_slot}
-use Rattle.deadpool_managed.specs.declared.slot.Slot.{Slot}
+use Rattle.deadpool_desk.specs.declared.slot.Slot.{Slot}
 use Rattle.deadpool_managed.specs.declared.prepare.Verdict.{Verdict}
 use Rattle.deadpool_managed.specs.declared.prepare.Verdict.TheVariants as verdict
 use Rattle.deadpool_managed.specs.declared.prepare.Prepared.{Prepared}

@@ -9,7 +9,7 @@ use Rattle.deadpool_parts.specs.declared.config.Timeouts.{Timeouts}
 use Rattle.deadpool_parts.specs.declared.status.Status.{Status}
 use Rattle.deadpool_managed.specs.HookLists.{HookLists}
 use Rattle.deadpool_managed.specs.Prepare.{object_of}
-use Rattle.deadpool_managed.specs.declared.slot.Slot.{Slot}
+use Rattle.deadpool_desk.specs.declared.slot.Slot.{Slot}
 use Rattle.deadpool_managed.specs.declared.prepare.Position.{Position}
 use Rattle.deadpool_managed.specs.declared.prepare.Preparation.{Preparation}
 

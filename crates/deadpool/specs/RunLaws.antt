@@ -13,7 +13,7 @@ use Rattle.deadpool.specs.Pool.{Pool, Party, opened, is_going, is_creating, prep
 use Rattle.deadpool.specs.Steps.{given_up}
 use Rattle.deadpool.specs.Moves.{Makes, PoolRuns}
 use Rattle.deadpool.specs.Laws.{IsLawful, queue}
-use Rattle.deadpool_managed.specs.declared.slot.Slot.{Slot}
+use Rattle.deadpool_desk.specs.declared.slot.Slot.{Slot}
 use Rattle.deadpool.specs.declared.replay.moves.Move.{Move}
 use Rattle.deadpool.specs.declared.replay.moves.Move.TheVariants as move
 use Rattle.deadpool.specs.declared.replay.moves.Reply.{Reply}

@@ -25,7 +25,7 @@ use Rattle.deadpool.specs.Pool.{Pool, opened}
 use Rattle.deadpool.specs.Rank.{rank_at}
 use Rattle.deadpool.specs.Steps.{find_slot}
 use Rattle.deadpool_managed.specs.declared.hooks.Hook.TheVariants.{AsyncFn}
-use Rattle.deadpool_managed.specs.declared.slot.Slot.{Slot}
+use Rattle.deadpool_desk.specs.declared.slot.Slot.{Slot}
 use Rattle.deadpool.specs.declared.replay.moves.Move.{Move}
 use Rattle.deadpool.specs.declared.replay.moves.Move.TheVariants as move
 use Rattle.deadpool.specs.declared.replay.moves.Reply.{Reply}

@@ -5,9 +5,9 @@ use Rattle.deadpool_parts.specs.Numbers.{without_number, largest_usize, most_han
 use Rattle.deadpool_parts.specs.declared.errors.PoolError.{PoolError}
 use Rattle.deadpool_parts.specs.declared.errors.PoolError.TheVariants.{NumbersExhausted}
 use Rattle.deadpool_managed.specs.Calls.{start}
-use Rattle.deadpool_managed.specs.DeskState.{next_idle, other_idle}
+use Rattle.deadpool_desk.specs.DeskState.{next_idle, other_idle}
 use Rattle.deadpool.specs.Pool.{Pool, Party, Standing, going, creating, recycling, finished, creating_count, size, least_idle, settle}
-use Rattle.deadpool_managed.specs.declared.slot.Slot.{Slot}
+use Rattle.deadpool_desk.specs.declared.slot.Slot.{Slot}
 use Rattle.deadpool_managed.specs.declared.prepare.Preparation.TheVariants.{PreRecycle}
 use Rattle.deadpool.specs.declared.replay.moves.Reply.{Reply}
 use Rattle.deadpool.specs.declared.replay.moves.Reply.TheVariants.{More, Pending, Failed}

@@ -5,19 +5,19 @@ use Rattle.deadpool_parts.specs.declared.moment.Runtime.{Runtime}
 use Rattle.deadpool_managed.specs.HookLists.{HookLists}
 use Rattle.deadpool_managed.specs.Stages.{Getting}
 use Rattle.deadpool_managed.specs.Get.{Made, Makes, AdvancesFrom}
-use Rattle.deadpool_managed.specs.declared.desk.Desk.{Ghosts as DeskOf}
+use Rattle.deadpool_desk.specs.declared.desk.Desk.{Ghosts as DeskOf}
 use Rattle.deadpool_parts.specs.Program.{Return, ask, ◌>>=◌}
 use Rattle.deadpool_managed.specs.Outside.{Asking, May, Detach}
 use Rattle.deadpool.specs.Steps.{with_slot}
-use Rattle.deadpool_managed.specs.declared.slot.Slot.{Slot}
+use Rattle.deadpool_desk.specs.declared.slot.Slot.{Slot}
 use Rattle.deadpool_managed.specs.declared.get.Turn.{Turn}
 use Rattle.deadpool_managed.specs.declared.get.Turn.TheVariants.{More, Pending, Done}
 use Rattle.deadpool_parts.specs.declared.replies.HandleReply.{HandleReply}
 use Rattle.deadpool_parts.specs.declared.replies.HandleReply.TheVariants as handle
-use Rattle.deadpool_managed.specs.declared.desk.TakeReply.{TakeReply}
-use Rattle.deadpool_managed.specs.declared.desk.TakeReply.TheVariants as taking
-use Rattle.deadpool_managed.specs.declared.desk.BackReply.{BackReply}
-use Rattle.deadpool_managed.specs.declared.desk.BackReply.TheVariants as back
+use Rattle.deadpool_desk.specs.declared.desk.TakeReply.{TakeReply}
+use Rattle.deadpool_desk.specs.declared.desk.TakeReply.TheVariants as taking
+use Rattle.deadpool_desk.specs.declared.desk.BackReply.{BackReply}
+use Rattle.deadpool_desk.specs.declared.desk.BackReply.TheVariants as back
 use Rattle.deadpool.specs.declared.replay.moves.Reply.{Reply}
 use Rattle.deadpool.specs.declared.replay.moves.Reply.TheVariants as reply
 

@@ -13,25 +13,25 @@ use Rattle.deadpool_parts.specs.declared.replies.StepReply.{StepReply}
 use Rattle.deadpool_parts.specs.declared.replies.StepReply.TheVariants as step
 use Rattle.deadpool_parts.specs.declared.replies.HandleReply.{HandleReply}
 use Rattle.deadpool_parts.specs.declared.replies.HandleReply.TheVariants as handle
-use Rattle.deadpool_managed.specs.DeskState.{DeskState, next_idle, other_idle, settled, status_of}
-use Rattle.deadpool_managed.specs.DeskSteps.{Serves, Enters, Asks, AsksAgain, Discards, Creates, Fails, Refuses, TakesBack, Cancels, Stands, Takes, Resizes, Closes, Clones, DropsHandle, Upgrades, unqueued, given_up, resized}
-use Rattle.deadpool_managed.specs.declared.slot.Slot.{Slot}
-use Rattle.deadpool_managed.specs.declared.desk.Serving.{Serving}
-use Rattle.deadpool_managed.specs.declared.desk.Serving.TheVariants as serving
-use Rattle.deadpool_managed.specs.declared.desk.EnterReply.{EnterReply}
-use Rattle.deadpool_managed.specs.declared.desk.EnterReply.TheVariants as enter
-use Rattle.deadpool_managed.specs.declared.desk.AskReply.{AskReply}
-use Rattle.deadpool_managed.specs.declared.desk.AskReply.TheVariants as ask
-use Rattle.deadpool_managed.specs.declared.desk.AgainReply.{AgainReply}
-use Rattle.deadpool_managed.specs.declared.desk.AgainReply.TheVariants as again
-use Rattle.deadpool_managed.specs.declared.desk.CreatedReply.{CreatedReply}
-use Rattle.deadpool_managed.specs.declared.desk.CreatedReply.TheVariants as created
-use Rattle.deadpool_managed.specs.declared.desk.BackReply.{BackReply}
-use Rattle.deadpool_managed.specs.declared.desk.BackReply.TheVariants as back
-use Rattle.deadpool_managed.specs.declared.desk.TakeReply.{TakeReply}
-use Rattle.deadpool_managed.specs.declared.desk.TakeReply.TheVariants as taking
-use Rattle.deadpool_managed.specs.declared.desk.Held.{Held}
-use Rattle.deadpool_managed.specs.declared.desk.Held.TheVariants as held
+use Rattle.deadpool_desk.specs.DeskState.{DeskState, next_idle, other_idle, settled, status_of}
+use Rattle.deadpool_desk.specs.DeskSteps.{Serves, Enters, Asks, AsksAgain, Discards, Creates, Fails, Refuses, TakesBack, Cancels, Stands, Takes, Resizes, Closes, Clones, DropsHandle, Upgrades, unqueued, given_up, resized}
+use Rattle.deadpool_desk.specs.declared.slot.Slot.{Slot}
+use Rattle.deadpool_desk.specs.declared.desk.Serving.{Serving}
+use Rattle.deadpool_desk.specs.declared.desk.Serving.TheVariants as serving
+use Rattle.deadpool_desk.specs.declared.desk.EnterReply.{EnterReply}
+use Rattle.deadpool_desk.specs.declared.desk.EnterReply.TheVariants as enter
+use Rattle.deadpool_desk.specs.declared.desk.AskReply.{AskReply}
+use Rattle.deadpool_desk.specs.declared.desk.AskReply.TheVariants as ask
+use Rattle.deadpool_desk.specs.declared.desk.AgainReply.{AgainReply}
+use Rattle.deadpool_desk.specs.declared.desk.AgainReply.TheVariants as again
+use Rattle.deadpool_desk.specs.declared.desk.CreatedReply.{CreatedReply}
+use Rattle.deadpool_desk.specs.declared.desk.CreatedReply.TheVariants as created
+use Rattle.deadpool_desk.specs.declared.desk.BackReply.{BackReply}
+use Rattle.deadpool_desk.specs.declared.desk.BackReply.TheVariants as back
+use Rattle.deadpool_desk.specs.declared.desk.TakeReply.{TakeReply}
+use Rattle.deadpool_desk.specs.declared.desk.TakeReply.TheVariants as taking
+use Rattle.deadpool_desk.specs.declared.desk.Held.{Held}
+use Rattle.deadpool_desk.specs.declared.desk.Held.TheVariants as held
 use Rattle.deadpool_journal.specs.ByNumber.{number_of, numbered, numbered_serving, numbered_enter, numbered_ask, numbered_again, numbered_back}
 use Rattle.deadpool_journal.specs.Replay.{Makes}
 use Rattle.deadpool_journal.specs.declared.entry.Entry.TheVariants as entry

@@ -5,18 +5,18 @@ use Rattle.std.proofs.lemmas.Bool.{cases_Bool}
 use borrow.Author.Tests.{ltb-true, ltb-false}
 use Rattle.deadpool_parts.specs.declared.replies.StepReply.TheVariants as step
 use Rattle.deadpool_parts.specs.declared.replies.HandleReply.TheVariants as handle
-use Rattle.deadpool_managed.specs.CoreState.{CoreState}
-use Rattle.deadpool_managed.specs.DeskState.{DeskState}
-use Rattle.deadpool_managed.specs.DeskSteps.{Serves}
-use Rattle.deadpool_managed.specs.declared.desk.Serving.{Serving}
-use Rattle.deadpool_managed.specs.declared.desk.Serving.TheVariants as serving
-use Rattle.deadpool_managed.specs.declared.desk.EnterReply.TheVariants as enter
-use Rattle.deadpool_managed.specs.declared.desk.AskReply.TheVariants as ask
-use Rattle.deadpool_managed.specs.declared.desk.AgainReply.TheVariants as again
-use Rattle.deadpool_managed.specs.declared.desk.CreatedReply.TheVariants as created
-use Rattle.deadpool_managed.specs.declared.desk.BackReply.TheVariants as back
-use Rattle.deadpool_managed.specs.declared.desk.TakeReply.TheVariants as taking
-use Rattle.deadpool_managed.specs.declared.desk.Held.TheVariants as held
+use Rattle.deadpool_desk.specs.CoreState.{CoreState}
+use Rattle.deadpool_desk.specs.DeskState.{DeskState}
+use Rattle.deadpool_desk.specs.DeskSteps.{Serves}
+use Rattle.deadpool_desk.specs.declared.desk.Serving.{Serving}
+use Rattle.deadpool_desk.specs.declared.desk.Serving.TheVariants as serving
+use Rattle.deadpool_desk.specs.declared.desk.EnterReply.TheVariants as enter
+use Rattle.deadpool_desk.specs.declared.desk.AskReply.TheVariants as ask
+use Rattle.deadpool_desk.specs.declared.desk.AgainReply.TheVariants as again
+use Rattle.deadpool_desk.specs.declared.desk.CreatedReply.TheVariants as created
+use Rattle.deadpool_desk.specs.declared.desk.BackReply.TheVariants as back
+use Rattle.deadpool_desk.specs.declared.desk.TakeReply.TheVariants as taking
+use Rattle.deadpool_desk.specs.declared.desk.Held.TheVariants as held
 use Rattle.deadpool_journal.specs.ByNumber.{numbered}
 use Rattle.deadpool_journal.specs.LogState.{noted}
 use Rattle.deadpool_journal.specs.Journaling.{Journaling, opening}

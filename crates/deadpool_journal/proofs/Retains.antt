@@ -5,14 +5,14 @@ use borrow.Author.Tests.{ltb-false}
 use Rattle.std.specs.declared.alloc.AllocError.{AllocError}
 use Rattle.std.proofs.lemmas.Bool.{eq-eqb, ne_eqb}
 use Rattle.std.proofs.lemmas.List.{length-map}
-use Rattle.deadpool_managed.specs.CoreState.{CoreState}
-use Rattle.deadpool_managed.specs.CoreSteps as core_steps
-use Rattle.deadpool_managed.specs.DeskState.{DeskState, least_idle}
-use Rattle.deadpool_managed.specs.Retained.{Retained}
-use Rattle.deadpool_managed.specs.Retains.{Reviews, ReviewsFrom, Retains, RetainsNoting}
-use Rattle.deadpool_managed.specs.declared.retain.Removal.{Removal}
-use Rattle.deadpool_managed.specs.declared.retain.Retainer.{Ghosts as RetainerOf}
-use Rattle.deadpool_managed.specs.declared.slot.Slot.{Slot}
+use Rattle.deadpool_desk.specs.CoreState.{CoreState}
+use Rattle.deadpool_desk.specs.CoreSteps as core_steps
+use Rattle.deadpool_desk.specs.DeskState.{DeskState, least_idle}
+use Rattle.deadpool_desk.specs.Retained.{Retained}
+use Rattle.deadpool_desk.specs.Retains.{Reviews, ReviewsFrom, Retains, RetainsNoting}
+use Rattle.deadpool_desk.specs.declared.retain.Removal.{Removal}
+use Rattle.deadpool_desk.specs.declared.retain.Retainer.{Ghosts as RetainerOf}
+use Rattle.deadpool_desk.specs.declared.slot.Slot.{Slot}
 use Rattle.deadpool_journal.specs.ByNumber.{number_of, numbered}
 use Rattle.deadpool_journal.specs.Journaling.{Journaling}
 use Rattle.deadpool_journal.specs.Kept.{IsKept}

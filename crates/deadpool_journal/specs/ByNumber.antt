@@ -1,17 +1,17 @@
 -- A desk and its replies, with the objects by number.
 use Rattle.std.specs.Prelude.{ℕ, map}
-use Rattle.deadpool_managed.specs.DeskState.{DeskState}
-use Rattle.deadpool_managed.specs.declared.slot.Slot.{Slot}
-use Rattle.deadpool_managed.specs.declared.desk.Serving.{Serving}
-use Rattle.deadpool_managed.specs.declared.desk.Serving.TheVariants as serving
-use Rattle.deadpool_managed.specs.declared.desk.EnterReply.{EnterReply}
-use Rattle.deadpool_managed.specs.declared.desk.EnterReply.TheVariants as enter
-use Rattle.deadpool_managed.specs.declared.desk.AskReply.{AskReply}
-use Rattle.deadpool_managed.specs.declared.desk.AskReply.TheVariants as ask
-use Rattle.deadpool_managed.specs.declared.desk.AgainReply.{AgainReply}
-use Rattle.deadpool_managed.specs.declared.desk.AgainReply.TheVariants as again
-use Rattle.deadpool_managed.specs.declared.desk.BackReply.{BackReply}
-use Rattle.deadpool_managed.specs.declared.desk.BackReply.TheVariants as back
+use Rattle.deadpool_desk.specs.DeskState.{DeskState}
+use Rattle.deadpool_desk.specs.declared.slot.Slot.{Slot}
+use Rattle.deadpool_desk.specs.declared.desk.Serving.{Serving}
+use Rattle.deadpool_desk.specs.declared.desk.Serving.TheVariants as serving
+use Rattle.deadpool_desk.specs.declared.desk.EnterReply.{EnterReply}
+use Rattle.deadpool_desk.specs.declared.desk.EnterReply.TheVariants as enter
+use Rattle.deadpool_desk.specs.declared.desk.AskReply.{AskReply}
+use Rattle.deadpool_desk.specs.declared.desk.AskReply.TheVariants as ask
+use Rattle.deadpool_desk.specs.declared.desk.AgainReply.{AgainReply}
+use Rattle.deadpool_desk.specs.declared.desk.AgainReply.TheVariants as again
+use Rattle.deadpool_desk.specs.declared.desk.BackReply.{BackReply}
+use Rattle.deadpool_desk.specs.declared.desk.BackReply.TheVariants as back
 
 module _ {T : Type 0} where
   abbrev pub number_of : Slot T → ℕ

@@ -1,6 +1,6 @@
 -- A journal as it is handed out.
 use Rattle.std.specs.Prelude.{ℕ}
-use Rattle.deadpool_managed.specs.DeskState.{DeskState, new_core}
+use Rattle.deadpool_desk.specs.DeskState.{DeskState, new_core}
 use Rattle.deadpool_journal.specs.Replay.{AreSteps}
 use Rattle.deadpool_journal.specs.declared.journal.Journal.{Journal}
 

@@ -1,8 +1,8 @@
 -- A pool's state with its journal.
 use Rattle.std.specs.Prelude.{◌≡◌, ℕ}
 use Rattle.deadpool_parts.specs.declared.config.QueueMode.{QueueMode}
-use Rattle.deadpool_managed.specs.CoreState.{CoreState}
-use Rattle.deadpool_managed.specs.DeskState.{DeskState, new_core}
+use Rattle.deadpool_desk.specs.CoreState.{CoreState}
+use Rattle.deadpool_desk.specs.DeskState.{DeskState, new_core}
 use Rattle.deadpool_journal.specs.LogState.{LogState, noted}
 use Rattle.deadpool_journal.specs.declared.entry.Entry.{Entry}
 

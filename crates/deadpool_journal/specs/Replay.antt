@@ -2,18 +2,18 @@
 use Rattle.std.specs.Prelude.{◌≡◌, ◌≢◌, ℕ, ◌+◌, ◌-◌, ◌≤◌, ⊤, true, false, List, [], ◌∷◌, ◌++◌, length, if◌then◌else◌, Ok, Err}
 use Rattle.deadpool_parts.specs.declared.replies.StepReply.TheVariants as step
 use Rattle.deadpool_parts.specs.declared.replies.HandleReply.TheVariants as handle
-use Rattle.deadpool_managed.specs.DeskState.{DeskState, least_idle, other_idle, settled}
-use Rattle.deadpool_managed.specs.DeskSteps.{Enters, Asks, AsksAgain, Discards, Creates, Fails, Refuses, TakesBack, Cancels, Stands, Takes, Resizes, Closes, Clones, DropsHandle, Upgrades, unqueued, resized, one_handle_more, one_handle_less}
-use Rattle.deadpool_managed.specs.declared.desk.Serving.{Serving}
-use Rattle.deadpool_managed.specs.declared.desk.Serving.TheVariants as serving
-use Rattle.deadpool_managed.specs.declared.desk.EnterReply.TheVariants as enter
-use Rattle.deadpool_managed.specs.declared.desk.AskReply.TheVariants as ask
-use Rattle.deadpool_managed.specs.declared.desk.AgainReply.TheVariants as again
-use Rattle.deadpool_managed.specs.declared.desk.CreatedReply.TheVariants as created
-use Rattle.deadpool_managed.specs.declared.desk.BackReply.TheVariants as back
-use Rattle.deadpool_managed.specs.declared.desk.TakeReply.TheVariants as taking
-use Rattle.deadpool_managed.specs.declared.desk.Held.{Held}
-use Rattle.deadpool_managed.specs.declared.desk.Held.TheVariants as held
+use Rattle.deadpool_desk.specs.DeskState.{DeskState, least_idle, other_idle, settled}
+use Rattle.deadpool_desk.specs.DeskSteps.{Enters, Asks, AsksAgain, Discards, Creates, Fails, Refuses, TakesBack, Cancels, Stands, Takes, Resizes, Closes, Clones, DropsHandle, Upgrades, unqueued, resized, one_handle_more, one_handle_less}
+use Rattle.deadpool_desk.specs.declared.desk.Serving.{Serving}
+use Rattle.deadpool_desk.specs.declared.desk.Serving.TheVariants as serving
+use Rattle.deadpool_desk.specs.declared.desk.EnterReply.TheVariants as enter
+use Rattle.deadpool_desk.specs.declared.desk.AskReply.TheVariants as ask
+use Rattle.deadpool_desk.specs.declared.desk.AgainReply.TheVariants as again
+use Rattle.deadpool_desk.specs.declared.desk.CreatedReply.TheVariants as created
+use Rattle.deadpool_desk.specs.declared.desk.BackReply.TheVariants as back
+use Rattle.deadpool_desk.specs.declared.desk.TakeReply.TheVariants as taking
+use Rattle.deadpool_desk.specs.declared.desk.Held.{Held}
+use Rattle.deadpool_desk.specs.declared.desk.Held.TheVariants as held
 use Rattle.deadpool_journal.specs.Removals.{remaining, StandIn}
 use Rattle.deadpool_journal.specs.declared.entry.Entry.{Entry}
 use Rattle.deadpool_journal.specs.declared.entry.Entry.TheVariants.{Enter, Ask, Again, Discard, Created, Failed, Refused, Back, Cancel, Status, Take, Resize, Retain, Close, CloneHandle, DropHandle, Upgrade}

@@ -4,18 +4,18 @@ use Rattle.std.specs.declared.alloc.AllocError.{AllocError}
 use Rattle.deadpool_parts.specs.declared.replies.HandleReply.{HandleReply}
 use Rattle.deadpool_parts.specs.declared.replies.StepReply.{StepReply}
 use Rattle.deadpool_parts.specs.declared.status.Status.{Status}
-use Rattle.deadpool_managed.specs.CoreSteps.{Enters, Asks, AsksAgain, Discards, Creates, Fails, Refuses, TakesBack, Cancels, Stands, Takes, Resizes, Retains, RetainsNoting, Closes, Clones, DropsHandle, Upgrades, Tells}
-use Rattle.deadpool_managed.specs.Retained.{Retained}
-use Rattle.deadpool_managed.specs.declared.desk.AgainReply.{AgainReply}
-use Rattle.deadpool_managed.specs.declared.desk.AskReply.{AskReply}
-use Rattle.deadpool_managed.specs.declared.desk.BackReply.{BackReply}
-use Rattle.deadpool_managed.specs.declared.desk.CreatedReply.{CreatedReply}
-use Rattle.deadpool_managed.specs.declared.desk.EnterReply.{EnterReply}
-use Rattle.deadpool_managed.specs.declared.desk.Held.{Held}
-use Rattle.deadpool_managed.specs.declared.desk.TakeReply.{TakeReply}
-use Rattle.deadpool_managed.specs.declared.retain.Removal.{Removal}
-use Rattle.deadpool_managed.specs.declared.retain.Retainer.{Ghosts as RetainerOf}
-use Rattle.deadpool_managed.specs.declared.slot.Slot.{Slot}
+use Rattle.deadpool_desk.specs.CoreSteps.{Enters, Asks, AsksAgain, Discards, Creates, Fails, Refuses, TakesBack, Cancels, Stands, Takes, Resizes, Retains, RetainsNoting, Closes, Clones, DropsHandle, Upgrades, Tells}
+use Rattle.deadpool_desk.specs.Retained.{Retained}
+use Rattle.deadpool_desk.specs.declared.desk.AgainReply.{AgainReply}
+use Rattle.deadpool_desk.specs.declared.desk.AskReply.{AskReply}
+use Rattle.deadpool_desk.specs.declared.desk.BackReply.{BackReply}
+use Rattle.deadpool_desk.specs.declared.desk.CreatedReply.{CreatedReply}
+use Rattle.deadpool_desk.specs.declared.desk.EnterReply.{EnterReply}
+use Rattle.deadpool_desk.specs.declared.desk.Held.{Held}
+use Rattle.deadpool_desk.specs.declared.desk.TakeReply.{TakeReply}
+use Rattle.deadpool_desk.specs.declared.retain.Removal.{Removal}
+use Rattle.deadpool_desk.specs.declared.retain.Retainer.{Ghosts as RetainerOf}
+use Rattle.deadpool_desk.specs.declared.slot.Slot.{Slot}
 use Rattle.deadpool_journal.specs.ByNumber.{numbered_enter, numbered_ask, numbered_again, numbered_back}
 use Rattle.deadpool_journal.specs.Journaling.{Journaling, Notes}
 use Rattle.deadpool_journal.specs.declared.entry.Entry.TheVariants as entry

@@ -2,7 +2,7 @@
 ghost use Rattle.std.specs.Prelude.{◌≡◌};
 ghost use Rattle.deadpool_journal.specs.ByNumber.{numbered_serving, numbered_enter, numbered_ask, numbered_again, numbered_back};
 
-use deadpool_managed::{AgainReply, AskReply, BackReply, EnterReply, Serving, Slot};
+use deadpool_desk::{AgainReply, AskReply, BackReply, EnterReply, Serving, Slot};
 
 fn serving<T>(reply: &Serving<Slot<T>>) -> Serving<usize>
     ensures { result ≡ numbered_serving reply.now }

@@ -1,8 +1,8 @@
 //! What a journal keeps of a step.
 ghost use Rattle.std.specs.Prelude.{◌≡◌, IfOk};
 
-use deadpool_managed::gate::Ticket;
-use deadpool_managed::{
+use deadpool_desk::gate::Ticket;
+use deadpool_desk::{
     AgainReply, AskReply, BackReply, CreatedReply, EnterReply, HandleReply, Held, Removals,
     Serving, Status, StepReply, TakeReply,
 };

@@ -1,6 +1,6 @@
 //! A journal as it is handed out.
 use crate::Entry;
-use deadpool_managed::QueueMode;
+use deadpool_desk::QueueMode;
 
 /// A copy of a journal: the steps that a pool made since it opened, in order, each with its reply.
 ///

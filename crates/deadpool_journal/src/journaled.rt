@@ -1,9 +1,9 @@
 //! A pool's state, beside the steps that led to it.
 ghost use Rattle.std.specs.Prelude.{◌≡◌, ◌≤◌, ◌&&◌, ◌++◌, [], IfOk, is_some, length, nat_le, not};
 ghost use Rattle.deadpool_parts.specs.Orders.{IsOnce};
-ghost use Rattle.deadpool_managed.specs.CoreSteps.{due_now};
-ghost use Rattle.deadpool_managed.specs.DeskState.{new_core, places};
-ghost use Rattle.deadpool_managed.specs.Settled.{NobodyWaits};
+ghost use Rattle.deadpool_desk.specs.CoreSteps.{due_now};
+ghost use Rattle.deadpool_desk.specs.DeskState.{new_core, places};
+ghost use Rattle.deadpool_desk.specs.Settled.{NobodyWaits};
 ghost use Rattle.deadpool_journal.specs.Copies.{HasSteps};
 ghost use Rattle.deadpool_journal.specs.Kept.{IsKept};
 ghost use Rattle.deadpool_journal.specs.LogState.{no_entries};
@@ -11,8 +11,8 @@ ghost use Rattle.deadpool_journal.specs.Steps.{EntersNoted, AsksNoted, AsksAgain
 
 use crate::log::Log;
 use crate::{Entry, Journal};
-use deadpool_managed::gate::Ticket;
-use deadpool_managed::{
+use deadpool_desk::gate::Ticket;
+use deadpool_desk::{
     AgainReply, AskReply, BackReply, Core, CreatedReply, Desk, EnterReply, HandleReply, Held,
     QueueMode, RetainResult, Retainer, Slot, Status, StepReply, TakeReply,
 };

@@ -5,8 +5,8 @@ ghost use Rattle.deadpool_journal.specs.LogState.{no_entries, noted};
 ghost use Rattle.deadpool_journal.specs.declared.entry.Entry.TheVariants as entry;
 
 use crate::{Entry, by_number};
-use deadpool_managed::gate::Ticket;
-use deadpool_managed::{AgainReply, AskReply, BackReply, EnterReply, Slot};
+use deadpool_desk::gate::Ticket;
+use deadpool_desk::{AgainReply, AskReply, BackReply, EnterReply, Slot};
 use deadpool_parts::tables::append;
 use std::alloc::{AllocError, Global};
 use std::marker::Model;

@@ -1,6 +1,6 @@
 //! A journal as text: one entry a line.
 use crate::{Entry, Journal};
-use deadpool_managed::{
+use deadpool_desk::{
     AgainReply, AskReply, BackReply, CreatedReply, EnterReply, HandleReply, Held, QueueMode,
     Removal, Removals, Serving, Status, StepReply, TakeReply,
 };

@@ -10,12 +10,12 @@ use Rattle.deadpool_parts.specs.declared.moment.Runtime.{Runtime}
 use Rattle.deadpool_parts.specs.declared.config.Timeouts.{Timeouts}
 use Rattle.deadpool_parts.specs.declared.replies.StepReply.{StepReply}
 use Rattle.deadpool_parts.specs.declared.replies.StepReply.TheVariants as step
-use Rattle.deadpool_managed.specs.CoreState.{CoreState}
-use Rattle.deadpool_managed.specs.DeskState.{DeskState, places}
+use Rattle.deadpool_desk.specs.CoreState.{CoreState}
+use Rattle.deadpool_desk.specs.DeskState.{DeskState, places}
 use Rattle.deadpool_managed.specs.HookLists.{HookLists}
 use Rattle.deadpool_managed.specs.Outside.{May}
 use Rattle.deadpool_managed.specs.Get.{Made, no_step, entering, asking, asking_again, discarding, creating, failing, refusing, cancelling, Makes, AfterServing, AfterCreation, AfterDiscard, AfterPrepared, AfterChecked, AdvancesCreation, AdvancesFrom, Advanced, Advances, PollsOver}
-use Rattle.deadpool_managed.specs.declared.slot.Slot.{Slot}
+use Rattle.deadpool_desk.specs.declared.slot.Slot.{Slot}
 use Rattle.deadpool_managed.specs.declared.prepare.Prepared.{Prepared}
 use Rattle.deadpool_managed.specs.declared.prepare.Prepared.TheVariants as prepared
 use Rattle.deadpool_managed.specs.declared.prepare.Verdict.{Verdict}
@@ -24,12 +24,12 @@ use Rattle.deadpool_managed.specs.declared.get.Stage.{Stage}
 use Rattle.deadpool_managed.specs.declared.get.Stage.TheVariants.{Unpolled, Queued, Going, Creating, Recycling, Checking, Finished}
 use Rattle.deadpool_managed.specs.declared.get.Turn.{Turn}
 use Rattle.deadpool_managed.specs.declared.get.Turn.TheVariants.{More}
-use Rattle.deadpool_managed.specs.declared.desk.Serving.{Serving}
-use Rattle.deadpool_managed.specs.declared.desk.Serving.TheVariants as serving
-use Rattle.deadpool_managed.specs.declared.desk.EnterReply.{EnterReply}
-use Rattle.deadpool_managed.specs.declared.desk.EnterReply.TheVariants as enter
-use Rattle.deadpool_managed.specs.declared.desk.AgainReply.TheVariants as again
-use Rattle.deadpool_managed.specs.declared.desk.CreatedReply.TheVariants as numbered
+use Rattle.deadpool_desk.specs.declared.desk.Serving.{Serving}
+use Rattle.deadpool_desk.specs.declared.desk.Serving.TheVariants as serving
+use Rattle.deadpool_desk.specs.declared.desk.EnterReply.{EnterReply}
+use Rattle.deadpool_desk.specs.declared.desk.EnterReply.TheVariants as enter
+use Rattle.deadpool_desk.specs.declared.desk.AgainReply.TheVariants as again
+use Rattle.deadpool_desk.specs.declared.desk.CreatedReply.TheVariants as numbered
 use Rattle.deadpool_managed.specs.FirstPoll.{AtOnce}
 use Rattle.deadpool_managed.proofs.FirstPollAtOnce.{HasAnswer, creation_answered}
 use Rattle.deadpool_managed.proofs.CoreDesk.{core_desk, own_desk, makes_at_desk}

@@ -1,6 +1,5 @@
 pub mod CoreDesk
 pub mod CorePolls
-pub mod CoreQueue
 pub mod FirstPoll
 pub mod FirstPollAtOnce
 pub mod FirstPollComes
@@ -9,5 +8,3 @@ pub mod HookLists
 pub mod IdleLists
 pub mod Phases
 pub mod Polls
-pub mod Reviewing
-pub mod StaysSettled

@@ -16,7 +16,7 @@ use Rattle.deadpool_managed.specs.declared.prepare.Position.{Position}
 use Rattle.deadpool_managed.specs.declared.prepare.Verdict.{Verdict}
 use Rattle.deadpool_parts.specs.declared.replies.StepReply.{StepReply}
 use Rattle.deadpool_parts.specs.declared.replies.StepReply.TheVariants as step
-use Rattle.deadpool_managed.specs.declared.slot.Slot.{Slot}
+use Rattle.deadpool_desk.specs.declared.slot.Slot.{Slot}
 use Rattle.deadpool_managed.specs.declared.prepare.Preparation.{Preparation}
 use Rattle.deadpool_managed.specs.declared.prepare.Preparation.TheVariants.{PreRecycle, Recycle, PostRecycle}
 use Rattle.deadpool_managed.specs.declared.prepare.Prepared.{Prepared}

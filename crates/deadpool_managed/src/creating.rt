@@ -5,17 +5,18 @@ ghost use Rattle.deadpool_managed.specs.Answers.{IfReadyOk};
 ghost use Rattle.deadpool_managed.specs.Bounds.{IsNewObject};
 ghost use Rattle.deadpool_managed.specs.Outside.{may};
 ghost use Rattle.deadpool_managed.specs.Get.{Made, Makes, AdvancesCreation, AfterCreation, AfterCreated};
-ghost use Rattle.deadpool_managed.specs.Held.{held_after, held_if_created};
+ghost use Rattle.deadpool_desk.specs.Held.{held_if_created};
+ghost use Rattle.deadpool_managed.specs.Held.{held_after};
 ghost use Rattle.deadpool_managed.specs.Phases.{IsPlaced, came_by, stage_of, turn_of};
-ghost use Rattle.deadpool_managed.specs.declared.desk.Holding.{Holding};
+ghost use Rattle.deadpool_desk.specs.declared.desk.Holding.{Holding};
 
-use crate::desk::{CreatedReply, Desk};
 use crate::prepare::Position;
 use crate::work::{Came, Phase, Work};
 use crate::{
     AsyncHook, Environment, Manager, Metrics, Moment, PoolError, Slot, StepReply, SyncHook,
     TimeoutType, Timeouts,
 };
+use deadpool_desk::{CreatedReply, Desk};
 use deadpool_parts::deadline::{deadline_after, is_reached, lacks_runtime};
 use futures::task::{Context, Poll};
 

@@ -2,17 +2,18 @@
 ghost use Rattle.std.specs.Prelude.{◌≡◌, ◌≢◌};
 ghost use Rattle.deadpool_managed.specs.Outside.{may};
 ghost use Rattle.deadpool_managed.specs.Get.{Made, Makes, AdvancesFrom, AfterServing, AfterEntered, AfterAsked, AfterAskedAgain};
-ghost use Rattle.deadpool_managed.specs.Held.{held_after, held_if_entered, held_if_asked, held_if_asked_again, held_if_served};
+ghost use Rattle.deadpool_desk.specs.Held.{held_if_entered, held_if_asked, held_if_asked_again, held_if_served};
+ghost use Rattle.deadpool_managed.specs.Held.{held_after};
 ghost use Rattle.deadpool_managed.specs.Phases.{IsPlaced, stage_of, turn_of};
-ghost use Rattle.deadpool_managed.specs.declared.desk.Holding.{Holding};
+ghost use Rattle.deadpool_desk.specs.declared.desk.Holding.{Holding};
 ghost use Rattle.deadpool_managed.specs.declared.get.Stage.TheVariants.{Unpolled};
 
-use crate::desk::{AgainReply, AskReply, Desk, EnterReply, Serving};
 use crate::gate::Ticket;
 use crate::work::{Came, Phase, Work};
 use crate::{
     AsyncHook, Environment, Manager, Moment, PoolError, Slot, SyncHook, TimeoutType, Timeouts,
 };
+use deadpool_desk::{AgainReply, AskReply, Desk, EnterReply, Serving};
 use deadpool_parts::deadline::{cannot_wait, deadline_after, is_reached};
 
 impl<M: Manager + Drop, A: AsyncHook<M> + Drop> Work<M, A> {

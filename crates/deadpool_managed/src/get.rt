@@ -7,14 +7,14 @@ ghost use Rattle.deadpool_managed.specs.Bounds.{Falls};
 ghost use Rattle.deadpool_managed.specs.Outside.{may};
 ghost use Rattle.deadpool_managed.specs.Get.{Made, Makes, AdvancesFrom, IfReadyObject, PollsOver, CancelsFrom, deadline_of};
 ghost use Rattle.deadpool_managed.specs.Held.{is_going, held_at, held_after};
-ghost use Rattle.deadpool_managed.specs.declared.desk.Holding.{Holding};
+ghost use Rattle.deadpool_desk.specs.declared.desk.Holding.{Holding};
 ghost use Rattle.deadpool_managed.specs.declared.get.Stage.TheVariants.{Unpolled};
 
-use crate::desk::Desk;
 use crate::gate::Ticket;
 use crate::prepare::{Position, Preparation};
 use crate::progress::Progress;
 use crate::{AsyncHook, Environment, Manager, Moment, PoolError, Slot, SyncHook, Timeouts};
+use deadpool_desk::Desk;
 use futures::task::Context;
 use std::marker::Model;
 

@@ -5,15 +5,15 @@ ghost use Rattle.deadpool_managed.specs.Outside.{may};
 ghost use Rattle.deadpool_managed.specs.Get.{Made, Makes, AdvancesFrom, IfReadyObject};
 ghost use Rattle.deadpool_managed.specs.Held.{held_after};
 ghost use Rattle.deadpool_managed.specs.Phases.{IsPlaced, DiscardsIn, RefusesIn, stage_of, turn_of};
-ghost use Rattle.deadpool_managed.specs.declared.desk.Holding.{Holding};
+ghost use Rattle.deadpool_desk.specs.declared.desk.Holding.{Holding};
 ghost use Rattle.deadpool_parts.specs.declared.replies.StepReply.{StepReply};
 
-use crate::desk::Desk;
 use crate::prepare::{Outcome, Position, Preparing, Verdict, check_in, prepare_in, review_in};
 use crate::work::{Came, Phase, Work};
 use crate::{
     AsyncHook, Environment, HookError, Manager, Moment, PoolError, StepReply, SyncHook, Timeouts,
 };
+use deadpool_desk::Desk;
 use futures::task::Context;
 
 impl<M: Manager + Drop, A: AsyncHook<M> + Drop> Work<M, A> {

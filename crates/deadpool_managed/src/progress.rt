@@ -6,14 +6,14 @@ ghost use Rattle.deadpool_managed.specs.Outside.{may};
 ghost use Rattle.deadpool_managed.specs.Get.{Made, Makes, AdvancesFrom, IfReadyObject, PollsOver, CancelsFrom, deadline_of};
 ghost use Rattle.deadpool_managed.specs.Held.{is_going, held_at, held_after};
 ghost use Rattle.deadpool_managed.specs.Phases.{GivesUpIn};
-ghost use Rattle.deadpool_managed.specs.declared.desk.Holding.{Holding};
+ghost use Rattle.deadpool_desk.specs.declared.desk.Holding.{Holding};
 ghost use Rattle.deadpool_managed.specs.declared.get.Stage.TheVariants.{Unpolled, Finished};
 ghost use Rattle.deadpool_parts.specs.declared.replies.StepReply.{StepReply};
 
-use crate::desk::{Desk, Held};
 use crate::prepare::Preparing;
 use crate::work::{Phase, Work};
 use crate::{AsyncHook, Environment, Manager, Moment, Slot, StepReply, SyncHook, Timeouts, Turn};
+use deadpool_desk::{Desk, Held};
 use futures::task::Context;
 use std::marker::Model;
 use std::mem;

@@ -9,10 +9,10 @@ ghost use Rattle.deadpool_managed.specs.Get.{Made, Makes, AdvancesFrom, IfReadyO
 ghost use Rattle.deadpool_managed.specs.Held.{held_at, held_after};
 ghost use Rattle.deadpool_managed.specs.Phases.{IsPlaced, IsPending, stage_of, turn_of};
 
-use crate::desk::Desk;
 use crate::gate::Ticket;
 use crate::prepare::{Position, Preparing};
 use crate::{AsyncHook, Environment, Manager, Moment, PoolError, Slot, SyncHook, Timeouts, Turn};
+use deadpool_desk::Desk;
 use deadpool_parts::deadline::is_reached;
 use futures::task::Context;
 use std::mem;

@@ -1,14 +1,14 @@
 -- The three counts of a pool, and what one holder has of them.
 use Rattle.std.specs.Prelude.{ℕ, ◌+◌, ◌-◌, ⊤}
 use Rattle.deadpool_journal.specs.Journaling.{Journaling}
-use Rattle.deadpool_managed.specs.declared.desk.Holding.{Holding}
-use Rattle.deadpool_managed.specs.declared.desk.Holding.TheVariants as holding
-use Rattle.deadpool_managed.specs.declared.desk.AgainReply.{AgainReply}
-use Rattle.deadpool_managed.specs.declared.desk.AgainReply.TheVariants as again
-use Rattle.deadpool_managed.specs.declared.desk.BackReply.{BackReply}
-use Rattle.deadpool_managed.specs.declared.desk.BackReply.TheVariants as back
-use Rattle.deadpool_managed.specs.declared.desk.Held.{Held}
-use Rattle.deadpool_managed.specs.declared.desk.Held.TheVariants as held
+use Rattle.deadpool_desk.specs.declared.desk.Holding.{Holding}
+use Rattle.deadpool_desk.specs.declared.desk.Holding.TheVariants as holding
+use Rattle.deadpool_desk.specs.declared.desk.AgainReply.{AgainReply}
+use Rattle.deadpool_desk.specs.declared.desk.AgainReply.TheVariants as again
+use Rattle.deadpool_desk.specs.declared.desk.BackReply.{BackReply}
+use Rattle.deadpool_desk.specs.declared.desk.BackReply.TheVariants as back
+use Rattle.deadpool_desk.specs.declared.desk.Held.{Held}
+use Rattle.deadpool_desk.specs.declared.desk.Held.TheVariants as held
 
 -- places of gets that hold nothing else, of creations under way, and of objects that are not idle
 pub record Counts : Type 0 where

@@ -7,4 +7,4 @@ pub mod Building
 pub mod Counts
 -- What contracts of this crate cite of those below.
 pub use Rattle.deadpool_managed.specs.HookLists
-pub use Rattle.deadpool_managed.specs.declared.desk.Holding
+pub use Rattle.deadpool_desk.specs.declared.desk.Holding

@@ -4,7 +4,7 @@ ghost use Rattle.std.specs.declared.time.Duration.{Duration};
 ghost use Rattle.deadpool_parts.specs.declared.config.QueueMode.TheVariants.{Fifo};
 ghost use Rattle.deadpool_parts.specs.declared.errors.BuildError.TheVariants.{NoRuntimeSpecified};
 ghost use Rattle.deadpool_parts.specs.Timeouts.{no_timeouts};
-ghost use Rattle.deadpool_managed.specs.DeskState.{new_core};
+ghost use Rattle.deadpool_desk.specs.DeskState.{new_core};
 ghost use Rattle.deadpool_managed.specs.HookLists.{CanCall};
 ghost use Rattle.deadpool_shared.specs.Building.{Building, lacks_any_runtime, no_hooks};
 ghost use Rattle.deadpool_shared.specs.Opens.{Opens};

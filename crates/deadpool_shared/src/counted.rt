@@ -1,8 +1,8 @@
 //! The steps that change a pool's three counts, with what they do to them.
 ghost use Rattle.std.specs.Prelude.{◌≡◌, ◌≢◌, ◌<◌};
-ghost use Rattle.deadpool_managed.specs.Allowance.{IsWithinAllowance};
-ghost use Rattle.deadpool_managed.specs.Held.{held_if_entered, held_if_asked, held_if_asked_again, held_as};
-ghost use Rattle.deadpool_managed.specs.declared.desk.Holding.{Holding};
+ghost use Rattle.deadpool_desk.specs.Allowance.{IsWithinAllowance};
+ghost use Rattle.deadpool_desk.specs.Held.{held_if_entered, held_if_asked, held_if_asked_again, held_as};
+ghost use Rattle.deadpool_desk.specs.declared.desk.Holding.{Holding};
 ghost use Rattle.deadpool_shared.specs.Counts.{counted, shifted, IsServed, IsTaken, HasShare};
 
 use deadpool_journal::Journaled;

@@ -1,8 +1,8 @@
 //! What the lock of a pool keeps.
 ghost use Rattle.std.specs.Prelude.{◌≡◌, ◌≢◌, ◌<◌, ◌≤◌, true, IfOk, IfSome};
-ghost use Rattle.deadpool_managed.specs.Held.{held_if_entered, held_if_asked, held_if_asked_again, held_as};
-ghost use Rattle.deadpool_managed.specs.Allowance.{IsWithinAllowance};
-ghost use Rattle.deadpool_managed.specs.declared.desk.Holding.{Holding};
+ghost use Rattle.deadpool_desk.specs.Held.{held_if_entered, held_if_asked, held_if_asked_again, held_as};
+ghost use Rattle.deadpool_desk.specs.Allowance.{IsWithinAllowance};
+ghost use Rattle.deadpool_desk.specs.declared.desk.Holding.{Holding};
 ghost use Rattle.deadpool_journal.specs.Copies.{HasSteps};
 ghost use Rattle.deadpool_shared.specs.Opens.{Opens};
 ghost use Rattle.deadpool_shared.specs.Counts.{counts, counts_of, counted, IsServed, IsTaken, HasShare};

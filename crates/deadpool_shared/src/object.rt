@@ -1,6 +1,6 @@
 //! An object that is out.
 ghost use Rattle.std.specs.Prelude.{◌≡◌};
-ghost use Rattle.deadpool_managed.specs.declared.desk.Holding.{Holding};
+ghost use Rattle.deadpool_desk.specs.declared.desk.Holding.{Holding};
 ghost use Rattle.deadpool_shared.specs.Counts.{counts, counts_of};
 
 use crate::pool::Pool;

@@ -1,10 +1,10 @@
 //! The lock of a pool, with what one holder has.
 ghost use Rattle.std.specs.Prelude.{◌≡◌, ◌≢◌, ⊤};
-ghost use Rattle.deadpool_managed.specs.Allowance.{IsWithinAllowance};
-ghost use Rattle.deadpool_managed.specs.Held.{held_if_entered, held_if_asked, held_if_asked_again, held_if_created, held_if_discarded, held_as};
-ghost use Rattle.deadpool_managed.specs.declared.desk.Holding.{Holding};
-ghost use Rattle.deadpool_managed.specs.declared.desk.CreatedReply.{CreatedReply};
-ghost use Rattle.deadpool_managed.specs.declared.desk.TakeReply.{TakeReply};
+ghost use Rattle.deadpool_desk.specs.Allowance.{IsWithinAllowance};
+ghost use Rattle.deadpool_desk.specs.Held.{held_if_entered, held_if_asked, held_if_asked_again, held_if_created, held_if_discarded, held_as};
+ghost use Rattle.deadpool_desk.specs.declared.desk.Holding.{Holding};
+ghost use Rattle.deadpool_desk.specs.declared.desk.CreatedReply.{CreatedReply};
+ghost use Rattle.deadpool_desk.specs.declared.desk.TakeReply.{TakeReply};
 ghost use Rattle.deadpool_parts.specs.declared.replies.StepReply.{StepReply};
 ghost use Rattle.deadpool_shared.specs.Counts.{counts, counts_of, IsServed, IsTaken, HasShare};
 

@@ -2,7 +2,7 @@
 ghost use Rattle.std.specs.Prelude.{◌≡◌, ◌≤◌, ◌<◌, IfSome};
 ghost use Rattle.deadpool_shared.specs.Opens.{Opens};
 ghost use Rattle.deadpool_shared.specs.Counts.{counts, counts_of, shifted};
-ghost use Rattle.deadpool_managed.specs.declared.desk.Holding.{Holding};
+ghost use Rattle.deadpool_desk.specs.declared.desk.Holding.{Holding};
 
 use deadpool_managed::Holding;
 use std::marker::Model;

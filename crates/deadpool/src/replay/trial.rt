@@ -5,7 +5,7 @@ ghost use Rattle.futures.specs.Task.{Keeps};
 ghost use Rattle.deadpool_parts.specs.Program.{Gives};
 ghost use Rattle.deadpool_parts.specs.Runs.{last_of, all_states, Each, Neighbours};
 ghost use Rattle.deadpool_parts.specs.declared.errors.BuildError.{BuildError};
-ghost use Rattle.deadpool_managed.specs.declared.desk.Holding.{Holding};
+ghost use Rattle.deadpool_desk.specs.declared.desk.Holding.{Holding};
 ghost use Rattle.deadpool_shared.specs.Building.{lacks_any_runtime};
 ghost use Rattle.deadpool_managed.specs.Outside.{may};
 ghost use Rattle.deadpool.specs.Pool.{Pool, opened};

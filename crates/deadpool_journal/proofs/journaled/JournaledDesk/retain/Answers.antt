@@ -1,6 +1,6 @@
 use Rattle.std.proofs.Common.{refl, sym, ◌∙◌}
 use Rattle.std.specs.Prelude.{Ok, Err}
-use Rattle.deadpool_managed.proofs.Reviewing.{retains_forget}
+use Rattle.deadpool_desk.proofs.Reviewing.{retains_forget}
 use Rattle.deadpool_journal.specs.JournaledFields.{journaling_of}
 use Rattle.deadpool_journal.specs.declared.entry.Entry.TheVariants as entry
 use Rattle.deadpool_journal.proofs.Kept.{step_kept}

@@ -1,6 +1,6 @@
 use Rattle.std.proofs.Common.{◌≡◌, refl}
 use Rattle.deadpool_managed.specs.Get.{no_step, cancelling}
-use Rattle.deadpool_managed.specs.declared.desk.Held.TheVariants as held
+use Rattle.deadpool_desk.specs.declared.desk.Held.TheVariants as held
 use Rattle.deadpool_managed.specs.declared.work.Phase.TheVariants.{Unpolled, Served, Queued, Going, Creating, Recycling, Checking, Finished}
 use Rattle.deadpool_managed.specs.Outside.{may}
 use Rattle.deadpool_managed.proofs.Phases.{cancelled_in}

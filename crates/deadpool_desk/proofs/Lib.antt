@@ -1,0 +1,3 @@
+pub mod CoreQueue
+pub mod Reviewing
+pub mod StaysSettled

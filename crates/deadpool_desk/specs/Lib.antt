@@ -1,0 +1,19 @@
+-- The managed pool's state on one thread. In the order in which it can be read.
+
+-- What is known of an object's past.
+pub mod Metrics
+-- The desk machine: the pool's state by tickets and counts, and its steps by their replies.
+pub mod DeskState
+pub mod DeskSteps
+pub mod Retained
+pub mod Retains
+-- A core: a desk, and who was not told; its steps, and what holds between them.
+pub mod CoreState
+pub mod CoreSteps
+pub mod Settled
+-- What every desk keeps: of an allowance, and of what a get holds.
+pub mod Allowance
+pub mod Held
+-- How the fields of a core are seen as its state, and the machine as a desk. No contract of a user cites them.
+pub mod CoreFields
+pub mod CoreDesk

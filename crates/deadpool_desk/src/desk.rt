@@ -1,0 +1,345 @@
+//! What is asked of a pool: one step at a time, each with its reply. Gets ask, and objects that go back, and the pool's
+//! owner.
+//!
+//! A get that holds a place and no object is served: it is given an idle object, or it begins a creation.
+//!
+//! What a step does is said as `Core` does it, by its relations. Of the steps below, those that lower a count answer
+//! `Unknown` where there is nothing to lower, and change nothing. Another desk has relations of its own, and owes
+//! nothing beyond them but that it keeps to an allowance.
+ghost use Rattle.std.specs.Prelude.{◌≡◌, ℕ, ⊤, Bool, Option, Result};
+ghost use Rattle.std.specs.declared.alloc.AllocError.{AllocError};
+ghost use Rattle.deadpool_parts.specs.declared.status.Status.{Status};
+ghost use Rattle.deadpool_desk.specs.Allowance.{IsWithinAllowance};
+ghost use Rattle.deadpool_desk.specs.Held.{held_if_served, held_if_entered, held_if_asked, held_if_asked_again, held_if_created, held_if_discarded, held_as};
+ghost use Rattle.deadpool_desk.specs.declared.desk.Holding.{Holding};
+ghost use Rattle.deadpool_desk.specs.Retained.{Retained};
+ghost use Rattle.deadpool_desk.specs.declared.retain.Retainer.{Ghosts as RetainerOf};
+ghost use Rattle.deadpool_desk.specs.declared.slot.Slot.{Slot};
+ghost use Rattle.deadpool_desk.specs.declared.desk.AgainReply.{AgainReply};
+ghost use Rattle.deadpool_desk.specs.declared.desk.AskReply.{AskReply};
+ghost use Rattle.deadpool_desk.specs.declared.desk.BackReply.{BackReply};
+ghost use Rattle.deadpool_desk.specs.declared.desk.CreatedReply.{CreatedReply};
+ghost use Rattle.deadpool_desk.specs.declared.desk.EnterReply.{EnterReply};
+ghost use Rattle.deadpool_parts.specs.declared.replies.HandleReply.{HandleReply};
+ghost use Rattle.deadpool_desk.specs.declared.desk.Held.{Held};
+ghost use Rattle.deadpool_parts.specs.declared.replies.StepReply.{StepReply};
+ghost use Rattle.deadpool_desk.specs.declared.desk.TakeReply.{TakeReply};
+
+use crate::gate::Ticket;
+use crate::{HandleReply, RetainResult, Retainer, Slot, Status, StepReply};
+use std::alloc::AllocError;
+
+/// How a get that holds a place is served.
+#[derive(Debug, Drop, PartialEq)]
+pub enum Serving<O> {
+    /// An idle object, and how many more this poll may take.
+    Object(O, usize),
+    /// A creation has begun, and is counted.
+    Create,
+    /// Objects are idle, but this poll may take no more. The get keeps its place.
+    Going,
+    /// No object number is left. The get has no place any more.
+    Exhausted,
+}
+
+/// The reply to a new get.
+#[derive(Debug, Drop, PartialEq)]
+pub enum EnterReply<O> {
+    Served(Serving<O>),
+    Closed,
+    /// No place is free, and the get does not wait.
+    Full,
+    /// The get waits, under this ticket.
+    Waiting(Ticket),
+    /// The entry in the queue found no memory.
+    OutOfMemory,
+}
+
+/// The reply to a get in the queue.
+#[derive(Debug, Drop, PartialEq)]
+pub enum AskReply<O> {
+    Served(Serving<O>),
+    Closed,
+    /// The get has waited long enough, and left the queue.
+    Expired,
+    Waiting,
+    Unknown,
+}
+
+/// The reply to a get that holds a place and goes on.
+#[derive(Debug, Drop, PartialEq)]
+pub enum AgainReply<O> {
+    Served(Serving<O>),
+    Unknown,
+}
+
+/// The reply to a creation that ended well.
+#[derive(Clone, Copy, Debug, PartialEq, Eq)]
+pub enum CreatedReply {
+    /// The new object has this number.
+    Created(usize),
+    Unknown,
+}
+
+/// What becomes of an object that comes back.
+#[derive(Debug, Drop, PartialEq)]
+pub enum BackReply<O> {
+    /// The pool keeps it.
+    Kept,
+    /// The pool has too many: it is given up and has to be detached.
+    Detach(O),
+    /// The pool has no handle left, and no use for it.
+    Dropped(O),
+    Unknown(O),
+}
+
+// Each of these is moved at a step.
+const _: () = prove!(size_of::<EnterReply<Slot<u64>>>() <= 128);
+
+const _: () = prove!(size_of::<AskReply<Slot<u64>>>() <= 128);
+
+const _: () = prove!(size_of::<AgainReply<Slot<u64>>>() <= 128);
+
+const _: () = prove!(size_of::<BackReply<Slot<u64>>>() <= 128);
+
+/// The reply to an object that leaves the pool for good.
+#[derive(Clone, Copy, Debug, PartialEq, Eq)]
+pub enum TakeReply {
+    /// It has left.
+    Taken {
+        /// Whether it has to be detached: the pool has a handle left.
+        detach: bool,
+    },
+    Unknown,
+}
+
+/// What a get that is cancelled holds.
+#[derive(Clone, Copy, Debug, PartialEq, Eq)]
+pub enum Held {
+    /// An entry in the queue.
+    Ticket(Ticket),
+    /// A place, and nothing else.
+    Place,
+    /// A creation under way.
+    Creation,
+    /// An object under preparation.
+    Object,
+}
+
+/// What a get holds at its desk.
+#[derive(Clone, Copy, Debug, PartialEq, Eq)]
+pub enum Holding {
+    /// Nothing, or an entry in the queue.
+    Nothing,
+    /// A place, and nothing else.
+    Place,
+    /// A creation under way.
+    Creation,
+    /// An object.
+    Object,
+}
+
+impl Held {
+    /// What a get holds that gives this back.
+    pub fn holding(&self) -> Holding
+        ensures { result ≡ held_as self.now }
+    {
+        match self {
+            Held::Ticket(_) => Holding::Nothing,
+            Held::Place => Holding::Place,
+            Held::Creation => Holding::Creation,
+            Held::Object => Holding::Object,
+        }
+    }
+}
+
+impl<T> Serving<T> {
+    /// What a get holds that is served so.
+    pub fn holding(&self) -> Holding
+        ensures { result ≡ held_if_served self.now }
+    {
+        match self {
+            Serving::Object(_, _) => Holding::Object,
+            Serving::Create => Holding::Creation,
+            Serving::Going => Holding::Place,
+            Serving::Exhausted => Holding::Nothing,
+        }
+    }
+}
+
+impl<T> EnterReply<T> {
+    /// What a new get holds after this reply.
+    pub fn holding(&self) -> Holding
+        ensures { result ≡ held_if_entered self.now }
+    {
+        match self {
+            EnterReply::Served(serving) => serving.holding(),
+            _ => Holding::Nothing,
+        }
+    }
+}
+
+impl<T> AskReply<T> {
+    /// What a queued get holds after this reply.
+    pub fn holding(&self) -> Holding
+        ensures { result ≡ held_if_asked self.now }
+    {
+        match self {
+            AskReply::Served(serving) => serving.holding(),
+            _ => Holding::Nothing,
+        }
+    }
+}
+
+impl<T> AgainReply<T> {
+    /// What a get that goes on holds after this reply.
+    pub fn holding(&self) -> Holding
+        ensures { result ≡ held_if_asked_again self.now }
+    {
+        match self {
+            AgainReply::Served(serving) => serving.holding(),
+            AgainReply::Unknown => Holding::Nothing,
+        }
+    }
+}
+
+/// The steps of a pool. An implementation states by its relations which replies each may give.
+pub trait Desk<T> {
+    // What a get holds at the desk, as far as the desk keeps it. By default it keeps nothing of it.
+    ghost holds: { Self → Holding → Type 0 } = { λ _ _. ⊤ };
+
+    // Each holds of a step's reply, with the desks before and after it.
+    ghost enters: { Self → Bool → EnterReply (Slot T) → Self → Type 0 };
+
+    ghost asks: { Self → ℕ → Bool → AskReply (Slot T) → Self → Type 0 };
+
+    ghost asks_again: { Self → Option ℕ → AgainReply (Slot T) → Self → Type 0 };
+
+    ghost discards: { Self → StepReply → Self → Type 0 };
+
+    ghost creates: { Self → CreatedReply → Self → Type 0 };
+
+    ghost fails: { Self → StepReply → Self → Type 0 };
+
+    ghost refuses: { Self → StepReply → Self → Type 0 };
+
+    ghost takes_back: { Self → Slot T → BackReply (Slot T) → Self → Type 0 };
+
+    ghost cancels: { Self → Held → StepReply → Self → Type 0 };
+
+    ghost stands: { Self → Status → Self → Type 0 };
+
+    ghost takes: { Self → TakeReply → Self → Type 0 };
+
+    ghost resizes: { Self → ℕ → Result (Unit {0}) AllocError → Self → Type 0 };
+
+    // This holds of the retainers before and after the step too.
+    ghost retains: { (R : Type 0) → RetainerOf R T → Self → R → Result (Retained T) AllocError → Self → R → Type 0 };
+
+    ghost closes: { Self → Self → Type 0 };
+
+    ghost clones: { Self → HandleReply → Self → Type 0 };
+
+    ghost drops_handle: { Self → HandleReply → Self → Type 0 };
+
+    ghost upgrades: { Self → Bool → Self → Type 0 };
+
+    /// A new get asks for a place, and joins the queue where none is free and `wait` says so.
+    fn enter(&mut self, wait: bool) -> EnterReply<Slot<T>>
+        requires { holds self.old Holding.Nothing }
+        ensures entered { enters self.old wait result self.new }
+        ensures holds { holds self.new (held_if_entered result) };
+
+    /// A get in the queue asks for its place. `expired` says that it has waited long enough.
+    fn ask(&mut self, ticket: Ticket, expired: bool) -> AskReply<Slot<T>>
+        requires { holds self.old Holding.Nothing }
+        ensures asked { asks self.old ticket expired result self.new }
+        ensures holds { holds self.new (held_if_asked result) };
+
+    /// A get that holds a place is served. It may take so many idle objects; none set is as many as are idle.
+    fn again(&mut self, allowance: Option<usize>) -> AgainReply<Slot<T>>
+        requires { holds self.old Holding.Place }
+        ensures served { asks_again self.old allowance result self.new }
+        ensures allowed { IsWithinAllowance allowance result }
+        ensures holds { holds self.new (held_if_asked_again result) };
+
+    /// An idle object under preparation is given up, and its get keeps the place.
+    fn discard(&mut self) -> StepReply
+        requires { holds self.old Holding.Object }
+        ensures discarded { discards self.old result self.new }
+        ensures holds { holds self.new (held_if_discarded result) };
+
+    /// A creation under way has ended well.
+    fn created(&mut self) -> CreatedReply
+        requires { holds self.old Holding.Creation }
+        ensures created { creates self.old result self.new }
+        ensures holds { holds self.new (held_if_created result) };
+
+    /// A creation under way has ended without an object.
+    fn failed(&mut self) -> StepReply
+        requires { holds self.old Holding.Creation }
+        ensures failed { fails self.old result self.new }
+        ensures holds { holds self.new Holding.Nothing };
+
+    /// A new object is given up.
+    fn refused(&mut self) -> StepReply
+        requires { holds self.old Holding.Object }
+        ensures refused { refuses self.old result self.new }
+        ensures holds { holds self.new Holding.Nothing };
+
+    /// An object comes back.
+    fn back(&mut self, slot: Slot<T>) -> BackReply<Slot<T>>
+        requires { holds self.old Holding.Object }
+        ensures taken_back { takes_back self.old slot result self.new }
+        ensures holds { holds self.new Holding.Nothing };
+
+    /// A get gives back what it holds.
+    fn cancel(&mut self, held: Held) -> StepReply
+        requires { holds self.old (held_as held) }
+        ensures cancelled { cancels self.old held result self.new }
+        ensures holds { holds self.new Holding.Nothing };
+
+    /// How the pool stands.
+    fn status(&mut self) -> Status
+        ensures { stands self.old result self.new };
+
+    /// An object that is out leaves the pool for good, and its place is free.
+    fn take(&mut self) -> TakeReply
+        requires { holds self.old Holding.Object }
+        ensures taken { takes self.old result self.new }
+        ensures holds { holds self.new Holding.Nothing };
+
+    /// The pool gets another limit, a number of objects. While it has more objects than that, idle ones are dropped, the
+    /// front one first, without a detach, down to its least number of idle objects, which counts as far as the limit
+    /// allows. A closed pool stays as it is. A limit beyond the room for objects takes memory
+    /// first: where none is found, nothing has changed. The room never shrinks.
+    fn resize(&mut self, limit: usize) -> Result<(), AllocError>
+        ensures { resizes self.old limit result self.new };
+
+    /// Asks about each idle object once, front to back. One that is not kept is given up and detached there and then,
+    /// before the next question. Where no more are idle than the pool's least number, as far as the limit allows, an object
+    /// stays though it is not kept: it is not detached, and counts as retained. The list of the values takes memory first,
+    /// for as many as are idle: where none is found,
+    /// nothing is asked and nothing has changed. With nothing idle it takes none.
+    fn retain<R: Retainer<T>>(&mut self, retainer: &mut R) -> Result<RetainResult<T>, AllocError>
+        requires { R.can_call retainer.old }
+        ensures retained { retains R R.Retainer self.old retainer.old result self.new retainer.new }
+        ensures can_call { R.can_call retainer.new };
+
+    /// The pool closes for good: its limit is 0, and the idle objects are dropped without a detach.
+    fn close(&mut self)
+        ensures { closes self.old self.new };
+
+    /// There is one more handle. A count that has reached the greatest `u64` stays there.
+    fn clone_handle(&mut self) -> HandleReply
+        ensures { clones self.old result self.new };
+
+    /// There is one handle less. The last one takes the idle objects with it, which are dropped without a detach. A count
+    /// that has reached the greatest `u64` stays there.
+    fn drop_handle(&mut self) -> HandleReply
+        ensures { drops_handle self.old result self.new };
+
+    /// There is one more handle, for an owner that has none: true exactly where one is left. Otherwise nothing changes.
+    fn upgrade(&mut self) -> bool
+        ensures { upgrades self.old result self.new };
+}

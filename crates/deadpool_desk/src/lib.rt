@@ -1,0 +1,26 @@
+//! The state of a managed pool on one thread, and its steps.
+//!
+//! A pool is asked for one step at a time (`desk`). `settled` is such a desk: whole steps over `state`. Nothing here asks
+//! a manager or a hook; a retain asks its retainer (`retain`, `review`).
+#![tactic(auto)]
+
+mod desk;
+mod metrics;
+mod object_id;
+mod retain;
+mod review;
+mod settled;
+mod slot;
+mod state;
+
+pub use deadpool_parts::config::QueueMode;
+pub use deadpool_parts::{HandleReply, Moment, Status, StepReply, gate};
+pub use desk::{
+    AgainReply, AskReply, BackReply, CreatedReply, Desk, EnterReply, Held, Holding, Serving,
+    TakeReply,
+};
+pub use metrics::Metrics;
+pub use object_id::ObjectId;
+pub use retain::{Removal, Removals, RetainResult, Retainer};
+pub use settled::Core;
+pub use slot::Slot;

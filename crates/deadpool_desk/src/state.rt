@@ -1,0 +1,427 @@
+//! The state of a managed pool on one thread: its queue, its idle objects, and three counts.
+ghost use Rattle.std.specs.Prelude.{◌≡◌, ◌+◌, ◌-◌, ◌≤◌, ◌&&◌, not, nat_lt, nat_le, is_some, [], IfOk};
+ghost use Rattle.deadpool_desk.specs.Allowance.{IsWithinAllowance};
+ghost use Rattle.deadpool_desk.specs.DeskState.{least_idle, new_core, places, settled, next_idle, other_idle};
+ghost use Rattle.deadpool_desk.specs.DeskSteps.{Serves};
+ghost use Rattle.deadpool_desk.specs.CoreSteps.{Enters, Asks, AsksAgain, Discards, Creates, Fails, Refuses, TakesBack, Cancels, Takes, Resizes, Stands, Retains, RetainsNoting, Closes, Clones, DropsHandle, Upgrades, Tells, due_now};
+
+use crate::desk::{
+    AgainReply, AskReply, BackReply, CreatedReply, EnterReply, Held, Serving, TakeReply,
+};
+use crate::gate::{Ask, Entry, Gate, Ticket, Withdrawn};
+use crate::review::review;
+use crate::{HandleReply, QueueMode, Removals, RetainResult, Retainer, Slot, Status, StepReply};
+use circular_buffer::HeapCircularBuffer;
+use std::alloc::{AllocError, Global};
+use std::marker::Model;
+
+/// A pool's state, which need not be settled in the middle of a step. `Core` makes whole steps over it.
+#[derive(Drop)]
+pub struct PoolState<T> {
+    gate: Gate,
+    // The idle objects, front to back.
+    ring: HeapCircularBuffer<Slot<T>>,
+    limit: usize,
+    mode: QueueMode,
+    min_idle: usize,
+    next: usize,
+    handles: u64,
+    // Places of gets that hold nothing else.
+    going: usize,
+    // Places of gets with a creation under way.
+    creations: usize,
+    // Places of objects: those under preparation and those out.
+    outside: usize,
+}
+
+impl<T> Model for PoolState<T> {
+    ghost use Rattle.deadpool_desk.specs.CoreState.{CoreState};
+
+    ghost Value = { CoreState T };
+
+    ghost use Rattle.deadpool_desk.specs.CoreFields.{core_of, IsSound};
+
+    ghost view = { core_of };
+
+    ghost invariant = { IsSound };
+}
+
+impl<T: Drop> PoolState<T> {
+    pub fn new(
+        alloc: Global,
+        limit: usize,
+        mode: QueueMode,
+        first_number: usize,
+        min_idle: usize,
+    ) -> Result<PoolState<T>, AllocError>
+        ensures desk { IfOk result (λ core. core.desk ≡ new_core limit mode first_number min_idle) }
+        ensures untold { IfOk result (λ core. core.untold ≡ []) }
+    {
+        let ring = HeapCircularBuffer::with_capacity(alloc, limit.max(1))?;
+        Ok(PoolState {
+            gate: Gate::new(alloc),
+            ring,
+            limit,
+            mode,
+            min_idle,
+            next: first_number,
+            handles: 1,
+            going: 0,
+            creations: 0,
+            outside: 0,
+        })
+    }
+
+    pub fn has_handle(&self) -> bool
+        ensures { result ≡ nat_lt 0 self.now.desk.handles }
+    {
+        self.handles > 0
+    }
+
+    pub fn retain_noting<R: Retainer<T>>(
+        &mut self,
+        retainer: &mut R,
+    ) -> Result<(RetainResult<T>, Removals), AllocError>
+        requires { R.can_call retainer.old }
+        ensures retained { RetainsNoting R.Retainer self.old retainer.old result self.new retainer.new }
+        ensures can_call { R.can_call retainer.new }
+    {
+        let least = self.least_idle();
+        let (removed, noted) = review(&mut self.ring, least, retainer)?;
+        let result = RetainResult {
+            retained: self.ring.len(),
+            removed,
+        };
+        Ok((result, Removals::new(noted)))
+    }
+
+    pub fn is_closed(&self) -> bool
+        ensures { result ≡ not self.now.desk.is_open }
+    {
+        self.gate.is_closed()
+    }
+
+    pub fn take_wake(&mut self) -> Option<Ticket>
+        ensures { Tells self.old result self.new }
+    {
+        self.gate.take_wake()
+    }
+
+    pub fn is_wake_due(&self) -> bool
+        ensures { result ≡ is_some (due_now self.now) }
+    {
+        self.gate.is_wake_due()
+    }
+
+    pub fn would_queue(&self) -> bool
+        ensures { result ≡ (self.now.desk.is_open && nat_le self.now.desk.limit (places self.now.desk)) }
+    {
+        !self.gate.is_closed() && self.room() == 0
+    }
+
+    pub fn next_ticket(&self) -> usize
+        ensures { result ≡ self.now.next_ticket }
+    {
+        self.gate.next_number()
+    }
+
+    // How many more places there are than are held.
+    fn room(&self) -> usize
+        ensures { result ≡ self.now.desk.limit - places self.now.desk }
+    {
+        let places = self.gate.granted() + self.going + self.creations + self.outside;
+        self.limit.saturating_sub(places)
+    }
+
+    // How many objects stay idle, if as many are.
+    fn least_idle(&self) -> usize
+        ensures { result ≡ least_idle self.now.desk.limit self.now.desk }
+    {
+        self.min_idle.min(self.limit)
+    }
+
+    // Grants the free places to the earliest that wait.
+    fn settle(&mut self)
+        ensures desk { self.new.desk ≡ settled self.old.desk }
+        ensures untold { self.new.untold ≡ self.old.untold }
+    {
+        if self.gate.waiting() > 0 {
+            let room = self.room();
+            self.gate.settle(room);
+        }
+    }
+
+    // The next idle object leaves the ring.
+    fn take_idle(&mut self) -> Option<Slot<T>>
+        ensures slot { result ≡ next_idle self.old.desk.mode self.old.desk.idle }
+        ensures others { self.new.desk ≡ record self.old.desk { idle = other_idle self.old.desk.mode self.old.desk.idle } }
+        ensures untold { self.new.untold ≡ self.old.untold }
+    {
+        match self.mode {
+            QueueMode::Fifo => self.ring.pop_front(),
+            QueueMode::Lifo => self.ring.pop_back(),
+        }
+    }
+
+    // Serves a get whose place is in no count.
+    fn serve(&mut self, allowance: Option<usize>) -> Serving<Slot<T>>
+        requires { places self.old.desk + 1 ≤ self.old.desk.reserve }
+        ensures served { Serves self.old.desk allowance result self.new.desk }
+        ensures untold { self.new.untold ≡ self.old.untold }
+    {
+        let allowed = allowance.unwrap_or(self.ring.len());
+        if allowed == 0 && !self.ring.is_empty() {
+            self.going += 1;
+            return Serving::Going;
+        }
+        match self.take_idle() {
+            Some(slot) => {
+                self.outside += 1;
+                Serving::Object(slot, allowed - 1)
+            }
+            None if self.next + self.creations < usize::MAX => {
+                self.creations += 1;
+                Serving::Create
+            }
+            None => {
+                self.settle();
+                Serving::Exhausted
+            }
+        }
+    }
+
+    pub fn enter(&mut self, wait: bool) -> EnterReply<Slot<T>>
+        ensures { Enters self.old wait result self.new }
+    {
+        let room = self.room();
+        if room > 0 && !self.gate.is_closed() {
+            return EnterReply::Served(self.serve(None));
+        }
+        match self.gate.enter(room, wait) {
+            Entry::Granted => EnterReply::Served(self.serve(None)),
+            Entry::Closed => EnterReply::Closed,
+            Entry::Full => EnterReply::Full,
+            Entry::Waiting(ticket) => EnterReply::Waiting(ticket),
+            Entry::OutOfMemory => EnterReply::OutOfMemory,
+        }
+    }
+
+    pub fn ask(&mut self, ticket: Ticket, expired: bool) -> AskReply<Slot<T>>
+        ensures { Asks self.old ticket expired result self.new }
+    {
+        match self.gate.ask(ticket) {
+            Ask::Granted => AskReply::Served(self.serve(None)),
+            Ask::Closed => AskReply::Closed,
+            Ask::Unknown => AskReply::Unknown,
+            Ask::Waiting => {
+                if expired {
+                    self.gate.withdraw(ticket);
+                    AskReply::Expired
+                } else {
+                    AskReply::Waiting
+                }
+            }
+        }
+    }
+
+    pub fn again(&mut self, allowance: Option<usize>) -> AgainReply<Slot<T>>
+        ensures served { AsksAgain self.old allowance result self.new }
+        ensures allowed { IsWithinAllowance allowance result }
+    {
+        if self.going == 0 {
+            return AgainReply::Unknown;
+        }
+        self.going -= 1;
+        AgainReply::Served(self.serve(allowance))
+    }
+
+    pub fn discard(&mut self) -> StepReply
+        ensures { Discards self.old result self.new }
+    {
+        if self.outside == 0 {
+            return StepReply::Unknown;
+        }
+        self.outside -= 1;
+        self.going += 1;
+        StepReply::Done
+    }
+
+    pub fn created(&mut self) -> CreatedReply
+        ensures { Creates self.old result self.new }
+    {
+        if self.creations == 0 {
+            return CreatedReply::Unknown;
+        }
+        let number = self.next;
+        self.creations -= 1;
+        self.next += 1;
+        self.outside += 1;
+        CreatedReply::Created(number)
+    }
+
+    pub fn failed(&mut self) -> StepReply
+        ensures { Fails self.old result self.new }
+    {
+        if self.creations == 0 {
+            return StepReply::Unknown;
+        }
+        self.creations -= 1;
+        self.settle();
+        StepReply::Done
+    }
+
+    pub fn refused(&mut self) -> StepReply
+        ensures { Refuses self.old result self.new }
+    {
+        if self.outside == 0 {
+            return StepReply::Unknown;
+        }
+        self.outside -= 1;
+        self.settle();
+        StepReply::Done
+    }
+
+    pub fn back(&mut self, slot: Slot<T>) -> BackReply<Slot<T>>
+        ensures { TakesBack self.old slot result self.new }
+    {
+        if self.outside == 0 {
+            return BackReply::Unknown(slot);
+        }
+        let size = self.ring.len() + self.outside;
+        self.outside -= 1;
+        if self.handles == 0 {
+            self.settle();
+            return BackReply::Dropped(slot);
+        }
+        if size > self.limit {
+            self.settle();
+            return BackReply::Detach(slot);
+        }
+        self.ring.push_back(slot);
+        self.settle();
+        BackReply::Kept
+    }
+
+    pub fn cancel(&mut self, held: Held) -> StepReply
+        ensures { Cancels self.old held result self.new }
+    {
+        match held {
+            Held::Ticket(ticket) => {
+                if let Withdrawn::Unknown = self.gate.withdraw(ticket) {
+                    return StepReply::Unknown;
+                }
+                self.settle();
+                StepReply::Done
+            }
+            Held::Place => {
+                if self.going == 0 {
+                    return StepReply::Unknown;
+                }
+                self.going -= 1;
+                self.settle();
+                StepReply::Done
+            }
+            Held::Creation => self.failed(),
+            Held::Object => self.refused(),
+        }
+    }
+
+    pub fn status(&mut self) -> Status
+        ensures { Stands self.old result self.new }
+    {
+        let idle = self.ring.len();
+        let pending = self.gate.waiting() + self.gate.granted() + self.going + self.creations;
+        Status {
+            max_size: self.limit,
+            size: idle + self.outside,
+            available: idle.saturating_sub(pending),
+            waiting: pending.saturating_sub(idle),
+        }
+    }
+
+    pub fn take(&mut self) -> TakeReply
+        ensures { Takes self.old result self.new }
+    {
+        if self.outside == 0 {
+            return TakeReply::Unknown;
+        }
+        let detach = self.handles > 0;
+        self.outside -= 1;
+        self.settle();
+        TakeReply::Taken { detach }
+    }
+
+    pub fn resize(&mut self, limit: usize) -> Result<(), AllocError>
+        ensures { Resizes self.old limit result self.new }
+    {
+        if self.gate.is_closed() {
+            return Ok(());
+        }
+        if limit > self.ring.capacity() {
+            self.ring.resize(limit)?;
+        }
+        self.limit = limit;
+        let idle = self.ring.len();
+        let excess = (idle + self.outside).saturating_sub(limit);
+        let spare = idle.saturating_sub(self.least_idle());
+        self.ring.truncate_front(idle - excess.min(spare));
+        self.settle();
+        Ok(())
+    }
+
+    pub fn retain<R: Retainer<T>>(
+        &mut self,
+        retainer: &mut R,
+    ) -> Result<RetainResult<T>, AllocError>
+        requires { R.can_call retainer.old }
+        ensures retained { Retains R.Retainer self.old retainer.old result self.new retainer.new }
+        ensures can_call { R.can_call retainer.new }
+    {
+        match self.retain_noting(retainer) {
+            Ok((result, _)) => Ok(result),
+            Err(e) => Err(e),
+        }
+    }
+
+    pub fn close(&mut self)
+        ensures { Closes self.old self.new }
+    {
+        self.limit = 0;
+        self.ring.clear();
+        self.gate.close();
+    }
+
+    pub fn clone_handle(&mut self) -> HandleReply
+        ensures { Clones self.old result self.new }
+    {
+        if self.handles == 0 {
+            return HandleReply::NoHandle;
+        }
+        self.handles = self.handles.saturating_add(1);
+        HandleReply::Done
+    }
+
+    pub fn drop_handle(&mut self) -> HandleReply
+        ensures { DropsHandle self.old result self.new }
+    {
+        if self.handles == 0 {
+            return HandleReply::NoHandle;
+        }
+        if self.handles < u64::MAX {
+            self.handles -= 1;
+        }
+        if self.handles == 0 {
+            self.ring.clear();
+        }
+        HandleReply::Done
+    }
+
+    pub fn upgrade(&mut self) -> bool
+        ensures { Upgrades self.old result self.new }
+    {
+        match self.clone_handle() {
+            HandleReply::Done => true,
+            HandleReply::NoHandle => false,
+        }
+    }
+}
