@@ -9,9 +9,8 @@ use Rattle.deadpool_parts.proofs.GateAnswers.{grant_count-length}
 use Rattle.deadpool_parts.proofs.GateTickets.{granted_tickets-arrived, waiting_tickets-arrived, untold_tickets-arrived, granted_tickets-without_waiter, waiting_tickets-without_waiter, untold_tickets-without_waiter, length-both_tickets}
 use Rattle.deadpool_parts.proofs.Numbers.{without_number-shorter, without_number-fewer}
 use Rattle.deadpool_unmanaged.specs.CoreFields.{queue_of, state_of, IsSound}
-use Rattle.deadpool_unmanaged.specs.State.{IsFull, free_objects, free_room, settled}
+use Rattle.deadpool_unmanaged.specs.State.{IsFull, free_objects, free_room, settled, last_idle}
 use Rattle.deadpool_unmanaged.specs.StateSteps.{without_get, without_add, with_get, with_add}
-use Rattle.deadpool_unmanaged.specs.Steps.{last_idle}
 use Rattle.deadpool_unmanaged.specs.declared.state.PoolState.TheInside.{Inside}
 
 -- the queue when a waiter leaves

@@ -7,8 +7,7 @@ use Rattle.deadpool_parts.specs.Queue.{Queue, members, is_listed, joined, withou
 use Rattle.deadpool_parts.proofs.Numbers.{has_number-append, without_number-shorter, without_number-fewer}
 use Rattle.deadpool_parts.proofs.Orders.{IsOnce-without, IsOnce-push}
 use Rattle.deadpool_unmanaged.specs.Kept.{IsKept}
-use Rattle.deadpool_unmanaged.specs.State.{State, size, free_room, settled}
-use Rattle.deadpool_unmanaged.specs.Steps.{last_idle}
+use Rattle.deadpool_unmanaged.specs.State.{State, size, free_room, settled, last_idle}
 use Rattle.deadpool_unmanaged.specs.StateSteps.{GetEnters, GetAsks, GetCancels, AddEnters, AddAsks, AddCancels, handed, stored, without_get, without_add}
 use Rattle.deadpool_unmanaged.specs.declared.steps.GetEnterReply.{GetEnterReply}
 use Rattle.deadpool_unmanaged.specs.declared.steps.GetEnterReply.TheVariants as get
@@ -18,8 +17,7 @@ use Rattle.deadpool_unmanaged.specs.declared.steps.AddEnterReply.{AddEnterReply}
 use Rattle.deadpool_unmanaged.specs.declared.steps.AddEnterReply.TheVariants as add
 use Rattle.deadpool_unmanaged.specs.declared.steps.AddAskReply.{AddAskReply}
 use Rattle.deadpool_unmanaged.specs.declared.steps.AddAskReply.TheVariants as add_ask
-use Rattle.deadpool_unmanaged.proofs.Lawful.{nobody_left, served_within}
-use Rattle.deadpool_unmanaged.proofs.Lined.{members-without, members-joined, members-served}
+use Rattle.deadpool_unmanaged.proofs.Queues.{nobody_left, served_within, members-without, members-joined, members-served}
 
 -- no ticket stands twice in a queue that one has left or joined, or that was served
 once-without : (t : ℕ) (q : Queue) → IsOnce (members q) → IsOnce (members (without t q))

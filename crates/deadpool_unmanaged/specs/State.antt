@@ -1,5 +1,5 @@
 -- The state of an unmanaged pool without names: tickets in its queues, and a count of the objects that are out.
-use Rattle.std.specs.Prelude.{ℕ, ◌+◌, ◌-◌, ◌≤◌, Bool, true, ◌||◌, ◌&&◌, ◌==◌, List, [], length, Option, is_some}
+use Rattle.std.specs.Prelude.{ℕ, ◌+◌, ◌-◌, ◌≤◌, Bool, true, ◌||◌, ◌&&◌, ◌==◌, List, [], length, take, slice_get, Option, is_some}
 use Rattle.deadpool_parts.specs.Waking.{next_due}
 use Rattle.deadpool_parts.specs.declared.status.Status.{Status}
 use Rattle.deadpool_parts.specs.Queue.{Queue, nobody, members, served}
@@ -45,6 +45,13 @@ module _ {T : Type 0} where
     untold_gets = [];
     untold_adds = [];
   }
+
+  -- the object that goes out next, and the others
+  abbrev pub last_idle : List T → Option T
+  last_idle idle = slice_get idle (length idle - 1)
+
+  abbrev pub other_idle : List T → List T
+  other_idle idle = take (length idle - 1) idle
 
   abbrev pub size : State T → ℕ
   size d = length d.idle + d.outside

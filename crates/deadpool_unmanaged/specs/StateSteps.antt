@@ -3,8 +3,7 @@ use Rattle.std.specs.Prelude.{◌≡◌, ℕ, ◌+◌, ◌-◌, ◌<◌, min, Bo
 use Rattle.deadpool_parts.specs.Numbers.{has_number, without_number, most_handles}
 use Rattle.deadpool_parts.specs.Queue.{is_listed, joined, without}
 use Rattle.deadpool_parts.specs.Waking.{still_untold}
-use Rattle.deadpool_unmanaged.specs.State.{State, free_objects, free_room, settled, due_get, due_add}
-use Rattle.deadpool_unmanaged.specs.Steps.{last_idle, other_idle}
+use Rattle.deadpool_unmanaged.specs.State.{State, free_objects, free_room, settled, due_get, due_add, last_idle, other_idle}
 use Rattle.deadpool_unmanaged.specs.declared.steps.GetEnterReply.{GetEnterReply}
 use Rattle.deadpool_unmanaged.specs.declared.steps.GetEnterReply.TheVariants as get
 use Rattle.deadpool_unmanaged.specs.declared.steps.GetAskReply.{GetAskReply}

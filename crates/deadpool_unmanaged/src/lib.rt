@@ -6,7 +6,6 @@ mod add;
 mod config;
 mod error;
 mod get;
-pub mod replay;
 mod settled;
 mod state;
 mod steps;

@@ -120,8 +120,8 @@ impl<T: Drop> Core<T> {
         self.state.is_wake_due()
     }
 
-    // Whether a pool handle is left.
-    pub(crate) fn has_handle(&self) -> bool
+    /// Whether a pool handle is left.
+    pub fn has_handle(&self) -> bool
         ensures { result ≡ nat_lt 0 self.now.pool.handles }
     {
         self.state.has_handle()

@@ -1,8 +1,7 @@
 //! The state of an unmanaged pool on one thread: a line for objects, a line for room, and the idle objects.
 ghost use Rattle.std.specs.Prelude.{◌≡◌, ℕ, ◌<◌, ◌≤◌, nat_lt, not, [], length, vec_capacity, IfOk, IfSome, IfNone};
-ghost use Rattle.deadpool_unmanaged.specs.State.{IsFull, has_due, free_objects, free_room, get_would_queue, add_would_queue, opened, settled, status_of};
+ghost use Rattle.deadpool_unmanaged.specs.State.{IsFull, has_due, free_objects, free_room, get_would_queue, add_would_queue, opened, settled, status_of, last_idle};
 ghost use Rattle.deadpool_unmanaged.specs.StateSteps.{GetEnters, GetAsks, GetCancels, AddEnters, AddAsks, AddCancels, TakesBack, Takes, TakesGetWake, TakesAddWake, Clones, DropsHandle, Upgrades, handed, stored, closed_pool};
-ghost use Rattle.deadpool_unmanaged.specs.Steps.{last_idle};
 
 use crate::steps::{AddAskReply, AddEnterReply, BackReply, GetAskReply, GetEnterReply, TakeReply};
 use crate::{HandleReply, Status, StepReply};

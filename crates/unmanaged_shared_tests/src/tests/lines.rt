@@ -1,10 +1,10 @@
 //! Moves and replies as the lines of a script.
-use deadpool_unmanaged::replay::{Move, Reply};
 use deadpool_unmanaged::{Moment, Runtime, Status};
 use std::alloc::{AllocError, Global};
 use std::str::Split;
 use std::test::Fail;
 use std::time::Duration;
+use unmanaged_replay::{Move, Reply};
 
 /// The words of a line.
 type Words<'a> = Split<'a, char>;

@@ -2,7 +2,6 @@
 use super::Host;
 use super::clock::Watch;
 use super::drops::{Drops, Tracked};
-use deadpool_unmanaged::replay::{Move, Reply};
 use deadpool_unmanaged::{Moment, PoolConfig, PoolError};
 use deadpool_unmanaged_shared::{Add, Get, Object, Pool};
 use futures::task::Poll;
@@ -10,6 +9,7 @@ use futures::test::MockTask;
 use std::alloc::AllocError;
 use std::test::Fail;
 use std::time::Duration;
+use unmanaged_replay::{Move, Reply};
 
 // An object with its number.
 #[derive(Drop)]

@@ -5,8 +5,8 @@ use super::player::Player;
 use super::scripts::{SCRIPTS, Script};
 use super::{Host, expect};
 use deadpool_unmanaged::PoolConfig;
-use deadpool_unmanaged::replay::Reply;
 use std::test::Fail;
+use unmanaged_replay::Reply;
 
 // A pool as the first line of a script opens it.
 fn opened<R: Host>(rt: R, line: &str, drops: &Drops) -> Result<Player<R>, Fail> {

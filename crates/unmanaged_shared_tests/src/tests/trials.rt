@@ -4,11 +4,11 @@ use super::draw::Draw;
 use super::drops::Drops;
 use super::lines::line_of;
 use super::player::Player;
-use deadpool_unmanaged::replay::{Move, Reply, Trial};
 use deadpool_unmanaged::{Moment, PoolConfig, Runtime};
 use std::process::Abort;
 use std::test::Fail;
 use std::time::Duration;
+use unmanaged_replay::{Move, Reply, Trial};
 
 const SCRIPTS: u64 = 1_000;
 

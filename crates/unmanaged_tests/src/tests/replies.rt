@@ -1,8 +1,8 @@
 //! Lists of moves, and what a trial says to each.
 use super::expected::expect;
-use deadpool_unmanaged::replay::{Move, Reply, Trial};
 use deadpool_unmanaged::{PoolError, Status};
 use std::test::Fail;
+use unmanaged_replay::{Move, Reply, Trial};
 
 /// What a reply says, with the number or the value in it, or 0 if it has none.
 pub type Said = (&'static str, u64);

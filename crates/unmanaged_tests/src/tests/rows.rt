@@ -1,9 +1,9 @@
 //! Lists of several moves, one after another on one trial.
 use super::replies::plays;
 use deadpool_unmanaged::Moment;
-use deadpool_unmanaged::replay::{Move, Trial};
 use std::alloc::Global;
 use std::test::Fail;
+use unmanaged_replay::{Move, Trial};
 
 // A list with which the pool is full, and an add waits.
 fn fills(trial: &mut Trial<u64>, alloc: Global) -> Result<(), Fail> {

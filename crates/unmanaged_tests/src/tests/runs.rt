@@ -1,10 +1,10 @@
 //! Runs of moves.
 use super::expected::expect;
 use super::replies::{plays, stands_at};
-use deadpool_unmanaged::replay::{Move, Trial};
 use deadpool_unmanaged::{Moment, Status};
 use std::alloc::Global;
 use std::test::Fail;
+use unmanaged_replay::{Move, Trial};
 
 #[test]
 fn a_granted_add_is_not_passed(rt: HostRuntime) -> Result<(), Fail> {

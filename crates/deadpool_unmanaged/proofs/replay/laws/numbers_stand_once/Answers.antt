@@ -1,6 +1,0 @@
-use Rattle.deadpool_unmanaged.proofs.Well.{each_state}
-use Rattle.deadpool_unmanaged.specs.RunLaws.{IsNumbered}
-use Rattle.deadpool_unmanaged.proofs.replay.laws.numbers_stand_once.Goals as goal
-
-pub returns : goal.returns
-returns g c = each_state IsNumbered (λ p well. well.numbered)

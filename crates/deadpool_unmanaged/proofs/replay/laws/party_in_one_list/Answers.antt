@@ -1,6 +1,0 @@
-use Rattle.deadpool_unmanaged.proofs.Well.{each_state, listed_once}
-use Rattle.deadpool_unmanaged.specs.RunLaws.{IsListedOnce}
-use Rattle.deadpool_unmanaged.proofs.replay.laws.party_in_one_list.Goals as goal
-
-pub returns : goal.returns
-returns g c = each_state IsListedOnce listed_once

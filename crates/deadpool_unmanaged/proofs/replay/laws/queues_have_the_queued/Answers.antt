@@ -1,6 +1,0 @@
-use Rattle.deadpool_unmanaged.proofs.Well.{each_state}
-use Rattle.deadpool_unmanaged.specs.RunLaws.{HasTheQueued}
-use Rattle.deadpool_unmanaged.proofs.replay.laws.queues_have_the_queued.Goals as goal
-
-pub returns : goal.returns
-returns g c = each_state HasTheQueued (λ p well. record { gets = well.gets.marks; adds = well.adds.marks })

@@ -1,0 +1,15 @@
+pub mod AddPolls
+pub mod Copies
+pub mod Follows
+pub mod GetPolls
+pub mod Lawful
+pub mod Lined
+pub mod OtherMoves
+pub mod Parties
+pub mod Passes
+pub mod PassesMoves
+pub mod Polls
+pub mod Runs
+pub mod Settling
+pub mod Visitors
+pub mod Well
