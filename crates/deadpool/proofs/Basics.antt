@@ -1,19 +1,19 @@
 -- Numbers, lists, options and computations: the names that the proofs cite, passed on from one place.
-pub use Rattle.deadpool_parts.proofs.Counts.{one_if, count-push, held-push, count-set, held-set, length-cond}
-pub use Rattle.deadpool_parts.proofs.Lists.{set-same, get-append, get-set_other, get-set_same, none_left, one_less}
+pub use Rattle.deadpool_gate.proofs.Counts.{one_if, count-push, held-push, count-set, held-set, length-cond}
+pub use Rattle.deadpool_gate.proofs.Lists.{set-same, get-append, get-set_other, get-set_same, none_left, one_less}
 pub use Rattle.deadpool_parts.proofs.Numbered.{length-with_numbered, length-without_numbered, none_there}
 pub use Rattle.deadpool_parts.proofs.NumberedCounts.{count-cons, count-append, count-without, count-found, count-cons_option, is_at, count-with}
-pub use Rattle.deadpool_parts.proofs.Numbers.{without_number-same, has_number-append, has_number-without, without_number-append, without_number-shorter}
-pub use Rattle.deadpool_parts.proofs.Orders.{order_same, order_joined, IsOnce-push, IsOnce-without}
-pub use Rattle.deadpool_parts.proofs.Owners.{owned-set, owned-leaves, owned-granting, absent, renamed-set, renamed-leaves, renamed-joins, owned-push, renamed-push, owned-joins, granted-renamed}
+pub use Rattle.deadpool_gate.proofs.Numbers.{without_number-same, has_number-append, has_number-without, without_number-append, without_number-shorter}
+pub use Rattle.deadpool_gate.proofs.Orders.{order_same, order_joined, IsOnce-push, IsOnce-without}
+pub use Rattle.deadpool_gate.proofs.Owners.{owned-set, owned-leaves, owned-granting, absent, renamed-set, renamed-leaves, renamed-joins, owned-push, renamed-push, owned-joins, granted-renamed}
 pub use Rattle.deadpool_parts.proofs.Places.{place_is, found_at_place, place_within, nothing_found}
 pub use Rattle.deadpool_parts.proofs.Programs.{Gives-bind, Always-bind, Always-Gives}
 pub use Rattle.deadpool_parts.specs.Numbered.{count_numbered}
-pub use Rattle.deadpool_parts.specs.Numbers.{has_number, most_handles, without_number, largest_usize}
-pub use Rattle.deadpool_parts.specs.Orders.{IsOnce, KeepsOrder}
-pub use Rattle.deadpool_parts.specs.Owners.{owner, IsOwned}
+pub use Rattle.deadpool_gate.specs.Numbers.{has_number, most_handles, without_number, largest_usize}
+pub use Rattle.deadpool_gate.specs.Orders.{IsOnce, KeepsOrder}
+pub use Rattle.deadpool_gate.specs.Owners.{owner, IsOwned}
 pub use Rattle.deadpool_parts.specs.Program.{Return, ◌>>=◌, Gives, Always, Program, Ask, ask}
-pub use Rattle.deadpool_parts.specs.Queue.{Queue}
+pub use Rattle.deadpool_gate.specs.Queue.{Queue}
 pub use Rattle.deadpool_parts.specs.Runs.{last_of, all_states, Each, Neighbours, Later}
 pub use Rattle.std.proofs.Common.{◌≡◌, ℕ, ◌+◌, ◌-◌, ◌≤◌, List, false, set, refl, ap, ◌∙◌, arith, inl, inr, Option, Some, None, Result, Ok, Err, length, true, [], ◌∷◌, ◌++◌, ◌==◌, nat_le, sym, ◌<◌, Bool, not, min, length-drop, nat_lt, unwrap_or, max, take, drop, length-append, zero, suc, if◌then◌else◌, subst, eq-eqb, eqb, map, cond, append-nil, is_some, ◌&&◌, is_none, option_map, lt-ltb, le-ltb, get_or, ◌≢◌, ◌||◌, append_assoc, ◌⊎◌, length-take, vec_len, vec_capacity, rules}
 pub use Rattle.std.proofs.Math.Bool.{and-true, and-false, or-true, or-false}

@@ -1,8 +1,8 @@
 -- The pool in lists that a core, its gets and the objects out stand for.
 use Rattle.std.specs.Prelude.{ℕ, ◌+◌, ◌≤◌, ◌≡◌, List, length, map, Option, Some, None, Bool, true, false, ◌==◌}
 use Rattle.std.specs.List.{filter, filter_map}
-use Rattle.deadpool_parts.specs.Owners.{owner, IsOwned}
-use Rattle.deadpool_parts.specs.Queue.{Queue}
+use Rattle.deadpool_gate.specs.Owners.{owner, IsOwned}
+use Rattle.deadpool_gate.specs.Queue.{Queue}
 use Rattle.deadpool_parts.specs.declared.moment.Runtime.{Runtime}
 use Rattle.deadpool_parts.specs.declared.config.Timeouts.{Timeouts}
 use Rattle.deadpool_managed.specs.HookLists.{HookLists}

@@ -1,7 +1,7 @@
 -- What is true of every state of every run.
 use Rattle.std.specs.Prelude.{ℕ, ◌≡◌, ◌++◌, List, Bool, true, false, Option, Some, slice_get}
-use Rattle.deadpool_parts.specs.Numbers.{has_number}
-use Rattle.deadpool_parts.specs.Orders.{IsOnce}
+use Rattle.deadpool_gate.specs.Numbers.{has_number}
+use Rattle.deadpool_gate.specs.Orders.{IsOnce}
 use Rattle.deadpool.specs.Pool.{Pool, Party, Standing, queued}
 use Rattle.deadpool.specs.Moves.{NobodyWaits}
 

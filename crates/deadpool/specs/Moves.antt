@@ -1,6 +1,6 @@
 -- Moves, and the runs of a managed pool.
 use Rattle.std.specs.Prelude.{◌≡◌, ℕ, ◌-◌, ◌<◌, ◌≤◌, ◌||◌, Bool, true, false, List, [], ◌∷◌, ◌++◌, length, Option, Some, None, if◌then◌else◌, nat_lt, nat_le, not, ◌==◌, slice_get, unwrap_or, max}
-use Rattle.deadpool_parts.specs.Numbers.{has_number}
+use Rattle.deadpool_gate.specs.Numbers.{has_number}
 use Rattle.deadpool_parts.specs.Program.{Return, ask, ◌>>=◌, Gives}
 use Rattle.deadpool_parts.specs.Runs.{Runs}
 use Rattle.deadpool_parts.specs.declared.moment.Moment.{Moment}

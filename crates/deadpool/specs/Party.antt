@@ -3,7 +3,7 @@ use Rattle.std.specs.Prelude.{ℕ, ◌+◌, Bool, true, false, [], ◌∷◌, �
 use Rattle.futures.specs.declared.task.Poll.{Poll}
 use Rattle.futures.specs.declared.task.Poll.TheVariants as poll
 use Rattle.deadpool_parts.specs.Moments.{deadline_after, is_reached, lacks_runtime, cannot_wait}
-use Rattle.deadpool_parts.specs.Numbers.{has_number}
+use Rattle.deadpool_gate.specs.Numbers.{has_number}
 use Rattle.deadpool_parts.specs.Program.{Return, ask, ◌>>=◌}
 use Rattle.deadpool_parts.specs.declared.moment.Moment.{Moment}
 use Rattle.deadpool_parts.specs.declared.errors.PoolError.TheVariants.{Timeout, Backend, Closed, NoRuntimeSpecified, PostCreateHook, OutOfMemory}

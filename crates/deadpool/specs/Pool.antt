@@ -1,7 +1,7 @@
 -- The state of a managed pool, in lists. Every count is a length.
 use Rattle.std.specs.Prelude.{ℕ, ◌+◌, ◌-◌, min, max, Bool, true, false, List, [], length, ◌++◌, take, drop, Option, Some, None, if◌then◌else◌}
 use Rattle.std.specs.List.{filter, filter_map}
-use Rattle.deadpool_parts.specs.Numbers.{largest_usize}
+use Rattle.deadpool_gate.specs.Numbers.{largest_usize}
 use Rattle.deadpool_parts.specs.declared.moment.Moment.{Moment}
 use Rattle.deadpool_parts.specs.declared.moment.Runtime.{Runtime}
 use Rattle.deadpool_parts.specs.declared.config.QueueMode.{QueueMode}

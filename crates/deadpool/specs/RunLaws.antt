@@ -1,8 +1,8 @@
 -- What is true of every state of every run, and of each two neighbours in it.
 use Rattle.std.specs.Prelude.{◌≡◌, ℕ, ◌+◌, not, ◌==◌, take, min, ◌<◌, ◌≤◌, ◌≢◌, Bool, true, false, List, [], ◌∷◌, ◌++◌, length, map, ⊤, Option, Some, None, if◌then◌else◌, is_some, slice_get}
 use Rattle.std.specs.List.{filter, filter_map}
-use Rattle.deadpool_parts.specs.Numbers.{has_number}
-use Rattle.deadpool_parts.specs.Orders.{IsOnce, KeepsOrder}
+use Rattle.deadpool_gate.specs.Numbers.{has_number}
+use Rattle.deadpool_gate.specs.Orders.{IsOnce, KeepsOrder}
 use Rattle.deadpool_parts.specs.Runs.{last_of, all_states, Each, Neighbours, Later}
 use Rattle.deadpool_parts.specs.declared.config.QueueMode.{QueueMode}
 use Rattle.deadpool_parts.specs.declared.config.Timeouts.{Timeouts}

@@ -1,7 +1,7 @@
 -- The steps of a managed pool that ask nobody.
 use Rattle.std.specs.Prelude.{ℕ, ◌+◌, ◌-◌, min, max, false, List, [], ◌∷◌, length, drop, Option, Some, None, if◌then◌else◌, nat_lt, ◌==◌, slice_set, unwrap_or}
 use Rattle.deadpool_parts.specs.Numbered.{with_numbered, find_numbered, without_numbered}
-use Rattle.deadpool_parts.specs.Numbers.{without_number, largest_usize, most_handles}
+use Rattle.deadpool_gate.specs.Numbers.{without_number, largest_usize, most_handles}
 use Rattle.deadpool_parts.specs.declared.errors.PoolError.{PoolError}
 use Rattle.deadpool_parts.specs.declared.errors.PoolError.TheVariants.{NumbersExhausted}
 use Rattle.deadpool_managed.specs.Calls.{start}

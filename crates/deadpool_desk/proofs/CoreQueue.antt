@@ -1,11 +1,11 @@
 -- What the steps of a gate do to the state of the pool that holds it.
 use Rattle.std.proofs.Common.{◌≡◌, ℕ, Bool, ◌+◌, ◌-◌, ◌≤◌, true, [], ◌∷◌, ◌++◌, length, take, drop, refl, ◌∙◌, List, false, arith}
 use Rattle.std.proofs.lemmas.List.{append-nil}
-use Rattle.deadpool_parts.specs.Gate.{Line, is_due, tell_next, arrived, without_waiter, granted_tickets, waiting_tickets, untold_tickets, grant_count, IsLine}
-use Rattle.deadpool_parts.specs.Numbers.{has_number, without_number}
-use Rattle.deadpool_parts.proofs.GateTickets.{granted_tickets-arrived, waiting_tickets-arrived, granted_tickets-without_waiter, waiting_tickets-without_waiter, granted_tickets-told, waiting_tickets-told, untold_tickets-arrived, untold_tickets-without_waiter, length-both_tickets}
-use Rattle.deadpool_parts.proofs.GateAnswers.{grant_count-length}
-use Rattle.deadpool_parts.proofs.Numbers.{without_number-shorter, without_number-fewer}
+use Rattle.deadpool_gate.specs.Gate.{Line, is_due, tell_next, arrived, without_waiter, granted_tickets, waiting_tickets, untold_tickets, grant_count, IsLine}
+use Rattle.deadpool_gate.specs.Numbers.{has_number, without_number}
+use Rattle.deadpool_gate.proofs.GateTickets.{granted_tickets-arrived, waiting_tickets-arrived, granted_tickets-without_waiter, waiting_tickets-without_waiter, granted_tickets-told, waiting_tickets-told, untold_tickets-arrived, untold_tickets-without_waiter, length-both_tickets}
+use Rattle.deadpool_gate.proofs.GateAnswers.{grant_count-length}
+use Rattle.deadpool_gate.proofs.Numbers.{without_number-shorter, without_number-fewer}
 use Rattle.deadpool_desk.specs.CoreFields.{desk_of, IsSound}
 use Rattle.deadpool_desk.specs.DeskState.{DeskState, places, grants, settled}
 use Rattle.deadpool_desk.specs.DeskSteps.{unqueued}

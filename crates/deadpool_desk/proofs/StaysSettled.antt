@@ -3,8 +3,8 @@ use Rattle.std.proofs.Common.{◌≡◌, ℕ, ◌+◌, ◌-◌, ◌<◌, ◌≤�
 use Rattle.std.specs.Prelude.{if◌then◌else◌, ◌==◌, max, Result, Ok, Err}
 use Rattle.std.specs.declared.alloc.AllocError.{AllocError}
 use Rattle.std.proofs.lemmas.List.{take-append-drop}
-use Rattle.deadpool_parts.specs.Numbers.{has_number, without_number, most_handles}
-use Rattle.deadpool_parts.specs.Orders.{IsOnce}
+use Rattle.deadpool_gate.specs.Numbers.{has_number, without_number, most_handles}
+use Rattle.deadpool_gate.specs.Orders.{IsOnce}
 use Rattle.deadpool_parts.specs.declared.config.QueueMode.{QueueMode}
 use Rattle.deadpool_parts.specs.declared.config.QueueMode.TheVariants.{Fifo, Lifo}
 use Rattle.deadpool_parts.specs.declared.status.Status.{Status}
@@ -12,8 +12,8 @@ use Rattle.deadpool_parts.specs.declared.replies.StepReply.{StepReply}
 use Rattle.deadpool_parts.specs.declared.replies.StepReply.TheVariants as step
 use Rattle.deadpool_parts.specs.declared.replies.HandleReply.{HandleReply}
 use Rattle.deadpool_parts.specs.declared.replies.HandleReply.TheVariants as handle
-use Rattle.deadpool_parts.proofs.Numbers.{has_number-append, without_number-append, without_number-same, without_number-one}
-use Rattle.deadpool_parts.proofs.Orders.{IsOnce-without, IsOnce-push, IsOnce-front}
+use Rattle.deadpool_gate.proofs.Numbers.{has_number-append, without_number-append, without_number-same, without_number-one}
+use Rattle.deadpool_gate.proofs.Orders.{IsOnce-without, IsOnce-push, IsOnce-front}
 use Rattle.deadpool_desk.specs.DeskState.{DeskState, least_idle, new_core, other_idle, places, grants, settled}
 use Rattle.deadpool_desk.specs.DeskSteps.{Serves, Enters, Asks, AsksAgain, Discards, Creates, Fails, Refuses, TakesBack, Cancels, Stands, Takes, Resizes, Closes, Clones, DropsHandle, Upgrades, unqueued, given_up, resized}
 use Rattle.deadpool_desk.specs.Retained.{Retained}

@@ -1,6 +1,6 @@
 -- The state that the fields of a `PoolState` are, and what they keep.
 use Rattle.std.specs.Prelude.{◌+◌, ◌<◌, ◌≤◌, ◌^◌, not}
-use Rattle.deadpool_parts.specs.Gate.{granted_tickets, waiting_tickets, untold_tickets}
+use Rattle.deadpool_gate.specs.Gate.{granted_tickets, waiting_tickets, untold_tickets}
 use Rattle.deadpool_desk.specs.CoreState.{CoreState}
 use Rattle.deadpool_desk.specs.DeskState.{DeskState, places}
 use Rattle.deadpool_desk.specs.declared.slot.Slot.{Slot}

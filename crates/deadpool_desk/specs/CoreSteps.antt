@@ -3,8 +3,8 @@
 -- them, and none of the steps tells anybody.
 use Rattle.std.specs.Prelude.{◌≡◌, ◌≤◌, ℕ, ◌+◌, Bool, List, [], ◌∷◌, ◌++◌, length, Option, Result}
 use Rattle.std.specs.declared.alloc.AllocError.{AllocError}
-use Rattle.deadpool_parts.specs.Numbers.{without_number}
-use Rattle.deadpool_parts.specs.Waking.{next_due, still_untold}
+use Rattle.deadpool_gate.specs.Numbers.{without_number}
+use Rattle.deadpool_gate.specs.Waking.{next_due, still_untold}
 use Rattle.deadpool_parts.specs.declared.status.Status.{Status}
 use Rattle.deadpool_parts.specs.declared.replies.StepReply.{StepReply}
 use Rattle.deadpool_parts.specs.declared.replies.StepReply.TheVariants.{Done}

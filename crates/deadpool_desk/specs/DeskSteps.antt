@@ -1,7 +1,7 @@
 -- The steps at a desk, each by its reply: when the reply comes, and the state after it.
 use Rattle.std.specs.Prelude.{◌≡◌, ◌≢◌, ℕ, ◌+◌, ◌-◌, ◌<◌, ◌≤◌, Bool, true, false, ◌||◌, ◌==◌, nat_lt, if◌then◌else◌, [], ◌∷◌, ◌++◌, length, drop, min, max, Option, Some, None, unwrap_or, Result, Ok, Err}
 use Rattle.std.specs.declared.alloc.AllocError.{AllocError}
-use Rattle.deadpool_parts.specs.Numbers.{has_number, without_number, largest_usize, most_handles}
+use Rattle.deadpool_gate.specs.Numbers.{has_number, without_number, largest_usize, most_handles}
 use Rattle.deadpool_parts.specs.declared.status.Status.{Status}
 use Rattle.deadpool_desk.specs.DeskState.{DeskState, least_idle, next_idle, other_idle, places, size, settled, status_of}
 use Rattle.deadpool_desk.specs.declared.desk.Serving.{Serving}

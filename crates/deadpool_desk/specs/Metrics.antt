@@ -1,6 +1,6 @@
 -- What is known of an object's past.
 use Rattle.std.specs.Prelude.{◌+◌, min, Some, None, unwrap_or}
-use Rattle.deadpool_parts.specs.Numbers.{largest_usize}
+use Rattle.deadpool_gate.specs.Numbers.{largest_usize}
 use Rattle.deadpool_parts.specs.declared.moment.Moment.{Moment}
 use Rattle.deadpool_desk.specs.declared.metrics.Metrics.{Metrics}
 

@@ -1,6 +1,6 @@
 -- What holds of a pool between any two of its steps.
 use Rattle.std.specs.Prelude.{◌≡◌, ◌<◌, ◌≤◌, true, [], ◌++◌, length}
-use Rattle.deadpool_parts.specs.Orders.{IsOnce}
+use Rattle.deadpool_gate.specs.Orders.{IsOnce}
 use Rattle.deadpool_desk.specs.DeskState.{DeskState, places}
 
 module _ {O : Type 0} where

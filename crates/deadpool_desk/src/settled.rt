@@ -1,6 +1,6 @@
 //! The core of a managed pool: its state, which is settled between any two steps.
 ghost use Rattle.std.specs.Prelude.{◌≡◌, ◌≤◌, ◌&&◌, ◌++◌, [], not, nat_lt, nat_le, is_some, length, IfOk};
-ghost use Rattle.deadpool_parts.specs.Orders.{IsOnce};
+ghost use Rattle.deadpool_gate.specs.Orders.{IsOnce};
 ghost use Rattle.deadpool_desk.specs.DeskState.{new_core, places};
 ghost use Rattle.deadpool_desk.specs.CoreSteps.{Enters, Asks, AsksAgain, Discards, Creates, Fails, Refuses, TakesBack, Cancels, Takes, Resizes, Stands, Retains, RetainsNoting, Closes, Clones, DropsHandle, Upgrades, Tells, due_now};
 ghost use Rattle.deadpool_desk.specs.Settled.{NobodyWaits};

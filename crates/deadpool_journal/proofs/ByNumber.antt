@@ -5,7 +5,7 @@ use Rattle.std.specs.Option.{option_map}
 use Rattle.std.specs.declared.alloc.AllocError.{AllocError}
 use Rattle.std.proofs.lemmas.List.{length-map, map-append, take-map, drop-map}
 use Rattle.std.proofs.lemmas.Option.{slice_get-map}
-use Rattle.deadpool_parts.specs.Numbers.{most_handles}
+use Rattle.deadpool_gate.specs.Numbers.{most_handles}
 use Rattle.deadpool_parts.specs.declared.config.QueueMode.{QueueMode}
 use Rattle.deadpool_parts.specs.declared.config.QueueMode.TheVariants.{Fifo, Lifo}
 use Rattle.deadpool_parts.specs.declared.status.Status.{Status}

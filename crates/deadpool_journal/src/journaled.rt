@@ -1,6 +1,6 @@
 //! A pool's state, beside the steps that led to it.
 ghost use Rattle.std.specs.Prelude.{◌≡◌, ◌≤◌, ◌&&◌, ◌++◌, [], IfOk, is_some, length, nat_le, not};
-ghost use Rattle.deadpool_parts.specs.Orders.{IsOnce};
+ghost use Rattle.deadpool_gate.specs.Orders.{IsOnce};
 ghost use Rattle.deadpool_desk.specs.CoreSteps.{due_now};
 ghost use Rattle.deadpool_desk.specs.DeskState.{new_core, places};
 ghost use Rattle.deadpool_desk.specs.Settled.{NobodyWaits};

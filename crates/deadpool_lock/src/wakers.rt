@@ -2,7 +2,7 @@
 ghost use Rattle.std.specs.Prelude.{◌≡◌, nat_lt, slice_set, length, [], None, IsTrue, IsFalse, OnOk, OnErr};
 ghost use Rattle.deadpool_lock.specs.Places.{with_room, waker_at, Follows};
 
-use deadpool_parts::gate::Ticket;
+use deadpool_gate::gate::Ticket;
 use futures::task::Waker;
 use std::alloc::{AllocError, Global};
 use std::marker::Model;

@@ -4,7 +4,7 @@ use Rattle.std.specs.List.{slice_get, filter, filter_map, cons_option}
 use Rattle.std.proofs.lemmas.Bool.{cases_Bool}
 use Rattle.std.proofs.lemmas.List.Elements.{filter-append, filter_map-append}
 use Rattle.deadpool_parts.specs.Numbered.{with_numbered, find_numbered, without_numbered, count_numbered}
-use Rattle.deadpool_parts.proofs.Counts.{one_if, length-cond}
+use Rattle.deadpool_gate.proofs.Counts.{one_if, length-cond}
 
 module _ {A : Type 0} (number : A → ℕ) (n : ℕ) where
   -- by the first and the others

@@ -1,15 +1,15 @@
-//! What both pools stand on: the queue of those that wait, configuration, errors, the clock and the status.
+//! What both pools stand on beside the queue of those that wait: configuration, errors, the clock and the status.
 #![tactic(auto)]
 
 pub mod config;
 pub mod deadline;
 pub mod errors;
-pub mod gate;
 mod moment;
 mod replies;
 mod status;
 pub mod tables;
 
+pub use deadpool_gate::gate;
 pub use moment::{Clock, Moment, Runtime};
 pub use replies::{HandleReply, StepReply};
 pub use status::Status;

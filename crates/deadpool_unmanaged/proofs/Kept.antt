@@ -2,10 +2,10 @@
 use Rattle.std.proofs.Common.{◌≡◌, ◌∙◌, ℕ, ◌+◌, ◌-◌, ◌<◌, ◌≤◌, List, [], ◌∷◌, Bool, true, false, length, sym, subst, arith, Some, length-append, length-take}
 use Rattle.deadpool_parts.specs.declared.replies.StepReply.{StepReply}
 use Rattle.deadpool_parts.specs.declared.replies.StepReply.TheVariants as step
-use Rattle.deadpool_parts.specs.Orders.{IsOnce}
-use Rattle.deadpool_parts.specs.Queue.{Queue, members, is_listed, joined, without}
-use Rattle.deadpool_parts.proofs.Numbers.{has_number-append, without_number-shorter, without_number-fewer}
-use Rattle.deadpool_parts.proofs.Orders.{IsOnce-without, IsOnce-push}
+use Rattle.deadpool_gate.specs.Orders.{IsOnce}
+use Rattle.deadpool_gate.specs.Queue.{Queue, members, is_listed, joined, without}
+use Rattle.deadpool_gate.proofs.Numbers.{has_number-append, without_number-shorter, without_number-fewer}
+use Rattle.deadpool_gate.proofs.Orders.{IsOnce-without, IsOnce-push}
 use Rattle.deadpool_unmanaged.specs.Kept.{IsKept}
 use Rattle.deadpool_unmanaged.specs.State.{State, size, free_room, settled, last_idle}
 use Rattle.deadpool_unmanaged.specs.StateSteps.{GetEnters, GetAsks, GetCancels, AddEnters, AddAsks, AddCancels, handed, stored, without_get, without_add}

@@ -3,9 +3,9 @@ use Rattle.std.proofs.Common.{◌≡◌, ℕ, ◌+◌, ◌-◌, ◌<◌, ◌≤�
 use Rattle.std.proofs.lemmas.Bool.{cases_lt, cond_both}
 use Rattle.std.proofs.lemmas.List.{take-append-drop}
 use Rattle.std.proofs.Math.ListN.{drop_of_length-le}
-use Rattle.deadpool_parts.specs.Numbers.{without_number}
-use Rattle.deadpool_parts.specs.Queue.{Queue, members, joined, without, served}
-use Rattle.deadpool_parts.proofs.Numbers.{without_number-append}
+use Rattle.deadpool_gate.specs.Numbers.{without_number}
+use Rattle.deadpool_gate.specs.Queue.{Queue, members, joined, without, served}
+use Rattle.deadpool_gate.proofs.Numbers.{without_number-append}
 
 -- the members, as one leaves, joins, or some are granted what they ask for
 pub members-without : (n : ℕ) (q : Queue) → members (without n q) ≡ without_number n (members q)

@@ -1,7 +1,7 @@
 -- The state that the fields of a core are, and what they keep.
 use Rattle.std.specs.Prelude.{◌≡◌, ◌+◌, ◌≤◌, not, List, length, vec_capacity}
-use Rattle.deadpool_parts.specs.Gate.{Waiter, granted_tickets, waiting_tickets, untold_tickets}
-use Rattle.deadpool_parts.specs.Queue.{Queue}
+use Rattle.deadpool_gate.specs.Gate.{Waiter, granted_tickets, waiting_tickets, untold_tickets}
+use Rattle.deadpool_gate.specs.Queue.{Queue}
 use Rattle.deadpool_unmanaged.specs.State.{State, CoreState}
 use Rattle.deadpool_unmanaged.specs.declared.state.PoolState.TheInside.{Inside}
 

@@ -1,7 +1,7 @@
 -- What is true of a pool between any two of its steps.
 use Rattle.std.specs.Prelude.{◌≡◌, ◌+◌, ◌<◌, ◌≤◌, true, [], length}
-use Rattle.deadpool_parts.specs.Orders.{IsOnce}
-use Rattle.deadpool_parts.specs.Queue.{members}
+use Rattle.deadpool_gate.specs.Orders.{IsOnce}
+use Rattle.deadpool_gate.specs.Queue.{members}
 use Rattle.deadpool_unmanaged.specs.State.{State, size, free_objects, free_room}
 
 module _ {T : Type 0} where

@@ -1,8 +1,8 @@
 -- The state of an unmanaged pool without names: tickets in its queues, and a count of the objects that are out.
 use Rattle.std.specs.Prelude.{ℕ, ◌+◌, ◌-◌, ◌≤◌, Bool, true, ◌||◌, ◌&&◌, ◌==◌, List, [], length, take, slice_get, Option, is_some}
-use Rattle.deadpool_parts.specs.Waking.{next_due}
+use Rattle.deadpool_gate.specs.Waking.{next_due}
 use Rattle.deadpool_parts.specs.declared.status.Status.{Status}
-use Rattle.deadpool_parts.specs.Queue.{Queue, nobody, members, served}
+use Rattle.deadpool_gate.specs.Queue.{Queue, nobody, members, served}
 
 pub record State (T : Type 0) : Type 0 where
   pub limit : ℕ

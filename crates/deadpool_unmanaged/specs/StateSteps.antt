@@ -1,8 +1,8 @@
 -- The steps of a pool without names, each by its reply: when the reply comes, and the state after it.
 use Rattle.std.specs.Prelude.{◌≡◌, ℕ, ◌+◌, ◌-◌, ◌<◌, min, Bool, true, false, ◌&&◌, ◌==◌, nat_lt, if◌then◌else◌, [], ◌∷◌, ◌++◌, Option, Some}
-use Rattle.deadpool_parts.specs.Numbers.{has_number, without_number, most_handles}
-use Rattle.deadpool_parts.specs.Queue.{is_listed, joined, without}
-use Rattle.deadpool_parts.specs.Waking.{still_untold}
+use Rattle.deadpool_gate.specs.Numbers.{has_number, without_number, most_handles}
+use Rattle.deadpool_gate.specs.Queue.{is_listed, joined, without}
+use Rattle.deadpool_gate.specs.Waking.{still_untold}
 use Rattle.deadpool_unmanaged.specs.State.{State, free_objects, free_room, settled, due_get, due_add, last_idle, other_idle}
 use Rattle.deadpool_unmanaged.specs.declared.steps.GetEnterReply.{GetEnterReply}
 use Rattle.deadpool_unmanaged.specs.declared.steps.GetEnterReply.TheVariants as get

@@ -7,7 +7,7 @@ ghost use Rattle.deadpool_unmanaged.specs.State.{IsFull};
 use crate::PoolError;
 use crate::settled::Core;
 use crate::steps::{AddAskReply, AddEnterReply};
-use deadpool_parts::gate::Ticket;
+use deadpool_gate::gate::Ticket;
 use futures::task::Poll;
 use std::marker::Model;
 use std::mem;

@@ -8,7 +8,7 @@ use crate::settled::Core;
 use crate::steps::{GetAskReply, GetEnterReply};
 use crate::{Moment, PoolError, Runtime};
 use deadpool_parts::deadline::{cannot_wait, deadline_after, is_reached};
-use deadpool_parts::gate::Ticket;
+use deadpool_gate::gate::Ticket;
 use futures::task::Poll;
 use std::marker::Model;
 use std::mem;

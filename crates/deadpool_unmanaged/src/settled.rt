@@ -7,7 +7,7 @@ ghost use Rattle.deadpool_unmanaged.specs.StateSteps.{GetEnters, GetAsks, GetCan
 use crate::state::PoolState;
 use crate::steps::{AddAskReply, AddEnterReply, BackReply, GetAskReply, GetEnterReply, TakeReply};
 use crate::{HandleReply, Status, StepReply};
-use deadpool_parts::gate::Ticket;
+use deadpool_gate::gate::Ticket;
 use std::alloc::{AllocError, Global};
 use std::marker::Model;
 

@@ -5,7 +5,7 @@ ghost use Rattle.deadpool_unmanaged.specs.StateSteps.{GetEnters, GetAsks, GetCan
 
 use crate::steps::{AddAskReply, AddEnterReply, BackReply, GetAskReply, GetEnterReply, TakeReply};
 use crate::{HandleReply, Status, StepReply};
-use deadpool_parts::gate::{Ask, Entry, Gate, Ticket, Withdrawn};
+use deadpool_gate::gate::{Ask, Entry, Gate, Ticket, Withdrawn};
 use std::alloc::{AllocError, Global};
 use std::marker::Model;
 

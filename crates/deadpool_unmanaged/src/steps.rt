@@ -1,7 +1,7 @@
 //! The replies to a pool's steps. A step that names a ticket answers `Unknown` if nobody is under it, and a step on an
 //! object that is out if none is. If no handle is left, `clone_handle` and `drop_handle` answer `NoHandle`. Then nothing
 //! changes.
-use deadpool_parts::gate::Ticket;
+use deadpool_gate::gate::Ticket;
 
 /// The reply to a new get.
 #[derive(Drop)]

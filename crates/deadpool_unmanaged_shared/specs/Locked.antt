@@ -4,7 +4,7 @@ use Rattle.std.specs.Option.{option_map_or}
 use Rattle.futures.specs.declared.task.Poll.{Poll}
 use Rattle.futures.specs.declared.task.Poll.TheVariants.{Ready}
 use Rattle.deadpool_lock.specs.Places.{waker_at}
-use Rattle.deadpool_parts.specs.Waking.{still_untold}
+use Rattle.deadpool_gate.specs.Waking.{still_untold}
 use Rattle.deadpool_parts.specs.declared.moment.Moment.{Moment}
 use Rattle.deadpool_parts.specs.declared.moment.Runtime.{Runtime}
 use Rattle.deadpool_unmanaged.specs.State.{State, due_get, due_add}

@@ -3,12 +3,12 @@ use Rattle.std.proofs.Common.{◌≡◌, ℕ, List, Bool, true, false, set, map,
 use Rattle.std.specs.List.{slice_get}
 use Rattle.std.proofs.lemmas.Bool.{lt-ltb, le-ltb}
 use Rattle.futures.specs.declared.task.Poll.{Poll}
-use Rattle.deadpool_parts.specs.Numbers.{has_number}
+use Rattle.deadpool_gate.specs.Numbers.{has_number}
 use Rattle.deadpool_parts.specs.declared.moment.Moment.{Moment}
 use Rattle.deadpool_parts.specs.declared.moment.Runtime.{Runtime}
-use Rattle.deadpool_parts.specs.Owners.{owner}
-use Rattle.deadpool_parts.specs.Queue.{is_listed, joined}
-use Rattle.deadpool_parts.proofs.Owners.{granted-renamed}
+use Rattle.deadpool_gate.specs.Owners.{owner}
+use Rattle.deadpool_gate.specs.Queue.{is_listed, joined}
+use Rattle.deadpool_gate.proofs.Owners.{granted-renamed}
 use Rattle.deadpool_unmanaged.specs.Adds.{PollsAdd, stage_entered, turn_entered, stage_asked, turn_asked, held_by}
 use Rattle.unmanaged_replay.specs.Image.{image, party_of, has_add, IsCounted}
 use Rattle.unmanaged_replay.specs.RunLaws.{IsWell}

@@ -5,7 +5,7 @@ use Rattle.unmanaged_replay.specs.RunLaws.{so_many}
 use Rattle.deadpool_unmanaged.specs.State.{last_idle, other_idle}
 use Rattle.unmanaged_replay.specs.Steps.{item_number}
 use Rattle.unmanaged_replay.specs.declared.moves.Item.{Item}
-use Rattle.deadpool_parts.proofs.Counts.{one_if}
+use Rattle.deadpool_gate.proofs.Counts.{one_if}
 use Rattle.deadpool_parts.proofs.NumberedCounts.{count-cons}
 
 module _ {V : Type 0} (n : ℕ) where

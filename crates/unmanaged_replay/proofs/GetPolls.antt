@@ -5,13 +5,13 @@ use Rattle.std.specs.declared.time.Duration.{Duration}
 use Rattle.std.proofs.lemmas.Bool.{cases_Bool, lt-ltb, le-ltb, not-true}
 use Rattle.futures.specs.declared.task.Poll.{Poll}
 use Rattle.deadpool_parts.specs.Moments.{deadline_after, is_reached, cannot_wait}
-use Rattle.deadpool_parts.specs.Numbers.{has_number}
+use Rattle.deadpool_gate.specs.Numbers.{has_number}
 use Rattle.deadpool_parts.specs.declared.moment.Moment.{Moment}
 use Rattle.deadpool_parts.specs.declared.moment.Runtime.{Runtime}
-use Rattle.deadpool_parts.specs.Owners.{owner}
-use Rattle.deadpool_parts.specs.Queue.{Queue, is_listed, joined}
-use Rattle.deadpool_parts.proofs.Lists.{set-same}
-use Rattle.deadpool_parts.proofs.Owners.{renamed-set, granted-renamed}
+use Rattle.deadpool_gate.specs.Owners.{owner}
+use Rattle.deadpool_gate.specs.Queue.{Queue, is_listed, joined}
+use Rattle.deadpool_gate.proofs.Lists.{set-same}
+use Rattle.deadpool_gate.proofs.Owners.{renamed-set, granted-renamed}
 use Rattle.deadpool_unmanaged.specs.Gets.{PollsGet, stage_entered, turn_entered, stage_asked, turn_asked}
 use Rattle.unmanaged_replay.specs.Image.{image, party_of, has_get, has_add, IsCounted}
 use Rattle.unmanaged_replay.specs.RunLaws.{IsWell}

@@ -6,9 +6,9 @@ use Rattle.std.specs.declared.time.Duration.{Duration}
 use Rattle.std.specs.List.{slice_get}
 use Rattle.deadpool_parts.specs.Moments.{deadline_after, is_reached, cannot_wait}
 use Rattle.deadpool_parts.specs.declared.moment.Runtime.{Runtime}
-use Rattle.deadpool_parts.specs.Numbers.{has_number, largest_usize, most_handles}
+use Rattle.deadpool_gate.specs.Numbers.{has_number, largest_usize, most_handles}
 use Rattle.deadpool_parts.specs.declared.moment.Moment.{Moment}
-use Rattle.deadpool_parts.proofs.Numbers.{without_number-shorter, without_number-fewer}
+use Rattle.deadpool_gate.proofs.Numbers.{without_number-shorter, without_number-fewer}
 use Rattle.unmanaged_replay.specs.Laws.{HasRoom, IsLawful}
 use Rattle.unmanaged_replay.specs.Moves.{IsWithinLimit, unsettled, moved, by_party, by_newcomer, by_number, started}
 use Rattle.unmanaged_replay.specs.Pool.{Pool, Party, new_get, queued_get, new_add, queued_add, finished, opened, size, free_objects, free_room, settle, status_of}

@@ -3,12 +3,12 @@ use Rattle.std.proofs.Common.{◌≡◌, ◌≢◌, ℕ, List, [], ◌∷◌, �
 use Rattle.std.specs.List.{slice_get}
 use Rattle.std.proofs.Math.Bool.{and-true, and-false, or-true, or-false}
 use Rattle.std.proofs.lemmas.Bool.Decides.{eqb_tells}
-use Rattle.deadpool_parts.specs.Numbers.{has_number, without_number}
-use Rattle.deadpool_parts.specs.Orders.{KeepsOrder}
-use Rattle.deadpool_parts.specs.Queue.{Queue, members, joined, without}
-use Rattle.deadpool_parts.proofs.Numbers.{has_number-append, has_number-without}
-use Rattle.deadpool_parts.proofs.Orders.{IsOnce-without, IsOnce-push, order_same, order_without, order_joined}
-use Rattle.deadpool_parts.proofs.Lists.{get-set_same, get-set_other, get-append, get-pushed}
+use Rattle.deadpool_gate.specs.Numbers.{has_number, without_number}
+use Rattle.deadpool_gate.specs.Orders.{KeepsOrder}
+use Rattle.deadpool_gate.specs.Queue.{Queue, members, joined, without}
+use Rattle.deadpool_gate.proofs.Numbers.{has_number-append, has_number-without}
+use Rattle.deadpool_gate.proofs.Orders.{IsOnce-without, IsOnce-push, order_same, order_without, order_joined}
+use Rattle.deadpool_gate.proofs.Lists.{get-set_same, get-set_other, get-append, get-pushed}
 use Rattle.unmanaged_replay.specs.Pool.{Party}
 use Rattle.unmanaged_replay.specs.RunLaws.{IsLined}
 use Rattle.deadpool_unmanaged.proofs.Queues.{members-without, members-joined}

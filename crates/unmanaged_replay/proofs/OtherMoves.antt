@@ -3,10 +3,10 @@ use Rattle.std.proofs.Common.{◌≡◌, ◌≢◌, ℕ, ◌+◌, ◌-◌, ◌<�
 use Rattle.std.proofs.lemmas.Bool.{cases_Bool, lt-ltb, le-ltb}
 use Rattle.std.proofs.lemmas.Bool.Decides.{nat_tests}
 use Rattle.std.proofs.lemmas.List.{length-map}
-use Rattle.deadpool_parts.specs.Numbers.{largest_usize, most_handles}
+use Rattle.deadpool_gate.specs.Numbers.{largest_usize, most_handles}
 use Rattle.deadpool_parts.specs.declared.status.Status.{Status}
 use Rattle.deadpool_parts.specs.declared.moment.Runtime.{Runtime}
-use Rattle.deadpool_parts.specs.Owners.{owner}
+use Rattle.deadpool_gate.specs.Owners.{owner}
 use Rattle.unmanaged_replay.specs.Image.{image, has_get, IsCounted}
 use Rattle.unmanaged_replay.specs.RunLaws.{IsWell}
 use Rattle.unmanaged_replay.specs.Moves.{unsettled}

@@ -4,9 +4,9 @@ use Rattle.std.specs.List.{slice_get}
 use Rattle.std.specs.declared.time.Duration.{Duration}
 use Rattle.std.proofs.lemmas.Bool.Decides.{nat_tests}
 use Rattle.std.proofs.lemmas.List.{map-append}
-use Rattle.deadpool_parts.specs.Numbers.{largest_usize}
+use Rattle.deadpool_gate.specs.Numbers.{largest_usize}
 use Rattle.deadpool_parts.specs.declared.moment.Runtime.{Runtime}
-use Rattle.deadpool_parts.proofs.Owners.{NoTicket, owned-push, renamed-push}
+use Rattle.deadpool_gate.proofs.Owners.{NoTicket, owned-push, renamed-push}
 use Rattle.unmanaged_replay.specs.Image.{image, party_of, has_get, has_add, IsCounted}
 use Rattle.unmanaged_replay.specs.RunLaws.{IsWell}
 use Rattle.unmanaged_replay.specs.Moves.{NobodyWaits, unsettled, by_party}

@@ -4,10 +4,10 @@ use Rattle.std.specs.List.{slice_get}
 use Rattle.std.specs.declared.time.Duration.{Duration}
 use Rattle.std.proofs.lemmas.Bool.{cond_both, ltb-true}
 use Rattle.deadpool_parts.specs.Moments.{deadline_after, is_reached, cannot_wait}
-use Rattle.deadpool_parts.specs.Numbers.{has_number}
+use Rattle.deadpool_gate.specs.Numbers.{has_number}
 use Rattle.deadpool_parts.specs.declared.moment.Moment.{Moment}
-use Rattle.deadpool_parts.proofs.Numbers.{without_number-shorter, without_number-fewer}
-use Rattle.deadpool_parts.proofs.Lists.{get-set_same, get-set_other}
+use Rattle.deadpool_gate.proofs.Numbers.{without_number-shorter, without_number-fewer}
+use Rattle.deadpool_gate.proofs.Lists.{get-set_same, get-set_other}
 use Rattle.unmanaged_replay.specs.Pool.{Pool, Party, new_get, queued_get, new_add, queued_add, finished, free_objects, free_room}
 use Rattle.unmanaged_replay.specs.RunLaws.{IsWell, CountsOn, KeepsPromises, IsEmptyIfClosed, brings, brought_by, asks_for_object, asks_for_room, copies, so_many, brought_in}
 use Rattle.deadpool_unmanaged.specs.State.{last_idle, other_idle}

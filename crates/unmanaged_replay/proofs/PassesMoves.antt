@@ -4,8 +4,8 @@ use Rattle.std.specs.List.{slice_get, filter}
 use Rattle.std.specs.declared.time.Duration.{Duration}
 use Rattle.std.proofs.lemmas.Bool.{cases_Bool, cond_both, ltb-true}
 use Rattle.std.proofs.lemmas.Bool.Decides.{nat_tests}
-use Rattle.deadpool_parts.specs.Numbers.{largest_usize, most_handles}
-use Rattle.deadpool_parts.proofs.Lists.{get-append}
+use Rattle.deadpool_gate.specs.Numbers.{largest_usize, most_handles}
+use Rattle.deadpool_gate.proofs.Lists.{get-append}
 use Rattle.unmanaged_replay.specs.Pool.{Pool, Party, new_get, new_add, free_objects, free_room, status_of}
 use Rattle.unmanaged_replay.specs.RunLaws.{IsWell, CountsOn, brings, asks_for_object, asks_for_room, copies, brought_in, named, may_leave}
 use Rattle.unmanaged_replay.specs.Steps.{find_item, without_item, store, poll, cancelled, try_get, try_store, back, take_out, closed, cloned, handle_dropped, item_number}

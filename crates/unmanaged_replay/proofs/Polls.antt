@@ -3,7 +3,7 @@ use Rattle.std.proofs.Common.{◌≡◌, ℕ, List, set, sym, ◌∙◌, subst, 
 use Rattle.std.specs.List.{slice_get}
 use Rattle.deadpool_parts.specs.declared.moment.Moment.{Moment}
 use Rattle.deadpool_parts.specs.declared.moment.Runtime.{Runtime}
-use Rattle.deadpool_parts.proofs.Lists.{set-same}
+use Rattle.deadpool_gate.proofs.Lists.{set-same}
 use Rattle.deadpool_unmanaged.specs.Adds.{held_by}
 use Rattle.unmanaged_replay.specs.Image.{image, IsCounted}
 use Rattle.unmanaged_replay.specs.RunLaws.{IsWell}

@@ -3,9 +3,9 @@ use Rattle.std.proofs.Common.{◌≡◌, ℕ, ◌<◌, List, [], Bool, true, con
 use Rattle.std.proofs.lemmas.Bool.{cases_Bool, cases_lt}
 use Rattle.std.proofs.lemmas.List.{take-map, drop-map, map-append, length-map}
 use Rattle.deadpool_parts.specs.declared.moment.Runtime.{Runtime}
-use Rattle.deadpool_parts.specs.Owners.{owner}
-use Rattle.deadpool_parts.specs.Queue.{Queue, renamed, served}
-use Rattle.deadpool_parts.proofs.Owners.{owned-granting}
+use Rattle.deadpool_gate.specs.Owners.{owner}
+use Rattle.deadpool_gate.specs.Queue.{Queue, renamed, served}
+use Rattle.deadpool_gate.proofs.Owners.{owned-granting}
 use Rattle.unmanaged_replay.specs.Image.{image, has_get, has_add, IsCounted}
 use Rattle.unmanaged_replay.specs.Moves.{NobodyWaits}
 use Rattle.unmanaged_replay.specs.Pool.{Pool, settle, free_objects, free_room}

@@ -4,9 +4,9 @@ use Rattle.std.specs.List.{slice_get}
 use Rattle.std.proofs.lemmas.List.{map-set, length-map}
 use Rattle.std.proofs.lemmas.Option.{slice_get-map}
 use Rattle.deadpool_parts.specs.declared.moment.Runtime.{Runtime}
-use Rattle.deadpool_parts.specs.Owners.{owner}
-use Rattle.deadpool_parts.specs.Queue.{renamed, is_listed, joined}
-use Rattle.deadpool_parts.proofs.Owners.{NoTicket, OneTicket, owned-set, renamed-set, absent, owned-leaves, renamed-leaves, owned-joins, renamed-joins}
+use Rattle.deadpool_gate.specs.Owners.{owner}
+use Rattle.deadpool_gate.specs.Queue.{renamed, is_listed, joined}
+use Rattle.deadpool_gate.proofs.Owners.{NoTicket, OneTicket, owned-set, renamed-set, absent, owned-leaves, renamed-leaves, owned-joins, renamed-joins}
 use Rattle.unmanaged_replay.specs.Image.{image, party_of, has_get, has_add, IsCounted}
 use Rattle.unmanaged_replay.specs.Moves.{NobodyWaits}
 use Rattle.unmanaged_replay.specs.Pool.{Pool, free_objects, free_room}

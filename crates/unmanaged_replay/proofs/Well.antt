@@ -3,10 +3,10 @@ use Rattle.std.proofs.Common.{◌≡◌, ℕ, ◌+◌, ◌-◌, ◌<◌, ◌≤�
 use Rattle.std.specs.List.{slice_get}
 use Rattle.std.proofs.lemmas.Bool.{cases_Bool}
 use Rattle.std.proofs.lemmas.Bool.Decides.{eqb_tells}
-use Rattle.deadpool_parts.specs.Numbers.{has_number}
+use Rattle.deadpool_gate.specs.Numbers.{has_number}
 use Rattle.deadpool_parts.specs.Runs.{all_states, Neighbours, Later}
-use Rattle.deadpool_parts.specs.Queue.{Queue, members, served}
-use Rattle.deadpool_parts.proofs.Orders.{IsOnce-append}
+use Rattle.deadpool_gate.specs.Queue.{Queue, members, served}
+use Rattle.deadpool_gate.proofs.Orders.{IsOnce-append}
 use Rattle.unmanaged_replay.specs.Moves.{unsettled, moved}
 use Rattle.unmanaged_replay.specs.Pool.{Pool, Party, new_get, queued_get, new_add, queued_add, finished}
 use Rattle.unmanaged_replay.specs.RunLaws.{IsWell, OpensWell, IsNumbered, CountsOn, IsLined, HasRoomForAll, IsListedOnce, Succeeds, EachState, EachStep, EachLater, EachMove, EndsWell, NoneReturns, copies, asks_for_object, asks_for_room, named, OthersStayInPool, OthersStayQueued, OthersStand}

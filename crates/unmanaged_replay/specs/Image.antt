@@ -1,7 +1,7 @@
 -- The pool in lists that a core, its parties and the objects out stand for.
 use Rattle.std.specs.Prelude.{◌≡◌, ℕ, Bool, false, ◌==◌, List, length, map, Option, Some, None}
-use Rattle.deadpool_parts.specs.Owners.{owner, IsOwned}
-use Rattle.deadpool_parts.specs.Queue.{renamed}
+use Rattle.deadpool_gate.specs.Owners.{owner, IsOwned}
+use Rattle.deadpool_gate.specs.Queue.{renamed}
 use Rattle.deadpool_parts.specs.declared.moment.Runtime.{Runtime}
 use Rattle.unmanaged_replay.specs.Pool.{Pool, Party, new_get, queued_get, new_add, queued_add, finished}
 use Rattle.deadpool_unmanaged.specs.State.{State}

@@ -1,6 +1,6 @@
 -- Moves, and the runs of an unmanaged pool.
 use Rattle.std.specs.Prelude.{◌≡◌, ◌+◌, ◌<◌, ◌≤◌, Bool, true, false, List, [], ◌∷◌, ◌++◌, length, Option, Some, if◌then◌else◌, nat_lt, ◌==◌, slice_get}
-use Rattle.deadpool_parts.specs.Numbers.{largest_usize}
+use Rattle.deadpool_gate.specs.Numbers.{largest_usize}
 use Rattle.deadpool_parts.specs.Runs.{Runs}
 use Rattle.unmanaged_replay.specs.Pool.{Pool, Party, new_get, new_add, size, free_objects, free_room, settle, status_of}
 use Rattle.unmanaged_replay.specs.Steps.{find_item, poll, cancelled, try_get, try_store, back, take_out, closed, cloned, handle_dropped}

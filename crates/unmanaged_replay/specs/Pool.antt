@@ -4,7 +4,7 @@ use Rattle.std.specs.declared.time.Duration.{Duration}
 use Rattle.deadpool_parts.specs.declared.moment.Moment.{Moment}
 use Rattle.deadpool_parts.specs.declared.moment.Runtime.{Runtime}
 use Rattle.deadpool_parts.specs.declared.status.Status.{Status}
-use Rattle.deadpool_parts.specs.Queue.{Queue, nobody, served}
+use Rattle.deadpool_gate.specs.Queue.{Queue, nobody, served}
 use Rattle.unmanaged_replay.specs.declared.moves.Item.{Item}
 
 -- What a party is, and how far. V: the objects' values

@@ -2,11 +2,11 @@
 -- and of each move.
 use Rattle.std.specs.Prelude.{◌≡◌, ◌≢◌, ℕ, ◌+◌, ◌-◌, ◌<◌, ◌≤◌, Bool, true, false, ◌==◌, List, [], ◌∷◌, ◌++◌, length, Option, Some, None, if◌then◌else◌, slice_get}
 use Rattle.std.specs.List.{filter, filter_map}
-use Rattle.deadpool_parts.specs.Numbers.{has_number}
-use Rattle.deadpool_parts.specs.Orders.{IsOnce, KeepsOrder}
+use Rattle.deadpool_gate.specs.Numbers.{has_number}
+use Rattle.deadpool_gate.specs.Orders.{IsOnce, KeepsOrder}
 use Rattle.deadpool_parts.specs.Runs.{all_states, Each, Neighbours, Later}
 use Rattle.deadpool_parts.specs.declared.moment.Runtime.{Runtime}
-use Rattle.deadpool_parts.specs.Queue.{Queue, members}
+use Rattle.deadpool_gate.specs.Queue.{Queue, members}
 use Rattle.unmanaged_replay.specs.Laws.{IsLawful}
 use Rattle.unmanaged_replay.specs.Moves.{Makes, PoolRuns}
 use Rattle.unmanaged_replay.specs.Pool.{Pool, Party, queued_get, new_add, queued_add, opened}

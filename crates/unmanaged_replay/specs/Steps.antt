@@ -3,9 +3,9 @@ use Rattle.std.specs.Prelude.{ℕ, ◌+◌, ◌-◌, min, Bool, false, not, ◌=
 use Rattle.deadpool_parts.specs.Numbered.{with_numbered, find_numbered, without_numbered}
 use Rattle.std.specs.declared.time.Duration.{Duration}
 use Rattle.deadpool_parts.specs.Moments.{deadline_after, is_reached, cannot_wait}
-use Rattle.deadpool_parts.specs.Numbers.{has_number, most_handles}
+use Rattle.deadpool_gate.specs.Numbers.{has_number, most_handles}
 use Rattle.deadpool_parts.specs.declared.moment.Moment.{Moment}
-use Rattle.deadpool_parts.specs.Queue.{joined, without}
+use Rattle.deadpool_gate.specs.Queue.{joined, without}
 use Rattle.deadpool_unmanaged.specs.State.{last_idle, other_idle}
 use Rattle.unmanaged_replay.specs.Pool.{Pool, Party, new_get, queued_get, new_add, queued_add, finished, free_objects, free_room}
 use Rattle.deadpool_unmanaged.specs.declared.error.PoolError.TheVariants.{Timeout, Closed, NoRuntimeSpecified, OutOfMemory}

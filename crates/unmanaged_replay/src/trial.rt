@@ -1,7 +1,7 @@
 //! An unmanaged pool on one thread, with its parties and the objects that are out.
 ghost use Rattle.std.specs.Prelude.{◌≡◌, ◌≢◌, ◌==◌, ◌<◌, ◌≤◌, ◌+◌, [], List, length, MatchResult, IfOk, Option, vec_len, vec_capacity};
 ghost use Rattle.std.specs.Option.{option_map};
-ghost use Rattle.deadpool_parts.specs.Numbers.{largest_usize};
+ghost use Rattle.deadpool_gate.specs.Numbers.{largest_usize};
 ghost use Rattle.deadpool_parts.specs.Runs.{all_states, Each};
 ghost use Rattle.unmanaged_replay.specs.Moves.{Gives, PoolRuns, NobodyWaits, IsWithinLimit};
 ghost use Rattle.unmanaged_replay.specs.Pool.{Pool, opened};

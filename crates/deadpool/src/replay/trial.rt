@@ -14,7 +14,7 @@ ghost use Rattle.deadpool.specs.Moves.{moved, Polls, Makes, PoolRuns, NobodyWait
 ghost use Rattle.deadpool.specs.Rank.{rank_at};
 ghost use Rattle.deadpool.specs.RunLaws.{IsWell};
 ghost use Rattle.deadpool.specs.TrialFields.{AdvancesGet, given, reply_to, IsTaken, reply_to_back, reply_to_take, reply_to_handle};
-ghost use Rattle.deadpool_parts.specs.Numbers.{has_number};
+ghost use Rattle.deadpool_gate.specs.Numbers.{has_number};
 ghost use Rattle.deadpool_managed.specs.Answers.{LeavesOrKeeps};
 ghost use Rattle.deadpool.specs.declared.replay.moves.Move.TheVariants as move;
 

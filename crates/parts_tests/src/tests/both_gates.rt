@@ -1,7 +1,7 @@
 //! A gate beside one over a vector.
 use super::expected::expect;
 use super::vector_gate::VectorGate;
-use deadpool_parts::gate::{Ask, Entry, Gate, Ticket, Withdrawn};
+use deadpool_gate::gate::{Ask, Entry, Gate, Ticket, Withdrawn};
 use std::alloc::Global;
 use std::test::Fail;
 

@@ -1,7 +1,7 @@
 //! The gate, alone and beside one over a vector.
 use super::both_gates::{Both, ticket_of};
 use super::expected::expect;
-use deadpool_parts::gate::{Ask, Entry, Gate, Ticket, Withdrawn};
+use deadpool_gate::gate::{Ask, Entry, Gate, Ticket, Withdrawn};
 use std::ops::Range;
 use std::test::Fail;
 

@@ -1,6 +1,6 @@
 //! A gate over a plain vector of waiters, each of which is searched for from the front. The gate's answers are held
 //! against its answers. A waiter is known by the number of those that joined before it.
-use deadpool_parts::gate::{Ask, Withdrawn};
+use deadpool_gate::gate::{Ask, Withdrawn};
 use std::alloc::{AllocError, Global};
 
 #[derive(Drop)]

@@ -1,6 +1,6 @@
 use Rattle.std.proofs.Common.{◌∙◌, None, not, subst, ap}
-use Rattle.deadpool_parts.specs.Gate.{without_waiter, untold_tickets}
-use Rattle.deadpool_parts.proofs.GateAnswers.{asked-granted, asked-waiting, asked-closed, asked-unknown}
+use Rattle.deadpool_gate.specs.Gate.{without_waiter, untold_tickets}
+use Rattle.deadpool_gate.proofs.GateAnswers.{asked-granted, asked-waiting, asked-closed, asked-unknown}
 use Rattle.deadpool_desk.specs.DeskSteps.{Serves}
 use Rattle.deadpool_desk.proofs.CoreQueue.{IsSound-without, places-without, desk_of-same, desk_of-unqueued, untold-without}
 use Rattle.deadpool_desk.proofs.state.PoolState.ask.Goals as goal

@@ -1,6 +1,6 @@
 use Rattle.std.proofs.Common.{◌∙◌, ap}
-use Rattle.deadpool_parts.specs.Gate.{untold_tickets}
-use Rattle.deadpool_parts.proofs.GateAnswers.{withdrawn-unknown, withdrawn-known}
+use Rattle.deadpool_gate.specs.Gate.{untold_tickets}
+use Rattle.deadpool_gate.proofs.GateAnswers.{withdrawn-unknown, withdrawn-known}
 use Rattle.deadpool_desk.specs.DeskState.{settled}
 use Rattle.deadpool_desk.proofs.CoreQueue.{IsSound-without, desk_of-same, desk_of-unqueued, untold-without}
 use Rattle.deadpool_desk.proofs.state.PoolState.cancel.Goals as goal

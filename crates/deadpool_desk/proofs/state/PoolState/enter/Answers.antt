@@ -1,6 +1,6 @@
 use Rattle.std.proofs.Common.{◌≤◌, not, ap, refl, arith}
-use Rattle.deadpool_parts.specs.Gate.{untold_tickets}
-use Rattle.deadpool_parts.proofs.GateAnswers.{entered-waiting, entered-without_memory, unlisted}
+use Rattle.deadpool_gate.specs.Gate.{untold_tickets}
+use Rattle.deadpool_gate.proofs.GateAnswers.{entered-waiting, entered-without_memory, unlisted}
 use Rattle.deadpool_desk.specs.DeskState.{places}
 use Rattle.deadpool_desk.proofs.CoreQueue.{desk_of-arrived, desk_of-same, untold-arrived, no_room}
 use Rattle.deadpool_desk.proofs.state.PoolState.enter.Goals as goal

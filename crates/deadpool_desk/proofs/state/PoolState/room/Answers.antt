@@ -1,4 +1,4 @@
-use Rattle.deadpool_parts.proofs.GateTickets.{granted_count-length}
+use Rattle.deadpool_gate.proofs.GateTickets.{granted_count-length}
 use Rattle.deadpool_desk.proofs.state.PoolState.room.Goals as goal
 
 pub returns : goal.returns

@@ -1,6 +1,6 @@
 use Rattle.std.proofs.Common.{◌≡◌, length, arith}
-use Rattle.deadpool_parts.specs.Gate.{waiting_tickets}
-use Rattle.deadpool_parts.proofs.GateTickets.{waiting_count-length}
+use Rattle.deadpool_gate.specs.Gate.{waiting_tickets}
+use Rattle.deadpool_gate.proofs.GateTickets.{waiting_count-length}
 use Rattle.deadpool_desk.proofs.CoreQueue.{desk_of-settled, desk_of-quiet}
 use Rattle.deadpool_desk.proofs.state.PoolState.settle.Goals as goal
 

@@ -1,7 +1,7 @@
 use Rattle.std.proofs.Common.{refl, ◌≡◌, ◌+◌, ◌-◌, length, min, arith, ◌∙◌}
-use Rattle.deadpool_parts.specs.Gate.{granted_tickets, waiting_tickets}
-use Rattle.deadpool_parts.specs.Numbers.{largest_usize}
-use Rattle.deadpool_parts.proofs.GateTickets.{granted_count-length, waiting_count-length, length-both_tickets}
+use Rattle.deadpool_gate.specs.Gate.{granted_tickets, waiting_tickets}
+use Rattle.deadpool_gate.specs.Numbers.{largest_usize}
+use Rattle.deadpool_gate.proofs.GateTickets.{granted_count-length, waiting_count-length, length-both_tickets}
 use Rattle.deadpool_desk.proofs.state.PoolState.status.Goals as goal
 
 pub overflow_add-pending-2 : goal.overflow_add-pending-2

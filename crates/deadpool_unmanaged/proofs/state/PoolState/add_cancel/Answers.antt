@@ -1,6 +1,6 @@
 use Rattle.std.proofs.Common.{◌∙◌, ap}
 use Rattle.deadpool_unmanaged.specs.State.{settled}
-use Rattle.deadpool_parts.proofs.GateAnswers.{withdrawn-unknown, withdrawn-known}
+use Rattle.deadpool_gate.proofs.GateAnswers.{withdrawn-unknown, withdrawn-known}
 use Rattle.deadpool_unmanaged.proofs.CoreQueues.{adds-same, adds-without, IsSound-adds}
 use Rattle.deadpool_unmanaged.proofs.state.PoolState.add_cancel.Goals as goal
 

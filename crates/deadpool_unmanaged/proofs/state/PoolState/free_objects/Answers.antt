@@ -1,5 +1,5 @@
 use Rattle.std.proofs.Common.{◌∙◌, arith}
-use Rattle.deadpool_parts.proofs.GateTickets.{granted_count-length}
+use Rattle.deadpool_gate.proofs.GateTickets.{granted_count-length}
 use Rattle.deadpool_unmanaged.proofs.state.PoolState.free_objects.Goals as goal
 
 pub returns : goal.returns

@@ -1,5 +1,5 @@
 use Rattle.std.proofs.Common.{not, ap, refl, sym, ◌∙◌}
-use Rattle.deadpool_parts.proofs.GateAnswers.{entered-waiting, unlisted}
+use Rattle.deadpool_gate.proofs.GateAnswers.{entered-waiting, unlisted}
 use Rattle.deadpool_unmanaged.proofs.CoreQueues.{gets-joined, queue-full}
 use Rattle.deadpool_unmanaged.proofs.state.PoolState.get_enter.Goals as goal
 

@@ -3,7 +3,7 @@ use Rattle.std.specs.List.{slice_get}
 use Rattle.std.specs.Option.{option_map}
 use Rattle.std.proofs.lemmas.List.{length-map}
 use Rattle.std.proofs.lemmas.Option.{slice_get_read, slice_get_past, slice_get-map}
-use Rattle.deadpool_parts.proofs.Lists.{set-same}
+use Rattle.deadpool_gate.proofs.Lists.{set-same}
 use Rattle.unmanaged_replay.specs.Image.{party_of}
 use Rattle.unmanaged_replay.specs.declared.moves.Move.TheVariants as move
 use Rattle.unmanaged_replay.specs.declared.moves.Reply.TheVariants as reply

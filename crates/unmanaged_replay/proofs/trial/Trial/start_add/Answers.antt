@@ -1,5 +1,5 @@
 use Rattle.std.proofs.Common.{◌≡◌, nat_lt, true, false, rules, length, vec_len, arith, map, eq-eqb}
-use Rattle.deadpool_parts.specs.Numbers.{largest_usize}
+use Rattle.deadpool_gate.specs.Numbers.{largest_usize}
 use Rattle.std.proofs.lemmas.Bool.{lt-ltb, le-ltb}
 use Rattle.std.proofs.lemmas.List.{length-map}
 use Rattle.unmanaged_replay.specs.Image.{party_of}

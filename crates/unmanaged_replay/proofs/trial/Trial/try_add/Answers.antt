@@ -1,5 +1,5 @@
 use Rattle.std.proofs.Common.{arith, eq-eqb}
-use Rattle.deadpool_parts.specs.Numbers.{largest_usize}
+use Rattle.deadpool_gate.specs.Numbers.{largest_usize}
 use Rattle.unmanaged_replay.specs.declared.moves.Move.TheVariants as move
 use Rattle.unmanaged_replay.specs.declared.moves.Reply.TheVariants as reply
 use Rattle.unmanaged_replay.proofs.OtherMoves.{at_once, tried_add}

@@ -1,0 +1,16 @@
+pub mod Counts
+pub mod GateAnswers
+pub mod GateApart
+pub mod GateAsked
+pub mod GateFields
+pub mod GateLine
+pub mod GateLinks
+pub mod GateListed
+pub mod GatePlaces
+pub mod GateTickets
+pub mod GateWaking
+pub mod Lists
+pub mod Numbers
+pub mod Orders
+pub mod Owners
+pub mod Pointers
