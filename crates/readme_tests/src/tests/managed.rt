@@ -79,8 +79,17 @@ where
     };
     let builder = PoolBuilder::new(rt.alloc(), manager, NoTime).max_size(1);
     let pool: Counters<R, G, N, O> = builder.build(going, creations, outside, rt)?;
+    second_waits(&rt, &pool)
+}
 
-    let (first, second) = (MockTask::new(&rt)?, MockTask::new(&rt)?);
+fn second_waits<R, G: Ledger, N: Ledger, O: Ledger>(
+    rt: &R,
+    pool: &Counters<R, G, N, O>,
+) -> Result<(), Fail>
+where
+    R: Wait + RandomSource + AllocGlobal + Abort + Drop,
+{
+    let (first, second) = (MockTask::new(rt)?, MockTask::new(rt)?);
     let Poll::Ready(Ok(mut object)) = first.poll(&mut pool.get()) else {
         return Err(Fail::new("no object"));
     };
@@ -88,13 +97,13 @@ where
 
     // There is one object, so the second get waits until it comes back.
     let mut get = pool.get();
-    assert!(rt; second.poll(&mut get).is_pending());
+    let is_pending = second.poll(&mut get).is_pending();
     drop(object);
-    assert!(rt; second.is_woken());
+    let is_woken = second.is_woken();
     let Poll::Ready(Ok(object)) = second.poll(&mut get) else {
         return Err(Fail::new("no object"));
     };
-    assert_eq!(rt; *object, 41);
+    assert!(rt; is_pending && is_woken && *object == 41);
     Ok(())
 }
 

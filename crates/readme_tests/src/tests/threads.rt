@@ -75,6 +75,17 @@ where
     true
 }
 
+// The numbers leave the pool, and are added up.
+fn total<R: Wait + Drop, G: Ledger, N: Ledger, O: Ledger>(
+    pool: &Numbers<R, G, N, O>,
+) -> Result<u64, Fail> {
+    let mut total = 0u64;
+    for number in pool.retain(|_number, _metrics| false)?.removed {
+        total = total.saturating_add(number);
+    }
+    Ok(total)
+}
+
 fn share<R, G, N, O>(rt: R, going: Blank, creations: Blank, outside: Blank) -> Result<(), Fail>
 where
     R: Wait + Threads + RandomSource + AllocGlobal + Abort + Drop + Copy + Send + Sync + 'static,
@@ -95,11 +106,7 @@ where
     for thread in threads {
         assert!(rt; thread.join(&rt));
     }
-    let mut total = 0u64;
-    for number in pool.retain(|_number, _metrics| false)?.removed {
-        total = total.saturating_add(number);
-    }
-    assert_eq!(rt; total, 400);
+    assert!(rt; total(&pool)? == 400);
     Ok(())
 }
 

@@ -5,6 +5,7 @@ use deadpool::replay::{Move, Reply, Trial};
 use futures::task::{Context, Poll};
 use futures::test::MockTask;
 use std::cell::Cell;
+use std::random::RandomSource;
 use std::test::Fail;
 
 /// Makes the numbers from 0 on.
@@ -43,32 +44,31 @@ impl Manager for Counter {
     }
 }
 
+// The replies to two moves.
+fn play<R: RandomSource + AllocGlobal>(
+    rt: &R,
+    trial: &mut Trial<Counter, NoHook, NoHook, ()>,
+    moves: [Move<u64>; 2],
+) -> Result<Vec<Reply<u64, ()>>, Fail> {
+    let task = MockTask::new(rt)?;
+    let moves = Vec::from_array(rt.alloc(), moves)?;
+    task.enter(|cx| trial.run(moves, cx))
+        .map_err(|_| Fail::new("no memory for the replies"))
+}
+
 #[test]
 fn an_object_goes_out_and_comes_back(rt: HostRuntime) -> Result<(), Fail> {
     let manager = Counter { next: Cell::new(0) };
     let builder = PoolBuilder::<_, NoHook, NoHook, _>::new(rt.alloc(), manager, ());
     let mut trial = Trial::new(builder.max_size(1), 8, 0)?;
-    let task = MockTask::new(&rt)?;
 
-    let moves = vec![in rt.alloc(); Move::Start(None), Move::Poll(0, Moment(0))]?;
-    let Ok(replies) = task.enter(|cx| trial.run(moves, cx)) else {
-        return Err(Fail::new("no memory for the replies"));
-    };
-    let mut replies = replies.into_iter();
-    assert!(rt; matches!(replies.next(), Some(Reply::Started(0))));
-    assert!(rt; matches!(replies.next(), Some(Reply::Object(0))));
-    let Some(value) = trial.value(0) else {
-        return Err(Fail::new("the object is not out"));
-    };
-    assert_eq!(rt; *value, 0);
+    let moves = [Move::Start(None), Move::Poll(0, Moment(0))];
+    let replies = play(&rt, &mut trial, moves)?;
+    assert!(rt; matches!(replies.as_slice(), [Reply::Started(0), Reply::Object(0)]));
+    assert!(rt; matches!(trial.value(0), Some(0)));
 
-    let moves = vec![in rt.alloc(); Move::Back(0), Move::Status]?;
-    let Ok(replies) = task.enter(|cx| trial.run(moves, cx)) else {
-        return Err(Fail::new("no memory for the replies"));
-    };
-    let mut replies = replies.into_iter();
-    assert!(rt; matches!(replies.next(), Some(Reply::Kept)));
+    let replies = play(&rt, &mut trial, [Move::Back(0), Move::Status])?;
     // max_size 1, size 1, available 1, waiting 0
-    assert!(rt; matches!(replies.next(), Some(Reply::Stands(_))));
+    assert!(rt; matches!(replies.as_slice(), [Reply::Kept, Reply::Stands(_)]));
     Ok(())
 }
