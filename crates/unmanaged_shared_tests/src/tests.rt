@@ -6,6 +6,7 @@ mod draw;
 mod drops;
 mod lines;
 mod player;
+mod polls;
 mod rows;
 mod scripts;
 mod served;

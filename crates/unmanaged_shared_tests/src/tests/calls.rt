@@ -1,9 +1,9 @@
 //! Each call of a pool.
 use super::clock::{Still, Watch};
+use super::polls::{error_of, get_error, get_waits, is_added, poll_add, poll_remove, removed};
 use super::{Host, expect, stands};
 use deadpool_unmanaged::{Moment, PoolConfig, PoolError, Runtime};
 use deadpool_unmanaged_shared::{Add, Get, Object, Pool, Remove};
-use futures::task::Poll;
 use futures::test::MockTask;
 use std::alloc::AllocError;
 use std::test::Fail;
@@ -19,35 +19,17 @@ fn numbers<R: Host>(rt: R, max_size: usize) -> Result<Numbers<R>, Fail> {
 
 // Whether an add ends in its first poll.
 fn adds<R: Host>(task: &MockTask, pool: &Numbers<R>, value: u64) -> bool {
-    is_added(task.poll(&mut pool.add(value)))
-}
-
-fn is_added(polled: Poll<Result<(), (u64, PoolError)>>) -> bool {
-    matches!(polled, Poll::Ready(Ok(())))
+    is_added(task, &mut pool.add(value))
 }
 
 // What a removal gives in its first poll.
 fn removes<R: Host>(task: &MockTask, pool: &Numbers<R>, wait: Option<Duration>) -> Option<u64> {
-    removed(task.poll(&mut pool.timeout_remove(wait)))
-}
-
-fn removed(polled: Poll<Result<u64, PoolError>>) -> Option<u64> {
-    match polled {
-        Poll::Ready(Ok(value)) => Some(value),
-        _ => None,
-    }
+    removed(poll_remove(task, &mut pool.timeout_remove(wait)))
 }
 
 // What a get comes to in its first poll, if it gives no object.
 fn fails<R: Host>(task: &MockTask, pool: &Numbers<R>, wait: Option<Duration>) -> Option<PoolError> {
-    cause_of(&task.poll(&mut pool.timeout_get(wait)))
-}
-
-fn cause_of<T>(polled: &Poll<Result<T, PoolError>>) -> Option<PoolError> {
-    match polled {
-        Poll::Ready(Err(cause)) => Some(*cause),
-        _ => None,
-    }
+    get_error(task, &mut pool.timeout_get(wait))
 }
 
 #[test]
@@ -62,8 +44,12 @@ fn is_emptied<R: Host>(
 ) -> Result<(), Fail> {
     expect("the status", pool.status(), stands(3, 3, 3, 0))?;
     for (value, available) in [(13, 2), (12, 1), (11, 0)] {
-        expect("the object", get_and_keep(pool, kept)?, value)?;
-        expect("the status", pool.status(), stands(3, 3, available, 0))?;
+        let got = get_and_keep(pool, kept)?;
+        expect(
+            "the object, the status",
+            (got, pool.status()),
+            (value, stands(3, 3, available, 0)),
+        )?;
     }
     Ok(())
 }
@@ -100,32 +86,51 @@ fn is_closed_while_it_waits<R: Host>(
     pool: &Numbers<R>,
     waits: &mut Get<u64, Still, R>,
 ) -> Result<(), Fail> {
-    expect("pending", task.poll(waits).is_pending(), true)?;
-    expect("closed", pool.is_closed(), false)?;
-    expect("the status", pool.status(), stands(1, 1, 0, 1))?;
+    let is_pending = get_waits(task, waits);
+    let before = (pool.is_closed(), pool.status());
     pool.close();
-    expect("closed", pool.is_closed(), true)?;
+    let after = (pool.is_closed(), get_error(task, waits));
     expect(
-        "the get",
-        cause_of(&task.poll(waits)),
-        Some(PoolError::Closed),
+        "pending, closed and the status before, closed and the get after",
+        (is_pending, before, after),
+        (
+            true,
+            (false, stands(1, 1, 0, 1)),
+            (true, Some(PoolError::Closed)),
+        ),
     )
 }
 
 fn refuses_gets_and_adds<R: Host>(task: &MockTask, pool: &Numbers<R>) -> Result<(), Fail> {
     let closed = Some(PoolError::Closed);
-    expect("a get", fails(task, pool, None), closed)?;
-    expect("a get", fails(task, pool, Some(Duration::ZERO)), closed)?;
-    expect("a get", pool.try_get().err(), closed)?;
-    expect("an add", pool.try_add(8), Err((8, PoolError::Closed)))?;
-    expect("the status", pool.status(), stands(1, 1, 0, 0))
+    let waits = fails(task, pool, None);
+    let ends = fails(task, pool, Some(Duration::ZERO));
+    let tries = pool.try_get().err();
+    expect(
+        "three gets, an add, the status",
+        ((waits, ends, tries), pool.try_add(8), pool.status()),
+        (
+            (closed, closed, closed),
+            Err((8, PoolError::Closed)),
+            stands(1, 1, 0, 0),
+        ),
+    )
 }
 
 fn refuses_what_came_back<R: Host>(pool: &Numbers<R>) -> Result<(), Fail> {
-    expect("closed", pool.is_closed(), true)?;
-    expect("a get", pool.try_get().err(), Some(PoolError::Closed))?;
-    expect("a removal", pool.try_remove(), Err(PoolError::Closed))?;
-    expect("the status", pool.status(), stands(1, 0, 0, 0))
+    let is_closed = pool.is_closed();
+    let get = pool.try_get().err();
+    let removal = pool.try_remove();
+    expect(
+        "closed, a get, a removal, the status",
+        (is_closed, get, removal, pool.status()),
+        (
+            true,
+            Some(PoolError::Closed),
+            Err(PoolError::Closed),
+            stands(1, 0, 0, 0),
+        ),
+    )
 }
 
 #[test]
@@ -153,8 +158,12 @@ fn add<R: Host>(
     ends: bool,
     size: usize,
 ) -> Result<(), Fail> {
-    expect("the add ends", adds(task, pool, value), ends)?;
-    expect("the size", pool.status().size, size)
+    let is_added = adds(task, pool, value);
+    expect(
+        "the add ends, the size",
+        (is_added, pool.status().size),
+        (ends, size),
+    )
 }
 
 // What a removal gives in its first poll, and how many objects there are then.
@@ -164,8 +173,12 @@ fn remove<R: Host>(
     value: u64,
     size: usize,
 ) -> Result<(), Fail> {
-    expect("the removal", removes(task, pool, None), Some(value))?;
-    expect("the size", pool.status().size, size)
+    let removed = removes(task, pool, None);
+    expect(
+        "the removal, the size",
+        (removed, pool.status().size),
+        (Some(value), size),
+    )
 }
 
 #[test]
@@ -190,8 +203,12 @@ fn add_at_once<R: Host>(
     reply: Result<(), (u64, PoolError)>,
     size: usize,
 ) -> Result<(), Fail> {
-    expect("the add", pool.try_add(value), reply)?;
-    expect("the size", pool.status().size, size)
+    let came = pool.try_add(value);
+    expect(
+        "the add, the size",
+        (came, pool.status().size),
+        (reply, size),
+    )
 }
 
 fn remove_at_once<R: Host>(
@@ -199,8 +216,12 @@ fn remove_at_once<R: Host>(
     reply: Result<u64, PoolError>,
     size: usize,
 ) -> Result<(), Fail> {
-    expect("the removal", pool.try_remove(), reply)?;
-    expect("the size", pool.status().size, size)
+    let came = pool.try_remove();
+    expect(
+        "the removal, the size",
+        (came, pool.status().size),
+        (reply, size),
+    )
 }
 
 #[test]
@@ -215,12 +236,23 @@ fn adds_when_there_is_room<R: Host>(
     pool: &Numbers<R>,
     add: &mut Add<u64, Still, R>,
 ) -> Result<(), Fail> {
-    expect("pending", task.poll(add).is_pending(), true)?;
-    expect("a removal", pool.try_remove(), Ok(1))?;
-    expect("added", is_added(task.poll(add)), true)?;
-    expect("pending", task.poll(add).is_pending(), true)?;
-    expect("the size", pool.status().size, 1)?;
-    expect("a removal", pool.try_remove(), Ok(2))
+    let is_pending = poll_add(task, add).is_pending();
+    let removed = pool.try_remove();
+    let is_added = is_added(task, add);
+    let is_over = poll_add(task, add).is_pending();
+    let size = pool.status().size;
+    expect(
+        "pending, a removal, added, pending, the size, a removal",
+        (
+            is_pending,
+            removed,
+            is_added,
+            is_over,
+            size,
+            pool.try_remove(),
+        ),
+        (true, Ok(1), true, true, 1, Ok(2)),
+    )
 }
 
 #[test]
@@ -233,15 +265,14 @@ fn a_clone_of_a_pool_of_one_item(rt: HostRuntime) -> Result<(), Fail> {
 }
 
 fn hands_its_item_over<R: Host>(task: &MockTask, pool: &Numbers<R>) -> Result<(), Fail> {
+    let first = removes(task, pool, Some(Duration::ZERO));
+    let is_added = adds(task, pool, 8);
+    let second = removed(poll_remove(task, &mut pool.remove()));
     expect(
-        "a removal",
-        removes(task, pool, Some(Duration::ZERO)),
-        Some(7),
-    )?;
-    expect("the add ends", adds(task, pool, 8), true)?;
-    let value = removed(task.poll(&mut pool.remove()));
-    expect("a removal", value, Some(8))?;
-    expect("the status", pool.status(), stands(1, 0, 0, 0))
+        "a removal, the add ends, a removal, the status",
+        (first, is_added, second, pool.status()),
+        (Some(7), true, Some(8), stands(1, 0, 0, 0)),
+    )
 }
 
 #[test]
@@ -251,11 +282,19 @@ fn an_object_is_written_to(rt: HostRuntime) -> Result<(), Fail> {
 }
 
 fn is_written_to<R: Host>(pool: &Numbers<R>) -> Result<(), Fail> {
-    expect("the status", pool.status(), stands(4, 0, 0, 0))?;
-    expect("the add", pool.try_add(40), Ok(()))?;
+    let before = pool.status();
+    expect(
+        "the status, the add",
+        (before, pool.try_add(40)),
+        (stands(4, 0, 0, 0), Ok(())),
+    )?;
     writes(pool, 41)?;
-    expect("read and taken", writes_and_takes(pool, 42)?, (41, 42))?;
-    expect("the status", pool.status(), stands(4, 0, 0, 0))
+    let values = writes_and_takes(pool, 42)?;
+    expect(
+        "read and taken, the status",
+        (values, pool.status()),
+        ((41, 42), stands(4, 0, 0, 0)),
+    )
 }
 
 fn writes<R: Host>(pool: &Numbers<R>, value: u64) -> Result<(), Fail> {
@@ -274,10 +313,9 @@ fn writes_and_takes<R: Host>(pool: &Numbers<R>, value: u64) -> Result<(u64, u64)
 
 #[test]
 fn a_limit_without_memory(rt: HostRuntime) -> Result<(), Fail> {
-    assert!(rt; finds_no_memory(rt, usize::MAX));
-    let pool = numbers(rt, 1)?;
-    assert_eq!(rt; pool.try_add(1), Ok(()));
-    Ok(())
+    let is_refused = finds_no_memory(rt, usize::MAX);
+    let added = numbers(rt, 1)?.try_add(1);
+    expect("refused, added", (is_refused, added), (true, Ok(())))
 }
 
 fn finds_no_memory<R: Host>(rt: R, max_size: usize) -> bool {
@@ -310,14 +348,17 @@ fn a_wait_needs_a_runtime(rt: HostRuntime) -> Result<(), Fail> {
 
 fn refuses_what_is_configured<R: Host>(task: &MockTask, pool: &Watching<R>) -> Result<(), Fail> {
     wants_a_runtime(task, &mut pool.get())?;
-    let cause = cause_of(&task.poll(&mut pool.remove()));
+    let cause = error_of(&poll_remove(task, &mut pool.remove()));
     expect("a removal", cause, Some(PoolError::NoRuntimeSpecified))
 }
 
 fn wants_a_runtime<R: Host>(task: &MockTask, get: &mut Get<u64, Watch, R>) -> Result<(), Fail> {
-    let cause = cause_of(&task.poll(get));
-    expect("a get", cause, Some(PoolError::NoRuntimeSpecified))?;
-    expect("pending", task.poll(get).is_pending(), true)
+    let cause = get_error(task, get);
+    expect(
+        "a get, pending",
+        (cause, get_waits(task, get)),
+        (Some(PoolError::NoRuntimeSpecified), true),
+    )
 }
 
 fn refuses_what_is_asked_for<R: Host>(task: &MockTask, pool: &Numbers<R>) -> Result<(), Fail> {
@@ -342,19 +383,20 @@ fn waits_as_configured<R: Host>(
     pool: &Watching<R>,
     get: &mut Get<u64, Watch, R>,
 ) -> Result<(), Fail> {
-    expect("pending", task.poll(get).is_pending(), true)?;
-    expect("asked", watch.asked(), 1_000_000)?;
-    expect("the status", pool.status(), stands(1, 0, 0, 1))?;
+    let before = (get_waits(task, get), watch.asked(), pool.status());
     watch.set(Moment(999_999));
-    expect("pending", task.poll(get).is_pending(), true)?;
+    let is_pending = get_waits(task, get);
     watch.set(Moment(1_000_000));
+    let after = (get_error(task, get), pool.status(), get_waits(task, get));
     expect(
-        "the get",
-        cause_of(&task.poll(get)),
-        Some(PoolError::Timeout),
-    )?;
-    expect("the status", pool.status(), stands(1, 0, 0, 0))?;
-    expect("pending", task.poll(get).is_pending(), true)
+        "pending, asked and the status, pending, the get, the status and pending",
+        (before, is_pending, after),
+        (
+            (true, 1_000_000, stands(1, 0, 0, 1)),
+            true,
+            (Some(PoolError::Timeout), stands(1, 0, 0, 0), true),
+        ),
+    )
 }
 
 #[test]
@@ -373,12 +415,13 @@ fn waits_as_asked<R: Host>(
     removal: &mut Remove<u64, Watch, R>,
     endless: &mut Get<u64, Watch, R>,
 ) -> Result<(), Fail> {
-    expect("pending", task.poll(endless).is_pending(), true)?;
-    expect("asked", watch.asked(), 0)?;
-    expect("pending", task.poll(removal).is_pending(), true)?;
-    expect("asked", watch.asked(), 2_000_000)?;
+    let first = (get_waits(task, endless), watch.asked());
+    let second = (poll_remove(task, removal).is_pending(), watch.asked());
     watch.set(Moment(2_000_000));
-    let cause = cause_of(&task.poll(removal));
-    expect("the removal", cause, Some(PoolError::Timeout))?;
-    expect("pending", task.poll(endless).is_pending(), true)
+    let cause = error_of(&poll_remove(task, removal));
+    expect(
+        "pending and asked, pending and asked, the removal, pending",
+        (first, second, cause, get_waits(task, endless)),
+        ((true, 0), (true, 2_000_000), Some(PoolError::Timeout), true),
+    )
 }

@@ -1,14 +1,15 @@
 //! Threads that share a pool.
 use super::clock::Still;
 use super::draw::Draw;
-use super::{Host, stands};
+use super::polls::{is_added, poll_get, poll_remove, removed};
+use super::{Host, expect, stands};
 use deadpool_unmanaged::PoolError;
 use deadpool_unmanaged_shared::{Get, Object, Pool};
 use futures::executor::block_on;
-use futures::task::Poll;
 use futures::test::MockTask;
+use std::alloc::AllocError;
 use std::test::Fail;
-use std::thread;
+use std::thread::{self, JoinHandle, Threads};
 
 type Numbers<R> = Pool<u64, Still, R>;
 
@@ -23,7 +24,7 @@ fn gives_up_a_get<R: Host>(rt: &R, pool: &Numbers<R>, draw: &mut Draw) {
 
 fn poll_once<R: Host>(rt: &R, get: &mut Get<u64, Still, R>) {
     if let Ok(task) = MockTask::new(rt) {
-        drop(task.poll(get));
+        drop(poll_get(&task, get));
     }
 }
 
@@ -57,24 +58,59 @@ fn counts_often<R: Host>(rt: R, pool: Numbers<R>, seed: u64) -> bool {
     (0..10).all(|_job| counts(&rt, &pool, &mut draw))
 }
 
-#[test]
-fn a_hundred_jobs_over_ten_threads(rt: HostRuntime) -> Result<(), Fail> {
-    let pool = Pool::from_items(rt.alloc(), [0u64, 0, 0].into_iter(), Still, rt)?;
+// A thread of ten jobs.
+fn start_counting<R: Host + Threads + 'static>(
+    rt: R,
+    pool: Numbers<R>,
+    seed: u64,
+) -> Result<JoinHandle<bool>, Fail> {
+    Ok(thread::spawn(&rt, move || counts_often(rt, pool, seed))?)
+}
+
+fn start_ten<R: Host + Threads + 'static>(
+    rt: R,
+    pool: &Numbers<R>,
+) -> Result<Vec<JoinHandle<bool>>, Fail> {
     let mut threads = Vec::new(rt.alloc());
     for seed in 0..10 {
-        let pool = pool.clone()?;
-        threads.push(thread::spawn(&rt, move || counts_often(rt, pool, seed))?)?;
+        threads.push(start_counting(rt, pool.clone()?, seed)?)?;
     }
+    Ok(threads)
+}
+
+// Whether each thread did all that it was to do.
+fn all_end_well<R: Host + Threads + 'static>(rt: R, threads: Vec<JoinHandle<bool>>) -> bool {
+    let mut are_well = true;
     for thread in threads {
-        assert!(rt; thread.join(&rt));
+        are_well &= thread.join(&rt);
     }
-    assert_eq!(rt; pool.status(), stands(3, 3, 3, 0));
+    are_well
+}
+
+fn sum_of_three<R: Host>(pool: &Numbers<R>) -> Result<u64, PoolError> {
     let mut sum = 0u64;
     for _object in 0..3 {
         sum = sum.saturating_add(pool.try_remove()?);
     }
-    assert_eq!(rt; sum, 100);
-    Ok(())
+    Ok(sum)
+}
+
+// A hundred were counted, and all objects are back.
+fn has_counted_a_hundred<R: Host>(pool: &Numbers<R>) -> Result<(), Fail> {
+    let status = pool.status();
+    expect(
+        "the status, the sum",
+        (status, sum_of_three(pool)),
+        (stands(3, 3, 3, 0), Ok(100)),
+    )
+}
+
+#[test]
+fn a_hundred_jobs_over_ten_threads(rt: HostRuntime) -> Result<(), Fail> {
+    let pool = Pool::from_items(rt.alloc(), [0u64, 0, 0].into_iter(), Still, rt)?;
+    let threads = start_ten(rt, &pool)?;
+    expect("all end well", all_end_well(rt, threads), true)?;
+    has_counted_a_hundred(&pool)
 }
 
 const TIMES: u64 = 1_000;
@@ -85,9 +121,9 @@ fn adds_at_once<R: Host>(rt: &R, pool: &Numbers<R>, value: u64, draw: &mut Draw)
         return false;
     };
     let mut add = pool.add(value);
-    let polled = task.poll(&mut add);
+    let is_added = is_added(&task, &mut add);
     linger(draw);
-    matches!(polled, Poll::Ready(Ok(())))
+    is_added
 }
 
 fn adds_all<R: Host>(rt: R, pool: Numbers<R>, first: u64) -> bool {
@@ -116,16 +152,9 @@ fn removes_at_once<R: Host>(rt: &R, pool: &Numbers<R>, draw: &mut Draw) -> Optio
         return None;
     };
     let mut removal = pool.remove();
-    let polled = task.poll(&mut removal);
+    let polled = poll_remove(&task, &mut removal);
     linger(draw);
     removed(polled)
-}
-
-fn removed(polled: Poll<Result<u64, PoolError>>) -> Option<u64> {
-    match polled {
-        Poll::Ready(Ok(value)) => Some(value),
-        _ => None,
-    }
 }
 
 fn removes<R: Host>(rt: &R, pool: &Numbers<R>, draw: &mut Draw) -> Option<u64> {
@@ -155,31 +184,93 @@ fn removes_all<R: Host>(rt: R, pool: Numbers<R>, seed: u64) -> Vec<u64> {
     values
 }
 
-#[test]
-fn adders_against_removers(rt: HostRuntime) -> Result<(), Fail> {
-    let pool: Numbers<_> = Pool::new(rt.alloc(), 2, Still, rt)?;
-    let mut adders = Vec::new(rt.alloc());
-    let mut removers = Vec::new(rt.alloc());
-    for first in [0, TIMES, 2 * TIMES, 3 * TIMES] {
-        let (left, right) = (pool.clone()?, pool.clone()?);
-        adders.push(thread::spawn(&rt, move || adds_all(rt, left, first))?)?;
-        removers.push(thread::spawn(&rt, move || removes_all(rt, right, first + 7))?)?;
+const FIRSTS: [u64; 4] = [0, TIMES, 2 * TIMES, 3 * TIMES];
+
+fn start_adding<R: Host + Threads + 'static>(
+    rt: R,
+    pool: Numbers<R>,
+    first: u64,
+) -> Result<JoinHandle<bool>, Fail> {
+    Ok(thread::spawn(&rt, move || adds_all(rt, pool, first))?)
+}
+
+fn start_removing<R: Host + Threads + 'static>(
+    rt: R,
+    pool: Numbers<R>,
+    seed: u64,
+) -> Result<JoinHandle<Vec<u64>>, Fail> {
+    Ok(thread::spawn(&rt, move || removes_all(rt, pool, seed))?)
+}
+
+// Threads that add and threads that remove, which are started by turns.
+#[derive(Drop)]
+struct Crowd {
+    adders: Vec<JoinHandle<bool>>,
+    removers: Vec<JoinHandle<Vec<u64>>>,
+}
+
+impl Crowd {
+    fn start_both<R: Host + Threads + 'static>(
+        &mut self,
+        rt: R,
+        pool: &Numbers<R>,
+        first: u64,
+    ) -> Result<(), Fail> {
+        self.adders.push(start_adding(rt, pool.clone()?, first)?)?;
+        self.removers.push(start_removing(rt, pool.clone()?, first.saturating_add(7))?)?;
+        Ok(())
     }
-    for adder in adders {
-        assert!(rt; adder.join(&rt));
+}
+
+fn start_eight<R: Host + Threads + 'static>(rt: R, pool: &Numbers<R>) -> Result<Crowd, Fail> {
+    let mut crowd = Crowd {
+        adders: Vec::new(rt.alloc()),
+        removers: Vec::new(rt.alloc()),
+    };
+    for first in FIRSTS {
+        crowd.start_both(rt, pool, first)?;
     }
+    Ok(crowd)
+}
+
+// What all of them removed.
+fn all_removed<R: Host + Threads + 'static>(
+    rt: R,
+    removers: Vec<JoinHandle<Vec<u64>>>,
+) -> Result<Vec<u64>, AllocError> {
     let mut values = Vec::new(rt.alloc());
     for remover in removers {
         values.append(&mut remover.join(&rt))?;
     }
+    Ok(values)
+}
+
+// Sorts the values, and sees each number once.
+fn has_each_once(values: &mut Vec<u64>) -> Result<(), Fail> {
     values.sort()?;
-    assert_eq!(rt; values.len() as u64, 4 * TIMES);
-    assert!(rt;
-        values
-            .iter()
-            .zip(0..)
-            .all(|(value, number)| *value == number)
-    );
-    assert_eq!(rt; pool.status(), stands(2, 0, 0, 0));
-    Ok(())
+    let are_all = values
+        .iter()
+        .zip(0..)
+        .all(|(value, number)| *value == number);
+    expect(
+        "how many, in order",
+        (values.len() as u64, are_all),
+        (4 * TIMES, true),
+    )
+}
+
+#[test]
+fn adders_against_removers(rt: HostRuntime) -> Result<(), Fail> {
+    let pool: Numbers<_> = Pool::new(rt.alloc(), 2, Still, rt)?;
+    passes_each_number_on(rt, &pool)?;
+    expect("the status", pool.status(), stands(2, 0, 0, 0))
+}
+
+fn passes_each_number_on<R: Host + Threads + 'static>(
+    rt: R,
+    pool: &Numbers<R>,
+) -> Result<(), Fail> {
+    let Crowd { adders, removers } = start_eight(rt, pool)?;
+    expect("all end well", all_end_well(rt, adders), true)?;
+    has_each_once(&mut all_removed(rt, removers)?)
 }

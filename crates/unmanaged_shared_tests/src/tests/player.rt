@@ -2,6 +2,7 @@
 use super::Host;
 use super::clock::Watch;
 use super::drops::{Drops, Tracked};
+use super::polls::{Added, Got, poll_add, poll_get};
 use deadpool_unmanaged::{Moment, PoolConfig, PoolError};
 use deadpool_unmanaged_shared::{Add, Get, Object, Pool};
 use futures::task::Poll;
@@ -30,6 +31,18 @@ impl Item {
 }
 
 type Numbered<R> = Object<Item, Watch, R>;
+
+// What comes with a reply.
+#[derive(Drop)]
+enum Gain<R: Host> {
+    Nothing,
+    Object(Numbered<R>),
+    // It was taken, or handed back.
+    Item(Item),
+}
+
+// A reply, and what comes with it.
+type Outcome<R> = (Reply<u64>, Gain<R>);
 
 // A get or an add that was not given up.
 #[derive(Drop)]
@@ -66,23 +79,37 @@ pub struct Player<R: Host> {
     pools: Vec<Pool<Item, Watch, R>>,
     parties: Vec<Party<R>>,
     out: Vec<Numbered<R>>,
+    // What was taken or handed back. No move drops it.
+    left: Vec<Item>,
     next: usize,
     // Whom the last move woke.
     woken: String,
 }
 
+// The first handle of a pool that looks at this watch.
+fn one_handle<R: Host>(
+    rt: R,
+    config: &PoolConfig,
+    watch: &Watch,
+) -> Result<Vec<Pool<Item, Watch, R>>, Fail> {
+    let pool = Pool::from_config(rt.alloc(), config, watch.again()?, rt)?;
+    Ok(vec![in rt.alloc(); pool]?)
+}
+
 impl<R: Host> Player<R> {
     /// A pool with one handle, and nothing in it. The drops of its objects are counted here.
     pub fn new(rt: R, config: &PoolConfig, drops: &Drops) -> Result<Self, Fail> {
+        let drops = drops.again()?;
         let watch = Watch::new(rt.alloc())?;
-        let pool = Pool::from_config(rt.alloc(), config, watch.again()?, rt)?;
+        let pools = one_handle(rt, config, &watch)?;
         Ok(Player {
             rt,
             watch,
-            drops: drops.again()?,
-            pools: vec![in rt.alloc(); pool]?,
+            drops,
+            pools,
             parties: Vec::new(rt.alloc()),
             out: Vec::new(rt.alloc()),
+            left: Vec::new(rt.alloc()),
             next: 0,
             woken: String::new(rt.alloc()),
         })
@@ -91,6 +118,11 @@ impl<R: Host> Player<R> {
     /// How many objects were made.
     pub fn made(&self) -> u64 {
         self.next as u64
+    }
+
+    /// How many objects were dropped so far.
+    pub fn dropped(&self) -> u64 {
+        self.drops.count()
     }
 
     /// How many gets and adds were started.
@@ -115,6 +147,14 @@ impl<R: Host> Player<R> {
             .iter()
             .find(|object| object.number == number)
             .map(|object| object.value)
+    }
+
+    /// What value the object has that a reply hands out.
+    pub fn value_in(&self, reply: &Reply<u64>) -> Option<u64> {
+        match reply {
+            Reply::Object(number) => self.value(*number),
+            _ => None,
+        }
     }
 
     /// Of those that wait, whom the last move woke: a space and a number for each.
@@ -148,7 +188,7 @@ impl<R: Host> Player<R> {
             Move::TryAdd(value) => self.try_add(value),
             Move::Cancel(party) => Ok(self.cancel(party)),
             Move::Back(number) => Ok(self.back(number)),
-            Move::Take(number) => Ok(self.take(number)),
+            Move::Take(number) => self.take(number),
             Move::Close => Ok(self.close()),
             Move::Status => Ok(self.status()),
             Move::Clone => self.clone_handle(),
@@ -158,32 +198,30 @@ impl<R: Host> Player<R> {
     }
 
     fn start_get(&mut self, wait: Option<Duration>) -> Result<Reply<u64>, Fail> {
-        let task = MockTask::new(&self.rt)?;
         match self.pools.last() {
             None => Ok(Reply::NoHandle),
             Some(pool) => {
                 let get = pool.timeout_get(wait);
-                self.start(task, Visitor::Get(get))
+                self.start(Visitor::Get(get))
             }
         }
     }
 
     fn start_add(&mut self, value: u64) -> Result<Reply<u64>, Fail> {
         let number = self.next;
-        let task = MockTask::new(&self.rt)?;
         match self.pools.last() {
             None => Ok(Reply::NoHandle),
             Some(pool) => {
                 let add = pool.add(Item::new(number, value, &self.drops)?);
                 self.next = number.saturating_add(1);
-                self.start(task, Visitor::Add(number, add))
+                self.start(Visitor::Add(number, add))
             }
         }
     }
 
-    fn start(&mut self, task: MockTask, visitor: Visitor<R>) -> Result<Reply<u64>, Fail> {
+    fn start(&mut self, visitor: Visitor<R>) -> Result<Reply<u64>, Fail> {
         let number = self.parties.len();
-        self.parties.push(Party::new(task, visitor))?;
+        self.parties.push(Party::new(&self.rt, visitor)?)?;
         Ok(Reply::Started(number))
     }
 
@@ -192,9 +230,9 @@ impl<R: Host> Player<R> {
         let Some(party) = self.parties.get_mut(party) else {
             return Ok(Reply::NoSuch);
         };
-        let (reply, object) = party.poll();
-        let is_as_told = party.sees(&reply);
-        self.keep(object)?;
+        let outcome = party.poll();
+        let is_as_told = party.sees(&outcome.0);
+        let reply = self.keep(outcome)?;
         if is_as_told {
             Ok(reply)
         } else {
@@ -202,22 +240,21 @@ impl<R: Host> Player<R> {
         }
     }
 
-    fn keep(&mut self, object: Option<Numbered<R>>) -> Result<(), Fail> {
-        if let Some(object) = object {
-            self.out.push(object)?;
+    // Keeps what comes with a reply.
+    fn keep(&mut self, (reply, gain): Outcome<R>) -> Result<Reply<u64>, AllocError> {
+        match gain {
+            Gain::Nothing => (),
+            Gain::Object(object) => self.out.push(object)?,
+            Gain::Item(item) => self.left.push(item)?,
         }
-        Ok(())
+        Ok(reply)
     }
 
     fn try_get(&mut self) -> Result<Reply<u64>, Fail> {
         match self.pools.last().map(|pool| pool.try_get()) {
             None => Ok(Reply::NoHandle),
             Some(Err(cause)) => Ok(Reply::Failed(cause)),
-            Some(Ok(object)) => {
-                let number = object.number;
-                self.out.push(object)?;
-                Ok(Reply::Object(number))
-            }
+            Some(Ok(object)) => Ok(self.keep(with_object(object))?),
         }
     }
 
@@ -226,12 +263,9 @@ impl<R: Host> Player<R> {
         let Some(pool) = self.pools.last() else {
             return Ok(Reply::NoHandle);
         };
-        let item = Item::new(number, value, &self.drops)?;
+        let added = pool.try_add(Item::new(number, value, &self.drops)?);
         self.next = number.saturating_add(1);
-        Ok(match pool.try_add(item) {
-            Ok(()) => Reply::Added(number),
-            Err((item, cause)) => Reply::Refused(cause, item.value),
-        })
+        Ok(self.keep(after_added(number, added))?)
     }
 
     fn cancel(&mut self, party: usize) -> Reply<u64> {
@@ -261,10 +295,13 @@ impl<R: Host> Player<R> {
         }
     }
 
-    fn take(&mut self, number: usize) -> Reply<u64> {
+    fn take(&mut self, number: usize) -> Result<Reply<u64>, Fail> {
         match self.take_out(number) {
-            None => Reply::NoSuch,
-            Some(object) => Reply::Taken(Object::take(object).value),
+            None => Ok(Reply::NoSuch),
+            Some(object) => {
+                let item = Object::take(object);
+                Ok(self.keep((Reply::Taken(item.value), Gain::Item(item)))?)
+            }
         }
     }
 
@@ -312,18 +349,17 @@ impl<R: Host> Player<R> {
 }
 
 impl<R: Host> Party<R> {
-    fn new(task: MockTask, visitor: Visitor<R>) -> Self {
-        Party {
-            task,
+    fn new(rt: &R, visitor: Visitor<R>) -> Result<Self, Fail> {
+        Ok(Party {
+            task: MockTask::new(rt)?,
             visitor: Some(visitor),
             stage: Stage::Unpolled,
-        }
+        })
     }
 
-    // The reply, and the object that it hands out.
-    fn poll(&mut self) -> (Reply<u64>, Option<Numbered<R>>) {
+    fn poll(&mut self) -> Outcome<R> {
         match &mut self.visitor {
-            None => (Reply::NoSuch, None),
+            None => (Reply::NoSuch, Gain::Nothing),
             Some(visitor) => visitor.poll(&self.task),
         }
     }
@@ -369,28 +405,36 @@ impl<R: Host> Party<R> {
 }
 
 impl<R: Host> Visitor<R> {
-    fn poll(&mut self, task: &MockTask) -> (Reply<u64>, Option<Numbered<R>>) {
+    fn poll(&mut self, task: &MockTask) -> Outcome<R> {
         match self {
-            Visitor::Get(get) => after_get(task.poll(get)),
-            Visitor::Add(number, add) => (after_add(*number, task.poll(add)), None),
+            Visitor::Get(get) => after_get(poll_get(task, get)),
+            Visitor::Add(number, add) => after_add(*number, poll_add(task, add)),
         }
     }
 }
 
-fn after_get<R: Host>(
-    polled: Poll<Result<Numbered<R>, PoolError>>,
-) -> (Reply<u64>, Option<Numbered<R>>) {
+fn after_get<R: Host>(polled: Got<Item, Watch, R>) -> Outcome<R> {
     match polled {
-        Poll::Pending => (Reply::Pending, None),
-        Poll::Ready(Err(cause)) => (Reply::Failed(cause), None),
-        Poll::Ready(Ok(object)) => (Reply::Object(object.number), Some(object)),
+        Poll::Pending => (Reply::Pending, Gain::Nothing),
+        Poll::Ready(Err(cause)) => (Reply::Failed(cause), Gain::Nothing),
+        Poll::Ready(Ok(object)) => with_object(object),
     }
 }
 
-fn after_add(number: usize, polled: Poll<Result<(), (Item, PoolError)>>) -> Reply<u64> {
+fn with_object<R: Host>(object: Numbered<R>) -> Outcome<R> {
+    (Reply::Object(object.number), Gain::Object(object))
+}
+
+fn after_add<R: Host>(number: usize, polled: Added<Item>) -> Outcome<R> {
     match polled {
-        Poll::Pending => Reply::Pending,
-        Poll::Ready(Ok(())) => Reply::Added(number),
-        Poll::Ready(Err((item, cause))) => Reply::Refused(cause, item.value),
+        Poll::Pending => (Reply::Pending, Gain::Nothing),
+        Poll::Ready(added) => after_added(number, added),
+    }
+}
+
+fn after_added<R: Host>(number: usize, added: Result<(), (Item, PoolError)>) -> Outcome<R> {
+    match added {
+        Ok(()) => (Reply::Added(number), Gain::Nothing),
+        Err((item, cause)) => (Reply::Refused(cause, item.value), Gain::Item(item)),
     }
 }

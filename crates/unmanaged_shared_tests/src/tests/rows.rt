@@ -1,8 +1,8 @@
 //! Scripts, line by line: each has its reply, and wakes those that it says and no others.
 use super::drops::Drops;
-use super::lines::{line_of, move_of, opening_of};
+use super::lines::{came_of, move_of, opening_of};
 use super::player::Player;
-use super::scripts::{SCRIPTS, Script};
+use super::scripts::SCRIPTS;
 use super::{Host, expect};
 use deadpool_unmanaged::PoolConfig;
 use std::test::Fail;
@@ -18,69 +18,73 @@ fn opened<R: Host>(rt: R, line: &str, drops: &Drops) -> Result<Player<R>, Fail> 
     Player::new(rt, &config, drops)
 }
 
-// Plays a line, and says what came of it.
+// Plays a line, and says what came of it. The line 'dropped' is no move: it asks how many objects were dropped so far.
 fn played<R: Host>(rt: R, player: &mut Player<R>, line: &str) -> Result<String, Fail> {
-    let reply = player.make(move_of(line)?)?;
-    let value = match &reply {
-        Reply::Object(number) => player.value(*number),
-        _ => None,
-    };
-    let mut text = line_of(rt.alloc(), reply, value)?;
-    if !player.woken().is_empty() {
-        let woken = player.woken();
-        write!(text, ", wakes{woken}")?;
+    if line == "dropped" {
+        return Ok(format!(in rt.alloc(); "{}", player.dropped())?);
     }
-    Ok(text)
+    let reply = player.make(move_of(line)?)?;
+    let value = player.value_in(&reply);
+    Ok(came_of(rt.alloc(), reply, value, player.woken())?)
 }
 
-// Plays the lines that have a reply, and compares what comes of each.
+// Plays the lines that have a reply, compares what comes of each, and gives how many objects were made.
 fn plays_lines<R: Host>(
     rt: R,
     player: &mut Player<R>,
     name: &str,
     lines: &str,
-) -> Result<(), Fail> {
+) -> Result<u64, Fail> {
     for line in lines.split('\n') {
         plays_line(rt, player, name, line)?;
     }
-    Ok(())
+    Ok(player.made())
 }
 
 fn plays_line<R: Host>(rt: R, player: &mut Player<R>, name: &str, line: &str) -> Result<(), Fail> {
-    let Some((line, expected)) = line.split_once(" => ") else {
-        return Ok(());
-    };
-    let came = played(rt, player, line)?;
-    if came.as_str() == expected {
+    match line.split_once(" => ") {
+        None => Ok(()),
+        Some((line, expected)) => {
+            let came = played(rt, player, line)?;
+            compare(name, line, came.as_str(), expected)
+        }
+    }
+}
+
+fn compare(name: &str, line: &str, came: &str, expected: &str) -> Result<(), Fail> {
+    if came == expected {
         return Ok(());
     }
     Err(Fail::new(format_args!("{name}: {line}: found {came}, expected {expected}")))
 }
 
-// Plays a script, and gives how many objects it made.
-fn made_by<R: Host>(rt: R, script: &Script, drops: &Drops) -> Result<u64, Fail> {
-    let (name, text) = *script;
+// Plays what follows the name of a script, and gives how many objects it made.
+fn made_by<R: Host>(rt: R, name: &str, text: &str, drops: &Drops) -> Result<u64, Fail> {
     let (first, lines) = text.split_once('\n').unwrap_or((text, ""));
-    let Some(opening) = first.strip_suffix(" => ok") else {
-        return Err(Fail::new("no pool is opened"));
-    };
-    let mut player = opened(rt, opening, drops)?;
-    plays_lines(rt, &mut player, name, lines)?;
-    Ok(player.made())
+    match first.strip_suffix(" => ok") {
+        None => Err(Fail::new("no pool is opened")),
+        Some(opening) => plays_lines(rt, &mut opened(rt, opening, drops)?, name, lines),
+    }
 }
 
-/// Plays a script, and compares what comes of each of its lines. In the end each object was dropped once.
-pub fn plays<R: Host>(rt: R, script: &Script) -> Result<(), Fail> {
+/// Plays a script, whose first line is its name, and compares what comes of each of its lines. In the end each object
+/// was dropped once.
+pub fn plays<R: Host>(rt: R, script: &str) -> Result<(), Fail> {
+    let (name, text) = script.split_once('\n').unwrap_or((script, ""));
     let drops = Drops::new(rt.alloc())?;
-    let made = made_by(rt, script, &drops)?;
-    let (name, _) = *script;
+    let made = made_by(rt, name, text, &drops)?;
     expect(name, drops.count(), made)
+}
+
+/// Plays scripts that stand with a blank line between them.
+pub fn plays_all<R: Host>(rt: R, scripts: &str) -> Result<(), Fail> {
+    for script in scripts.split("\n\n") {
+        plays(rt, script)?;
+    }
+    Ok(())
 }
 
 #[test]
 fn worked_scripts_have_their_replies(rt: HostRuntime) -> Result<(), Fail> {
-    for script in &SCRIPTS {
-        plays(rt, script)?;
-    }
-    Ok(())
+    plays_all(rt, SCRIPTS)
 }

@@ -1,11 +1,11 @@
 //! Random scripts, through a trial and through a pool.
-use super::Host;
 use super::draw::Draw;
 use super::drops::Drops;
 use super::lines::line_of;
 use super::player::Player;
+use super::{Host, expect};
 use deadpool_unmanaged::{Moment, PoolConfig, Runtime};
-use std::process::Abort;
+use std::alloc::AllocError;
 use std::test::Fail;
 use std::time::Duration;
 use unmanaged_replay::{Move, Reply, Trial};
@@ -22,21 +22,12 @@ struct Pair<R: Host> {
     player: Player<R>,
 }
 
-impl<R: Host + Abort> Pair<R> {
+impl<R: Host> Pair<R> {
     fn new(rt: R, draw: &mut Draw, drops: &Drops) -> Result<Self, Fail> {
-        let config = PoolConfig {
-            runtime: if draw.below(2) == 0 {
-                None
-            } else {
-                Some(Runtime::Clock)
-            },
-            ..PoolConfig::new(draw.below(4) as usize)
-        };
-        Ok(Pair {
-            rt,
-            trial: Trial::new(rt.alloc(), config.max_size, config.runtime, MOVES as usize)?,
-            player: Player::new(rt, &config, drops)?,
-        })
+        let config = configuration(draw);
+        let trial = Trial::new(rt.alloc(), config.max_size, config.runtime, MOVES as usize)?;
+        let player = Player::new(rt, &config, drops)?;
+        Ok(Pair { rt, trial, player })
     }
 
     // One of the parties, or the next that would start.
@@ -67,6 +58,16 @@ impl<R: Host + Abort> Pair<R> {
         }
     }
 
+    // Makes all the moves of a script.
+    fn plays(&mut self, draw: &mut Draw) -> Result<(), Fail> {
+        let mut now = 0u64;
+        for _move in 0..MOVES {
+            self.go_on(draw, now)?;
+            now = now.saturating_add(draw.below(3));
+        }
+        Ok(())
+    }
+
     // Makes the next move in both, and sees that reply and status are the same.
     fn go_on(&mut self, draw: &mut Draw, now: u64) -> Result<(), Fail> {
         let mut same = *draw;
@@ -77,22 +78,38 @@ impl<R: Host + Abort> Pair<R> {
     }
 
     fn make(&mut self, next: Move<u64>, again: Move<u64>) -> Result<(), Fail> {
+        let expected = self.tried(next)?;
+        let came = self.played(again)?;
+        expect("a reply", came.as_str(), expected.as_str())
+    }
+
+    // What comes of a move in the trial.
+    fn tried(&mut self, next: Move<u64>) -> Result<String, AllocError> {
         let reply = self.trial.make(next);
-        let value = object_of(&reply).and_then(|number| self.trial.value(number).copied());
-        let expected = line_of(self.rt.alloc(), reply, value)?;
-        let reply = self.player.make(again)?;
-        let value = object_of(&reply).and_then(|number| self.player.value(number));
-        let came = line_of(self.rt.alloc(), reply, value)?;
-        assert_eq!(self.rt; came.as_str(), expected.as_str());
-        Ok(())
+        let value = match &reply {
+            Reply::Object(number) => self.trial.value(*number).copied(),
+            _ => None,
+        };
+        line_of(self.rt.alloc(), reply, value)
+    }
+
+    // What comes of it in the pool.
+    fn played(&mut self, next: Move<u64>) -> Result<String, Fail> {
+        let reply = self.player.make(next)?;
+        let value = self.player.value_in(&reply);
+        Ok(line_of(self.rt.alloc(), reply, value)?)
     }
 }
 
-// The number of the object that a reply hands out.
-fn object_of(reply: &Reply<u64>) -> Option<usize> {
-    match reply {
-        Reply::Object(number) => Some(*number),
-        _ => None,
+// For a few objects, with a clock or without.
+fn configuration(draw: &mut Draw) -> PoolConfig {
+    let runtime = match draw.below(2) {
+        0 => None,
+        _ => Some(Runtime::Clock),
+    };
+    PoolConfig {
+        runtime,
+        ..PoolConfig::new(draw.below(4) as usize)
     }
 }
 
@@ -105,18 +122,18 @@ fn wait(draw: &mut Draw) -> Option<Duration> {
     }
 }
 
-fn plays_as_its_trial<R: Host + Abort>(rt: R, draw: &mut Draw) -> Result<(), Fail> {
+// Plays a script, and gives how many objects it made.
+fn made_by<R: Host>(rt: R, draw: &mut Draw, drops: &Drops) -> Result<u64, Fail> {
+    let mut pair = Pair::new(rt, draw, drops)?;
+    pair.plays(draw)?;
+    Ok(pair.player.made())
+}
+
+// Plays a script in which each object is dropped once in the end.
+fn plays_as_its_trial<R: Host>(rt: R, draw: &mut Draw) -> Result<(), Fail> {
     let drops = Drops::new(rt.alloc())?;
-    let mut pair = Pair::new(rt, draw, &drops)?;
-    let mut now = 0u64;
-    for _move in 0..MOVES {
-        pair.go_on(draw, now)?;
-        now = now.saturating_add(draw.below(3));
-    }
-    let made = pair.player.made();
-    drop(pair);
-    assert_eq!(rt; drops.count(), made);
-    Ok(())
+    let made = made_by(rt, draw, &drops)?;
+    expect("dropped", drops.count(), made)
 }
 
 #[test]

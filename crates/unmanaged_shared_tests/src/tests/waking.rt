@@ -1,11 +1,9 @@
 //! Whom a step wakes: those whose wait it ends, each once, and no others.
 use super::rows::plays;
-use super::scripts::Script;
 use std::test::Fail;
 
-const RETURN: Script = (
-    "a return",
-    "unmanaged 2 none => ok
+const RETURN: &str = "a return
+unmanaged 2 none => ok
 tryadd 7 => added 0
 tryadd 8 => added 1
 tryget => object 1 value 8
@@ -27,12 +25,10 @@ poll 2 0 => pending
 poll 0 0 => object 0 value 7
 back 1 => kept, wakes 2
 back 0 => kept
-poll 2 0 => object 0 value 7",
-);
+poll 2 0 => object 0 value 7";
 
-const TAKE: Script = (
-    "a take",
-    "unmanaged 2 none => ok
+const TAKE: &str = "a take
+unmanaged 2 none => ok
 tryadd 7 => added 0
 tryadd 8 => added 1
 add 9 => party 0
@@ -48,12 +44,10 @@ poll 0 0 => pending
 poll 1 0 => added 3
 tryget => object 3 value 10
 take 3 => taken 10, wakes 0
-poll 0 0 => added 2",
-);
+poll 0 0 => added 2";
 
-const ADD: Script = (
-    "an add",
-    "unmanaged 1 none => ok
+const ADD: &str = "an add
+unmanaged 1 none => ok
 get => party 0
 get => party 1
 poll 0 0 => pending
@@ -65,12 +59,10 @@ poll 3 0 => pending
 poll 0 0 => object 0 value 7
 take 0 => taken 7, wakes 3
 poll 3 0 => added 1, wakes 1
-poll 1 0 => object 1 value 8",
-);
+poll 1 0 => object 1 value 8";
 
-const CLOSE: Script = (
-    "a close",
-    "unmanaged 1 none => ok
+const CLOSE: &str = "a close
+unmanaged 1 none => ok
 get => party 0
 get => party 1
 get => party 2
@@ -91,12 +83,10 @@ poll 2 0 => error Pool has been closed
 poll 3 0 => error Pool has been closed value 8
 poll 4 0 => error Pool has been closed value 9
 poll 5 0 => error Pool has been closed value 10
-poll 5 0 => pending",
-);
+poll 5 0 => pending";
 
-const CANCEL: Script = (
-    "a cancel",
-    "unmanaged 1 none => ok
+const CANCEL: &str = "a cancel
+unmanaged 1 none => ok
 get => party 0
 get => party 1
 get => party 2
@@ -120,12 +110,10 @@ cancel 5 => cancelled
 take 0 => taken 7, wakes 4
 cancel 4 => cancelled, wakes 6
 cancel 6 => cancelled
-tryadd 11 => added 4",
-);
+tryadd 11 => added 4";
 
-const DEADLINE: Script = (
-    "a deadline",
-    "unmanaged 1 clock => ok
+const DEADLINE: &str = "a deadline
+unmanaged 1 clock => ok
 get 10 => party 0
 get => party 1
 poll 0 0 => pending
@@ -138,12 +126,10 @@ poll 1 20 => object 0 value 7
 back 0 => kept, wakes 2
 get 10 => party 3
 poll 3 30 => pending
-poll 2 30 => object 0 value 7",
-);
+poll 2 30 => object 0 value 7";
 
-const LAST: Script = (
-    "handles",
-    "unmanaged 1 none => ok
+const LAST: &str = "handles
+unmanaged 1 none => ok
 get => party 0
 poll 0 0 => pending
 clone => ok
@@ -151,40 +137,39 @@ drop => ok
 status => max 1 size 0 available 0 waiting 1
 tryadd 7 => added 0, wakes 0
 drop => ok
-poll 0 0 => object 0 value 7",
-);
+poll 0 0 => object 0 value 7";
 
 #[test]
 fn a_return_wakes_the_first_get(rt: HostRuntime) -> Result<(), Fail> {
-    plays(rt, &RETURN)
+    plays(rt, RETURN)
 }
 
 #[test]
 fn a_take_wakes_the_first_add(rt: HostRuntime) -> Result<(), Fail> {
-    plays(rt, &TAKE)
+    plays(rt, TAKE)
 }
 
 #[test]
 fn an_add_wakes_the_first_get(rt: HostRuntime) -> Result<(), Fail> {
-    plays(rt, &ADD)
+    plays(rt, ADD)
 }
 
 #[test]
 fn a_close_wakes_all_that_were_not_woken(rt: HostRuntime) -> Result<(), Fail> {
-    plays(rt, &CLOSE)
+    plays(rt, CLOSE)
 }
 
 #[test]
 fn a_cancel_wakes_the_next(rt: HostRuntime) -> Result<(), Fail> {
-    plays(rt, &CANCEL)
+    plays(rt, CANCEL)
 }
 
 #[test]
 fn a_deadline_wakes_nobody_else(rt: HostRuntime) -> Result<(), Fail> {
-    plays(rt, &DEADLINE)
+    plays(rt, DEADLINE)
 }
 
 #[test]
 fn handles_wake_nobody(rt: HostRuntime) -> Result<(), Fail> {
-    plays(rt, &LAST)
+    plays(rt, LAST)
 }
