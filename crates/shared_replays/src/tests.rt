@@ -3,7 +3,6 @@ mod bench;
 mod dice;
 mod entries;
 mod lines;
-mod opened;
 mod openings;
 mod oracle;
 mod outside;
