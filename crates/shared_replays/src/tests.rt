@@ -3,6 +3,7 @@ mod bench;
 mod dice;
 mod entries;
 mod lines;
+mod opened;
 mod openings;
 mod oracle;
 mod outside;

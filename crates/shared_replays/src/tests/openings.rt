@@ -10,24 +10,40 @@ use std::test::Fail;
 /// Of what the pools of these tests are made.
 pub type TestBuilder = PoolBuilder<TestManager, NoCall, TestHook, TestClock>;
 
+// How a pool opens.
+#[derive(Clone, Copy)]
+struct Opening {
+    limit: usize,
+    mode: QueueMode,
+    runtime: Option<Runtime>,
+    min_idle: usize,
+    timeouts: Timeouts,
+}
+
+fn parse(words: &str) -> Result<Opening, Fail> {
+    let mut words = words.split(' ');
+    Ok(Opening {
+        limit: next_number(&mut words)?,
+        mode: next_mode(&mut words)?,
+        runtime: next_runtime(&mut words)?,
+        min_idle: next_number(&mut words)?,
+        timeouts: next_timeouts(&mut words)?,
+    })
+}
+
 /// A pool that answers by what stands outside it. The words are its limit, its mode, `clock` or `none`, the least
 /// number of idle objects, and, if there are any, timeouts in nanoseconds.
 pub fn builder(alloc: Global, words: &str, outside: &Common) -> Result<TestBuilder, Fail> {
-    let mut words = words.split(' ');
+    let opening = parse(words)?;
     let builder = plain_builder(alloc, outside)?
-        .max_size(next_number(&mut words)?)
-        .queue_mode(next_mode(&mut words)?);
-    let builder = match next_word(&mut words)? {
-        "clock" => builder.runtime(Runtime::Clock),
-        _ => builder,
+        .max_size(opening.limit)
+        .queue_mode(opening.mode)
+        .min_idle(opening.min_idle)
+        .timeouts(opening.timeouts);
+    let builder = match opening.runtime {
+        Some(runtime) => builder.runtime(runtime),
+        None => builder,
     };
-    let builder = builder
-        .min_idle(next_number(&mut words)?)
-        .timeouts(Timeouts {
-            wait: next_timeout(&mut words)?,
-            create: next_timeout(&mut words)?,
-            recycle: next_timeout(&mut words)?,
-        });
     with_hooks(builder, outside)
 }
 
@@ -37,6 +53,21 @@ fn next_mode(words: &mut Words<'_>) -> Result<QueueMode, Fail> {
         "lifo" => Ok(QueueMode::Lifo),
         _ => Err(Fail::new("not a mode")),
     }
+}
+
+fn next_runtime(words: &mut Words<'_>) -> Result<Option<Runtime>, Fail> {
+    match next_word(words)? {
+        "clock" => Ok(Some(Runtime::Clock)),
+        _ => Ok(None),
+    }
+}
+
+fn next_timeouts(words: &mut Words<'_>) -> Result<Timeouts, Fail> {
+    Ok(Timeouts {
+        wait: next_timeout(words)?,
+        create: next_timeout(words)?,
+        recycle: next_timeout(words)?,
+    })
 }
 
 fn plain_builder(alloc: Global, outside: &Common) -> Result<TestBuilder, AllocError> {
@@ -50,19 +81,21 @@ fn plain_builder(alloc: Global, outside: &Common) -> Result<TestBuilder, AllocEr
 }
 
 fn with_hooks(builder: TestBuilder, outside: &Common) -> Result<TestBuilder, Fail> {
-    let pre_recycle = hook(outside, Kind::PreRecycle)?;
-    let post_recycle = hook(outside, Kind::PostRecycle)?;
-    let post_create = hook(outside, Kind::PostCreate)?;
-    let Ok(builder) = builder.pre_recycle(pre_recycle) else {
-        return Err(Fail::new("no memory for a hook"));
+    let builder = with_hook(builder, outside, Kind::PreRecycle)?;
+    let builder = with_hook(builder, outside, Kind::PostRecycle)?;
+    with_hook(builder, outside, Kind::PostCreate)
+}
+
+// Adds a hook of this kind, if it is one.
+fn with_hook(builder: TestBuilder, outside: &Common, kind: Kind) -> Result<TestBuilder, Fail> {
+    let hook = hook(outside, kind)?;
+    let added = match kind {
+        Kind::PreRecycle => builder.pre_recycle(hook),
+        Kind::PostRecycle => builder.post_recycle(hook),
+        Kind::PostCreate => builder.post_create(hook),
+        Kind::Create | Kind::Recycle => Ok(builder),
     };
-    let Ok(builder) = builder.post_recycle(post_recycle) else {
-        return Err(Fail::new("no memory for a hook"));
-    };
-    let Ok(builder) = builder.post_create(post_create) else {
-        return Err(Fail::new("no memory for a hook"));
-    };
-    Ok(builder)
+    added.map_err(|_| Fail::new("no memory for a hook"))
 }
 
 fn hook(outside: &Common, kind: Kind) -> Result<Hook<NoCall, TestHook>, AllocError> {

@@ -1,9 +1,9 @@
 //! Random scripts over a shared pool have the replies of a trial, and the status after each move.
 ghost use Rattle.deadpool.specs.Opens.{Opens};
 
-use super::bench::{Bench, TestPool};
+use super::bench::Bench;
 use super::dice::Dice;
-use super::openings::builder;
+use super::opened::open_bench;
 use super::outside::Outside;
 use super::replay::Replay;
 use super::throws::{STEP, throw, throw_opening};
@@ -12,8 +12,8 @@ use std::alloc::Global;
 use std::marker::Brand;
 use std::process::Abort;
 use std::random::RandomSource;
+use std::sync::Wait;
 use std::sync::ledger::{Blank, Ledger};
-use std::sync::{Arc, Wait};
 use std::test::Fail;
 
 const MOVES: usize = 40;
@@ -102,11 +102,9 @@ where
     let alloc = rt.alloc();
     let mut dice = Dice::new(seed);
     let words = throw_opening(alloc, &mut dice)?;
-    let common = Arc::new(alloc, Outside::new(alloc, STEP))?;
-    let builder = builder(alloc, words.as_str(), &common)?;
-    let pool: TestPool<R, G, N, O> = builder.build(going, creations, outside, rt)?;
-    let mut bench = Bench::new(&rt, common, pool)?;
-    let mut replay = Replay::new(&rt, Outside::new(alloc, STEP), words.as_str(), MOVES)?;
+    let opening = words.as_str();
+    let mut bench = open_bench::<R, G, N, O>(rt, opening, STEP, 0, going, creations, outside)?;
+    let mut replay = Replay::new(&rt, Outside::new(alloc, STEP), opening, MOVES)?;
     compare_moves(alloc, &mut bench, &mut replay, &mut dice)
 }
 

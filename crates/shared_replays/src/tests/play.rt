@@ -1,14 +1,13 @@
 //! A script, played over a shared pool.
 ghost use Rattle.deadpool.specs.Opens.{Opens};
 
-use super::bench::{Bench, TestPool};
-use super::openings::builder;
-use super::outside::Outside;
+use super::bench::Bench;
+use super::opened::open_bench;
 use std::alloc::Global;
 use std::marker::Brand;
 use std::random::RandomSource;
+use std::sync::Wait;
 use std::sync::ledger::{Blank, Ledger};
-use std::sync::{Arc, Wait};
 use std::test::Fail;
 
 /// What a script came to.
@@ -68,10 +67,8 @@ where
     requires creations { Opens N.Ledger creations }
     requires outside { Opens O.Ledger outside }
 {
-    let common = Arc::new(rt.alloc(), Outside::new(rt.alloc(), 1))?;
-    let builder = builder(rt.alloc(), script.opening, &common)?.journal(room);
-    let pool: TestPool<R, G, N, O> = builder.build(going, creations, outside, rt)?;
-    let mut bench = Bench::new(&rt, common, pool)?;
+    let opening = script.opening;
+    let mut bench = open_bench::<R, G, N, O>(rt, opening, 1, room, going, creations, outside)?;
     let faults = play_lines(rt.alloc(), &mut bench, script.name, script.lines)?;
     Ok(Played {
         faults,
@@ -101,7 +98,18 @@ fn play_line<R: Wait + Drop, G: Ledger, N: Ledger, O: Ledger>(
 ) -> Result<(), Fail> {
     let (words, wanted) = line.split_once(" =").unwrap_or((line, ""));
     let reply = bench.do_line(words.trim())?;
-    if reply.as_str().trim() != wanted.trim() {
+    note(name, words, reply.as_str(), wanted, faults)
+}
+
+// Notes a reply that is not the wanted one.
+fn note(
+    name: &str,
+    words: &str,
+    reply: &str,
+    wanted: &str,
+    faults: &mut String,
+) -> Result<(), Fail> {
+    if reply.trim() != wanted.trim() {
         write!(faults, "in {name} {words}: {reply}; ")?;
     }
     Ok(())
