@@ -20,29 +20,35 @@ mod unmanaged;
 
 use poolrun_engine::Fault;
 use std::alloc::{AllocError, Global};
-use std::process::Abort;
+use std::fmt::Debug;
 use std::random::RandomSource;
+use std::str;
 use std::test::Fail;
 
-/// A script by lines, each with its reply.
-pub type Lines = &'static [(&'static str, &'static str)];
+/// A script by lines, each with its reply behind ` = `.
+pub type Lines = &'static str;
+
+// A line of a script and its reply.
+fn parts_of(line: &str) -> (&str, &str) {
+    line.split_once(" = ").unwrap_or((line, ""))
+}
 
 /// The script's lines.
-pub fn script_of(alloc: Global, lines: Lines) -> Result<String, AllocError> {
+pub fn script_of(alloc: Global, lines: &str) -> Result<String, AllocError> {
     let mut text = String::new(alloc);
-    for (line, _) in lines {
-        text.push_str(line)?;
-        text.push('\n')?;
+    for line in lines.lines() {
+        let (line, _) = parts_of(line);
+        writeln!(text, "{line}")?;
     }
     Ok(text)
 }
 
 /// The replies to the script's lines.
-pub fn replies_of(alloc: Global, lines: Lines) -> Result<String, AllocError> {
+pub fn replies_of(alloc: Global, lines: &str) -> Result<String, AllocError> {
     let mut text = String::new(alloc);
-    for (_, reply) in lines {
-        text.push_str(reply)?;
-        text.push('\n')?;
+    for line in lines.lines() {
+        let (_, reply) = parts_of(line);
+        writeln!(text, "{reply}")?;
     }
     Ok(text)
 }
@@ -58,17 +64,68 @@ pub fn play<R: RandomSource + AllocGlobal>(
     Ok((String::from_utf8(written)?, ending))
 }
 
-/// Plays each script, and compares what it writes.
-pub fn replies_as_written<R: RandomSource + AllocGlobal + Abort>(
-    rt: &R,
-    scripts: &[(&str, Lines)],
+/// Fails unless a run wrote this and ended so.
+pub fn agree<A: Debug + Drop>(
+    at: A,
+    written: &[u8],
+    ending: Result<(), Fault>,
+    replies: &[u8],
+    want: Result<(), Fault>,
 ) -> Result<(), Fail> {
-    for (name, lines) in scripts {
-        let script = script_of(rt.alloc(), lines)?;
-        let replies = replies_of(rt.alloc(), lines)?;
-        let (written, ending) = play(rt, script.as_bytes())?;
-        assert_eq!(rt; written.as_str(), replies.as_str(), "in {name}");
-        assert_eq!(rt; ending, Ok(()), "in {name}");
+    if written == replies && ending == want {
+        return Ok(());
+    }
+    let written = str::from_utf8(written).unwrap_or("no text");
+    Err(Fail::new(format_args!("at {at:?}: {ending:?}, and not {want:?}, after {written:?}")))
+}
+
+/// Fails unless there are so many.
+pub fn count_is(what: &str, found: usize, want: usize) -> Result<(), Fail> {
+    if found == want {
+        return Ok(());
+    }
+    Err(Fail::new(format_args!("{what}: {found}, and not {want}")))
+}
+
+/// Fails unless a text is this one.
+pub fn text_is(found: &str, want: &str) -> Result<(), Fail> {
+    if found == want {
+        return Ok(());
+    }
+    Err(Fail::new(format_args!("found {found:?}, and not {want:?}")))
+}
+
+/// Plays a script, and fails unless it writes these replies and its run ends so.
+pub fn comes_to<R: RandomSource + AllocGlobal, A: Debug + Drop>(
+    rt: &R,
+    at: A,
+    script: &[u8],
+    replies: &str,
+    want: Result<(), Fault>,
+) -> Result<(), Fail> {
+    let (written, ending) = play(rt, script)?;
+    agree(at, written.as_bytes(), ending, replies.as_bytes(), want)
+}
+
+/// Plays each script, and compares what it writes. The scripts are parted by empty lines, and the first line of each
+/// is its name.
+pub fn replies_as_written<R: RandomSource + AllocGlobal>(
+    rt: &R,
+    scripts: &str,
+) -> Result<(), Fail> {
+    for script in scripts.split("\n\n") {
+        let (name, lines) = script.split_once('\n').unwrap_or((script, ""));
+        has_its_replies(rt, name, lines)?;
     }
     Ok(())
+}
+
+fn has_its_replies<R: RandomSource + AllocGlobal>(
+    rt: &R,
+    name: &str,
+    lines: &str,
+) -> Result<(), Fail> {
+    let script = script_of(rt.alloc(), lines)?;
+    let replies = replies_of(rt.alloc(), lines)?;
+    comes_to(rt, name, script.as_bytes(), replies.as_str(), Ok(()))
 }

@@ -1,10 +1,12 @@
 //! Buffers out of a pool of one, and the texts of what is refused.
+ghost use Rattle.std.specs.Prelude.{◌≡◌, []};
 ghost use Rattle.deadpool.specs.Opens.{Opens};
 
+use super::text_is;
 use deadpool::managed::{Manager, Metrics, Object, PoolBuilder};
 use deadpool::{Clock, Moment};
 use futures::task::{Context, Doorbell, Poll, Solo};
-use poolrun_buffers::{BufferError, BufferPool, Buffers, GetBuffer, fill, poll_buffer};
+use poolrun_buffers::{Buffer, BufferError, BufferPool, Buffers, GetBuffer, fill, poll_buffer};
 use std::alloc::AllocError;
 use std::marker::Brand;
 use std::random::RandomSource;
@@ -24,6 +26,20 @@ impl Clock for NoTime {
     fn wake_at(&self, _at: Moment, _cx: &mut Context<'_>) {}
 }
 
+// Puts a line into an empty buffer, and appends what came of it.
+fn write_filled<R: Wait + Drop, G: Ledger, N: Ledger, O: Ledger>(
+    buffer: &mut Buffer<NoTime, R, G, N, O>,
+    line: &[u8],
+    text: &mut String,
+) -> Result<(), AllocError>
+    requires empty { buffer.old.slot.value.items ≡ [] }
+{
+    let count = fill(buffer, line)?;
+    let id = Object::id(buffer);
+    let is_whole = buffer.as_slice() == line;
+    writeln!(text, "buffer {id} bytes {count} {is_whole}")
+}
+
 // Polls a get once, puts the line into the buffer that it gives, and appends what came of it.
 fn put_line<R: Wait + Drop, G: Ledger, N: Ledger, O: Ledger>(
     task: &Solo,
@@ -35,18 +51,27 @@ fn put_line<R: Wait + Drop, G: Ledger, N: Ledger, O: Ledger>(
     let polled = poll_buffer(get, &mut cx);
     cx.cancel();
     match polled {
-        Poll::Ready(Ok(mut buffer)) => {
-            let count = fill(&mut buffer, line)?;
-            let id = Object::id(&buffer);
-            let is_whole = buffer.as_slice() == line;
-            writeln!(text, "buffer {id} bytes {count} {is_whole}")
-        }
+        Poll::Ready(Ok(mut buffer)) => write_filled(&mut buffer, line, text),
         Poll::Ready(Err(cause)) => writeln!(text, "{cause}"),
         Poll::Pending => text.push_str("pending\n"),
     }
 }
 
-// Gets a buffer for each line of a pool of one, and lets it go back.
+// Gets a buffer for each line, and lets it go back.
+fn put_each<R: Wait + RandomSource + AllocGlobal + Drop, G: Ledger, N: Ledger, O: Ledger>(
+    rt: &R,
+    pool: &BufferPool<NoTime, R, G, N, O>,
+    lines: &[&[u8]],
+) -> Result<String, Fail> {
+    let task = Solo::new(rt, Doorbell::spinning())?;
+    let mut text = String::new(rt.alloc());
+    for line in lines {
+        put_line(&task, &mut pool.get(), line, &mut text)?;
+    }
+    Ok(text)
+}
+
+// Puts lines into the buffers of a pool of one.
 fn put_lines<R, G: Ledger, N: Ledger, O: Ledger>(
     rt: R,
     manager: Buffers,
@@ -63,12 +88,7 @@ where
 {
     let builder = PoolBuilder::new(rt.alloc(), manager, NoTime).max_size(1);
     let pool: BufferPool<NoTime, R, G, N, O> = builder.build(going, creations, outside, rt)?;
-    let task = Solo::new(&rt, Doorbell::spinning())?;
-    let mut text = String::new(rt.alloc());
-    for line in lines {
-        put_line(&task, &mut pool.get(), line, &mut text)?;
-    }
-    Ok(text)
+    put_each(&rt, &pool, lines)
 }
 
 // What comes of the lines at a manager with these numbers.
@@ -94,8 +114,7 @@ fn a_buffer_that_is_too_long_is_not_used_again(rt: HostRuntime) -> Result<(), Fa
     let text = comes_of(rt, 16, 4, &LINES)?;
     let want =
         "buffer 0 bytes 4 true\nbuffer 0 bytes 5 true\nbuffer 1 bytes 1 true\nbuffer 1 bytes 0 true\n";
-    assert_eq!(rt; text.as_str(), want);
-    Ok(())
+    text_is(text.as_str(), want)
 }
 
 #[test]
@@ -103,8 +122,7 @@ fn only_a_buffer_that_stayed_empty_is_used_again(rt: HostRuntime) -> Result<(), 
     let lines: [&[u8]; 3] = [b"", b"a", b"\n\xff"];
     let text = comes_of(rt, 0, 0, &lines)?;
     let want = "buffer 0 bytes 0 true\nbuffer 0 bytes 1 true\nbuffer 1 bytes 2 true\n";
-    assert_eq!(rt; text.as_str(), want);
-    Ok(())
+    text_is(text.as_str(), want)
 }
 
 #[test]
@@ -112,8 +130,7 @@ fn every_buffer_is_used_again(rt: HostRuntime) -> Result<(), Fail> {
     let text = comes_of(rt, 1, usize::MAX, &LINES)?;
     let want =
         "buffer 0 bytes 4 true\nbuffer 0 bytes 5 true\nbuffer 0 bytes 1 true\nbuffer 0 bytes 0 true\n";
-    assert_eq!(rt; text.as_str(), want);
-    Ok(())
+    text_is(text.as_str(), want)
 }
 
 // A buffer that was not made takes no number, and the place is free for the next get.
@@ -122,38 +139,38 @@ fn no_memory_for_a_buffer(rt: HostRuntime) -> Result<(), Fail> {
     let text = comes_of(rt, usize::MAX, 4, &[b"a", b"b"])?;
     let line = "Error occurred while creating a new object: No memory for a buffer\n";
     let want = format!(in rt.alloc(); "{line}{line}")?;
-    assert_eq!(rt; text.as_str(), want.as_str());
-    Ok(())
+    text_is(text.as_str(), want.as_str())
 }
 
 #[test]
 fn the_error_has_its_text(rt: HostRuntime) -> Result<(), Fail> {
     let text = format!(in rt.alloc(); "{}", BufferError::OutOfMemory)?;
-    assert_eq!(rt; text.as_str(), "No memory for a buffer");
-    Ok(())
+    text_is(text.as_str(), "No memory for a buffer")
 }
 
-#[test]
-fn the_refusal_of_a_long_buffer_has_its_text(rt: HostRuntime) -> Result<(), Fail> {
+// Why a manager of short buffers refuses this one.
+fn refusal<R: RandomSource + AllocGlobal>(rt: &R, buffer: &mut Vec<u8>) -> Result<String, Fail> {
     let manager = Buffers {
         alloc: rt.alloc(),
         reserve: 0,
         most: 1,
     };
-    let mut buffer = vec![in rt.alloc(); 7u8, 8]?;
-    let metrics = Metrics::new(Moment(0));
-    let task = Solo::new(&rt, Doorbell::spinning())?;
+    let task = Solo::new(rt, Doorbell::spinning())?;
     let mut cx = task.begin();
-    let polled = manager.poll_recycle(&mut (), &mut buffer, &metrics, &mut cx);
+    let polled = manager.poll_recycle(&mut (), buffer, &Metrics::new(Moment(0)), &mut cx);
     cx.cancel();
-    let Poll::Ready(Err(cause)) = polled else {
-        return Err(Fail::new("not refused"));
-    };
-    let text = format!(in rt.alloc(); "{cause}")?;
-    assert_eq!(rt;
-        text.as_str(),
-        "Error occurred while recycling an object: buffer too long"
-    );
-    assert_eq!(rt; buffer.as_slice(), [7, 8].as_slice());
+    match polled {
+        Poll::Ready(Err(cause)) => Ok(format!(in rt.alloc(); "{cause}")?),
+        _ => Err(Fail::new("not refused")),
+    }
+}
+
+#[test]
+fn the_refusal_of_a_long_buffer_has_its_text(rt: HostRuntime) -> Result<(), Fail> {
+    let mut buffer = vec![in rt.alloc(); 7u8, 8]?;
+    let text = refusal(&rt, &mut buffer)?;
+    let want = "Error occurred while recycling an object: buffer too long";
+    text_is(text.as_str(), want)?;
+    assert!(rt; buffer.as_slice() == [7, 8].as_slice());
     Ok(())
 }

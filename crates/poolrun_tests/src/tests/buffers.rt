@@ -2,12 +2,15 @@
 use super::streams::{
     FailingReader, FailingWriter, Listener, Speaker, first_bytes, first_lines, lines_in,
 };
+use super::{agree, count_is};
 use deadpool::managed::PoolBuilder;
 use poolrun_buffers::Buffers;
 use poolrun_engine::Fault;
 use poolrun_engine::buffers::{NoTime, builder_of, fill_buffers};
 use std::cell::Cell;
 use std::io::ErrorKind;
+use std::random::RandomSource;
+use std::sync::Wait;
 use std::test::Fail;
 
 // The greatest length of a buffer that is used again, the input, and what is written.
@@ -43,8 +46,7 @@ fn each_line_is_put_into_a_buffer(rt: HostRuntime) -> Result<(), Fail> {
         let mut written = Vec::new(rt.alloc());
         let builder = builder_of(rt.alloc(), most);
         let ending = fill_buffers(&rt, builder, &mut reader, &mut written);
-        assert_eq!(rt; ending, Ok(()), "at {most}");
-        assert_eq!(rt; written.as_slice(), replies, "at {most}");
+        agree(most, &written, ending, replies, Ok(()))?;
     }
     Ok(())
 }
@@ -67,8 +69,7 @@ fn a_failed_read_ends_the_run(rt: HostRuntime) -> Result<(), Fail> {
         let builder = builder_of(rt.alloc(), 4);
         let ending = fill_buffers(&rt, builder, &mut reader, &mut written);
         let whole = first_lines(REPLIES, lines_in(first_bytes(LINES, reads)));
-        assert_eq!(rt; ending, Err(Fault::InputFailed), "at read {reads}");
-        assert_eq!(rt; written.as_slice(), whole, "at read {reads}");
+        agree(reads, &written, ending, whole, Err(Fault::InputFailed))?;
     }
     Ok(())
 }
@@ -82,28 +83,40 @@ fn a_read_without_memory_ends_the_run(rt: HostRuntime) -> Result<(), Fail> {
     };
     let mut written = Vec::new(rt.alloc());
     let ending = fill_buffers(&rt, builder_of(rt.alloc(), 4), &mut reader, &mut written);
-    assert_eq!(rt; ending, Err(Fault::OutOfMemory));
-    assert_eq!(rt; written.as_slice(), first_lines(REPLIES, 1));
-    Ok(())
+    let whole = first_lines(REPLIES, 1);
+    agree("read 6", &written, ending, whole, Err(Fault::OutOfMemory))
+}
+
+// The write fails that comes after so many.
+fn ends_at_write<R>(rt: R, writes: usize) -> Result<(), Fail>
+where
+    R: Wait + RandomSource + AllocGlobal + Drop + Copy + Send + Sync,
+{
+    let mut reader = LINES;
+    let mut writer = FailingWriter {
+        written: Vec::new(rt.alloc()),
+        writes_left: Some(writes),
+        flushes_left: None,
+    };
+    let builder = builder_of(rt.alloc(), 4);
+    let ending = fill_buffers(&rt, builder, &mut reader, &mut writer);
+    let whole = first_bytes(REPLIES, writes);
+    agree(
+        writes,
+        &writer.written,
+        ending,
+        whole,
+        Err(Fault::OutputFailed),
+    )?;
+    let read = lines_in(whole).saturating_add(1);
+    count_is("lines left", lines_in(reader), 4usize.saturating_sub(read))
 }
 
 // One write takes each byte.
 #[test]
 fn a_failed_write_ends_the_run(rt: HostRuntime) -> Result<(), Fail> {
     for writes in 0..REPLIES.len() {
-        let mut reader = LINES;
-        let mut writer = FailingWriter {
-            written: Vec::new(rt.alloc()),
-            writes_left: Some(writes),
-            flushes_left: None,
-        };
-        let builder = builder_of(rt.alloc(), 4);
-        let ending = fill_buffers(&rt, builder, &mut reader, &mut writer);
-        let whole = first_bytes(REPLIES, writes);
-        assert_eq!(rt; ending, Err(Fault::OutputFailed), "at write {writes}");
-        assert_eq!(rt; writer.written.as_slice(), whole, "at write {writes}");
-        let lines_left = 4usize.saturating_sub(lines_in(whole).saturating_add(1));
-        assert_eq!(rt; lines_in(reader), lines_left, "at write {writes}");
+        ends_at_write(rt, writes)?;
     }
     Ok(())
 }
@@ -121,8 +134,13 @@ fn a_failed_flush_ends_the_run(rt: HostRuntime) -> Result<(), Fail> {
         let builder = builder_of(rt.alloc(), 4);
         let ending = fill_buffers(&rt, builder, &mut reader, &mut writer);
         let whole = first_lines(REPLIES, flushes.saturating_add(1));
-        assert_eq!(rt; ending, Err(Fault::OutputFailed), "at flush {flushes}");
-        assert_eq!(rt; writer.written.as_slice(), whole, "at flush {flushes}");
+        agree(
+            flushes,
+            &writer.written,
+            ending,
+            whole,
+            Err(Fault::OutputFailed),
+        )?;
     }
     Ok(())
 }
@@ -140,9 +158,8 @@ fn each_reply_is_out_before_the_next_line_is_read(rt: HostRuntime) -> Result<(),
         flushed: &flushed,
     };
     let ending = fill_buffers(&rt, builder_of(rt.alloc(), 4), &mut speaker, &mut listener);
-    assert_eq!(rt; ending, Ok(()));
-    assert_eq!(rt; listener.written.as_slice(), first_lines(REPLIES, 4));
-    Ok(())
+    let whole = first_lines(REPLIES, 4);
+    agree("the end", &listener.written, ending, whole, Ok(()))
 }
 
 // There is no memory for so large a pool: no line is read.
@@ -152,10 +169,8 @@ fn no_memory_for_the_pool(rt: HostRuntime) -> Result<(), Fail> {
     let mut written = Vec::new(rt.alloc());
     let builder = builder_of(rt.alloc(), 4).max_size(usize::MAX);
     let ending = fill_buffers(&rt, builder, &mut reader, &mut written);
-    assert_eq!(rt; ending, Err(Fault::OutOfMemory));
-    assert!(rt; written.is_empty());
-    assert_eq!(rt; reader.len(), LINES.len());
-    Ok(())
+    agree("the pool", &written, ending, b"", Err(Fault::OutOfMemory))?;
+    count_is("bytes left", reader.len(), LINES.len())
 }
 
 // A get is refused: the line was read by then.
@@ -170,8 +185,6 @@ fn no_memory_for_a_buffer(rt: HostRuntime) -> Result<(), Fail> {
     let mut reader = LINES;
     let mut written = Vec::new(rt.alloc());
     let ending = fill_buffers(&rt, builder, &mut reader, &mut written);
-    assert_eq!(rt; ending, Err(Fault::OutOfMemory));
-    assert!(rt; written.is_empty());
-    assert_eq!(rt; lines_in(reader), 3);
-    Ok(())
+    agree("a buffer", &written, ending, b"", Err(Fault::OutOfMemory))?;
+    count_is("lines left", lines_in(reader), 3)
 }

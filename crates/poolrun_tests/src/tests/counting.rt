@@ -1,9 +1,9 @@
 //! Threads that count by one pool, as the program's arguments ask for them.
-use super::started::{Arguments, Started, ends_so};
+use super::started::{Arguments, Started, ends_so, is_refused};
 use super::streams::FailingWriter;
+use super::{count_is, text_is};
 use poolrun_engine::Task;
 use std::env;
-use std::process::Abort;
 use std::random::RandomSource;
 use std::sync::Wait;
 use std::test::Fail;
@@ -12,13 +12,13 @@ use std::thread::Threads;
 // What a run writes that ends well. It reads nothing and says nothing.
 fn written<R>(rt: R, arguments: Arguments) -> Result<String, Fail>
 where
-    R: RandomSource + AllocGlobal + Abort,
+    R: RandomSource + AllocGlobal,
     R: Wait + Threads + Drop + Copy + Send + Sync + 'static,
 {
     let mut reader: &[u8] = b"start\n";
     let mut written = Vec::new(rt.alloc());
     ends_so(rt, arguments, &mut reader, &mut written, "", 0)?;
-    assert_eq!(rt; reader.len(), 6);
+    count_is("bytes left", reader.len(), 6)?;
     Ok(String::from_utf8(written)?)
 }
 
@@ -72,7 +72,7 @@ const ALONE: [(Arguments, &str); 3] = [
 fn one_thread_counts_alone(rt: HostRuntime) -> Result<(), Fail> {
     for (arguments, lines) in ALONE {
         let written = written(rt, arguments)?;
-        assert_eq!(rt; written.as_str(), lines);
+        text_is(written.as_str(), lines)?;
     }
     Ok(())
 }
@@ -98,7 +98,7 @@ const GREATEST: [(Arguments, bool); 3] = [
 #[test]
 fn the_greatest_numbers_are_known(rt: HostRuntime) -> Result<(), Fail> {
     for (arguments, want) in GREATEST {
-        assert_eq!(rt; is_known(rt, arguments)?, want);
+        assert!(rt; is_known(rt, arguments)? == want);
     }
     Ok(())
 }
@@ -122,12 +122,7 @@ const REFUSED: [Arguments; 13] = [
 #[test]
 fn other_arguments_are_refused(rt: HostRuntime) -> Result<(), Fail> {
     for arguments in REFUSED {
-        let mut reader: &[u8] = b"start\n";
-        let mut written = Vec::new(rt.alloc());
-        let said = "usage: poolrun [threads N M | buffers MOST]\n";
-        ends_so(rt, arguments, &mut reader, &mut written, said, 2)?;
-        assert!(rt; written.is_empty());
-        assert_eq!(rt; reader.len(), 6);
+        is_refused(rt, arguments)?;
     }
     Ok(())
 }

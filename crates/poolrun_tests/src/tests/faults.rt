@@ -4,24 +4,22 @@ use std::io;
 use std::io::ErrorKind;
 use std::test::Fail;
 
+fn fault_has<R: AllocGlobal>(rt: &R, fault: Fault, text: &str, status: u8) -> Result<(), Fail> {
+    let shown = fault.to_string(rt.alloc())?;
+    if shown.as_str() == text && fault.status() == status {
+        return Ok(());
+    }
+    Err(Fail::new(format_args!("{shown}, and not {text} with {status}")))
+}
+
 #[test]
 fn faults_have_their_texts(rt: HostRuntime) -> Result<(), Fail> {
-    for (fault, text, status) in [
-        (
-            Fault::Usage,
-            "usage: poolrun [threads N M | buffers MOST]",
-            2,
-        ),
-        (Fault::NotAMove(12), "line 12: not a move", 2),
-        (Fault::OutOfMemory, "out of memory", 1),
-        (Fault::InputFailed, "input failed", 1),
-        (Fault::OutputFailed, "output failed", 1),
-    ] {
-        let shown = fault.to_string(rt.alloc())?;
-        assert_eq!(rt; shown.as_str(), text);
-        assert_eq!(rt; fault.status(), status);
-    }
-    Ok(())
+    let usage = "usage: poolrun [threads N M | buffers MOST]";
+    fault_has(&rt, Fault::Usage, usage, 2)?;
+    fault_has(&rt, Fault::NotAMove(12), "line 12: not a move", 2)?;
+    fault_has(&rt, Fault::OutOfMemory, "out of memory", 1)?;
+    fault_has(&rt, Fault::InputFailed, "input failed", 1)?;
+    fault_has(&rt, Fault::OutputFailed, "output failed", 1)
 }
 
 // All kinds of error but that of memory that is not there.
@@ -69,21 +67,24 @@ const KINDS: [ErrorKind; 41] = [
     ErrorKind::Uncategorized,
 ];
 
-#[test]
-fn errors_of_each_kind_have_their_fault(rt: HostRuntime) {
-    for kind in KINDS {
-        assert_eq!(rt;
-            Fault::from_read(io::Error::from(kind)),
-            Fault::InputFailed,
-            "at {kind:?}"
-        );
-        assert_eq!(rt;
-            Fault::from_arguments(io::Error::from(kind)),
-            Fault::Usage,
-            "at {kind:?}"
-        );
+// Sees the faults of an error of this kind: of a read, and of the arguments.
+fn becomes(kind: ErrorKind, read: Fault, arguments: Fault) -> Result<(), Fail> {
+    let found_read = Fault::from_read(io::Error::from(kind));
+    let found_arguments = Fault::from_arguments(io::Error::from(kind));
+    if found_read == read && found_arguments == arguments {
+        return Ok(());
     }
-    let refused = || io::Error::from(ErrorKind::OutOfMemory);
-    assert_eq!(rt; Fault::from_read(refused()), Fault::OutOfMemory);
-    assert_eq!(rt; Fault::from_arguments(refused()), Fault::OutOfMemory);
+    Err(Fail::new(format_args!("at {kind:?}: {found_read:?} and {found_arguments:?}")))
+}
+
+#[test]
+fn errors_of_each_kind_have_their_fault() -> Result<(), Fail> {
+    for kind in KINDS {
+        becomes(kind, Fault::InputFailed, Fault::Usage)?;
+    }
+    becomes(
+        ErrorKind::OutOfMemory,
+        Fault::OutOfMemory,
+        Fault::OutOfMemory,
+    )
 }

@@ -1,381 +1,296 @@
 //! Scripts over pools that keep a least number of objects idle.
-use super::{Lines, play, replies_as_written};
+use super::{comes_to, replies_as_written};
 use poolrun_engine::Fault;
 use std::test::Fail;
 
-const SCRIPTS: [(&'static str, Lines); 17] = [
-    (
-        "floor-under-shrink-and-retain",
-        &[
-            ("pool 4 fifo none 0 2", "ok"),
-            ("start", "party 0"),
-            ("poll 0 0", "object 0 value 0"),
-            ("start", "party 1"),
-            ("poll 1 0", "object 1 value 1"),
-            ("start", "party 2"),
-            ("poll 2 0", "object 2 value 2"),
-            ("start", "party 3"),
-            ("poll 3 0", "object 3 value 3"),
-            ("back 0", "kept"),
-            ("back 1", "kept"),
-            ("resize 2", "ok"),
-            ("status", "max 2 size 4 available 2 waiting 0"),
-            ("start 0 - -", "party 4"),
-            (
-                "poll 4 0",
-                "error Timeout occurred while waiting for a slot to become available",
-            ),
-            ("back 2", "detached"),
-            ("back 3", "detached"),
-            ("status", "max 2 size 2 available 2 waiting 0"),
-            ("retain", "retained 2 removed"),
-            ("resize 1", "ok"),
-            ("status", "max 1 size 1 available 1 waiting 0"),
-            ("close", "ok"),
-            ("status", "max 0 size 0 available 0 waiting 0"),
-        ],
-    ),
-    (
-        "retain-keeps-the-floor",
-        &[
-            ("pool 3 fifo none 0 1", "ok"),
-            ("start", "party 0"),
-            ("poll 0 0", "object 0 value 0"),
-            ("start", "party 1"),
-            ("poll 1 0", "object 1 value 1"),
-            ("start", "party 2"),
-            ("poll 2 0", "object 2 value 2"),
-            ("back 0", "kept"),
-            ("back 1", "kept"),
-            ("back 2", "kept"),
-            ("retain", "retained 1 removed 0 1"),
-        ],
-    ),
-    (
-        "json",
-        &[
-            (
-                r#"config none 0 {"max_size":1,"queue_mode":5,"min_idle":null}"#,
-                "error queue_mode is not Fifo or Lifo",
-            ),
-            (
-                r#"config none 0 {"max_size":1,"min_idle":null}"#,
-                "error min_idle is not a whole number in range",
-            ),
-            (r#"config none 0 {"max_size":1,"min_idle":0}"#, "ok"),
-        ],
-    ),
-    (
-        "floor-above-the-limit",
-        &[
-            ("pool 2 fifo none 0 5", "ok"),
-            ("start", "party 0"),
-            ("poll 0 0", "object 0 value 0"),
-            ("start", "party 1"),
-            ("poll 1 0", "object 1 value 1"),
-            ("back 0", "kept"),
-            ("back 1", "kept"),
-            ("retain", "retained 2 removed"),
-            ("resize 1", "ok"),
-            ("status", "max 1 size 1 available 1 waiting 0"),
-            ("start", "party 2"),
-            ("poll 2 0", "object 1 value 1"),
-            ("back 1", "kept"),
-            ("resize 3", "ok"),
-            ("status", "max 3 size 1 available 1 waiting 0"),
-            ("close", "ok"),
-            ("status", "max 0 size 0 available 0 waiting 0"),
-        ],
-    ),
-    (
-        "floor-above-a-smaller-limit",
-        &[
-            ("pool 4 fifo none 0 3", "ok"),
-            ("start", "party 0"),
-            ("poll 0 0", "object 0 value 0"),
-            ("start", "party 1"),
-            ("poll 1 0", "object 1 value 1"),
-            ("start", "party 2"),
-            ("poll 2 0", "object 2 value 2"),
-            ("start", "party 3"),
-            ("poll 3 0", "object 3 value 3"),
-            ("back 0", "kept"),
-            ("back 1", "kept"),
-            ("back 2", "kept"),
-            ("back 3", "kept"),
-            ("resize 2", "ok"),
-            ("status", "max 2 size 2 available 2 waiting 0"),
-            ("start", "party 4"),
-            ("poll 4 0", "object 2 value 2"),
-        ],
-    ),
-    (
-        "floor-beside-objects-in-use",
-        &[
-            ("pool 4 fifo none 0 1", "ok"),
-            ("start", "party 0"),
-            ("poll 0 0", "object 0 value 0"),
-            ("start", "party 1"),
-            ("poll 1 0", "object 1 value 1"),
-            ("start", "party 2"),
-            ("poll 2 0", "object 2 value 2"),
-            ("start", "party 3"),
-            ("poll 3 0", "object 3 value 3"),
-            ("back 0", "kept"),
-            ("back 1", "kept"),
-            ("back 2", "kept"),
-            ("answer recycle pending", "ok"),
-            ("start", "party 4"),
-            ("poll 4 0", "pending"),
-            ("resize 1", "ok"),
-            ("status", "max 1 size 3 available 1 waiting 0"),
-            ("back 3", "detached"),
-            ("status", "max 1 size 2 available 1 waiting 0"),
-            ("poll 4 0", "object 0 value 0"),
-            ("back 0", "detached"),
-            ("status", "max 1 size 1 available 1 waiting 0"),
-            ("start", "party 5"),
-            ("poll 5 0", "object 2 value 2"),
-        ],
-    ),
-    (
-        "retain-rejects-all-of-five",
-        &[
-            ("pool 5 fifo none 0 2", "ok"),
-            ("start", "party 0"),
-            ("poll 0 0", "object 0 value 0"),
-            ("start", "party 1"),
-            ("poll 1 0", "object 1 value 1"),
-            ("start", "party 2"),
-            ("poll 2 0", "object 2 value 2"),
-            ("start", "party 3"),
-            ("poll 3 0", "object 3 value 3"),
-            ("start", "party 4"),
-            ("poll 4 0", "object 4 value 4"),
-            ("back 0", "kept"),
-            ("back 1", "kept"),
-            ("back 2", "kept"),
-            ("back 3", "kept"),
-            ("back 4", "kept"),
-            ("retain", "retained 2 removed 0 1 2"),
-            ("status", "max 5 size 2 available 2 waiting 0"),
-            ("start", "party 5"),
-            ("poll 5 0", "object 3 value 3"),
-        ],
-    ),
-    (
-        "retain-keeps-one-and-the-floor",
-        &[
-            ("pool 5 fifo none 0 2", "ok"),
-            ("start", "party 0"),
-            ("poll 0 0", "object 0 value 0"),
-            ("start", "party 1"),
-            ("poll 1 0", "object 1 value 1"),
-            ("start", "party 2"),
-            ("poll 2 0", "object 2 value 2"),
-            ("start", "party 3"),
-            ("poll 3 0", "object 3 value 3"),
-            ("start", "party 4"),
-            ("poll 4 0", "object 4 value 4"),
-            ("back 0", "kept"),
-            ("back 1", "kept"),
-            ("back 2", "kept"),
-            ("back 3", "kept"),
-            ("back 4", "kept"),
-            ("retain 0", "retained 2 removed 1 2 3"),
-            ("start", "party 5"),
-            ("poll 5 0", "object 0 value 0"),
-            ("start", "party 6"),
-            ("poll 6 0", "object 4 value 4"),
-        ],
-    ),
-    (
-        "retain-spares-before-it-keeps",
-        &[
-            ("pool 5 fifo none 0 2", "ok"),
-            ("start", "party 0"),
-            ("poll 0 0", "object 0 value 0"),
-            ("start", "party 1"),
-            ("poll 1 0", "object 1 value 1"),
-            ("start", "party 2"),
-            ("poll 2 0", "object 2 value 2"),
-            ("start", "party 3"),
-            ("poll 3 0", "object 3 value 3"),
-            ("start", "party 4"),
-            ("poll 4 0", "object 4 value 4"),
-            ("back 0", "kept"),
-            ("back 1", "kept"),
-            ("back 2", "kept"),
-            ("back 3", "kept"),
-            ("back 4", "kept"),
-            ("retain 4", "retained 2 removed 0 1 2"),
-        ],
-    ),
-    (
-        "growth-after-a-stopped-shrink",
-        &[
-            ("pool 4 fifo none 0 2", "ok"),
-            ("start", "party 0"),
-            ("poll 0 0", "object 0 value 0"),
-            ("start", "party 1"),
-            ("poll 1 0", "object 1 value 1"),
-            ("start", "party 2"),
-            ("poll 2 0", "object 2 value 2"),
-            ("start", "party 3"),
-            ("poll 3 0", "object 3 value 3"),
-            ("back 0", "kept"),
-            ("back 1", "kept"),
-            ("resize 2", "ok"),
-            ("start", "party 4"),
-            ("poll 4 0", "pending"),
-            ("status", "max 2 size 4 available 1 waiting 0"),
-            ("resize 4", "ok"),
-            ("status", "max 4 size 4 available 1 waiting 0"),
-            ("start", "party 5"),
-            ("poll 5 0", "object 0 value 0"),
-            ("poll 4 0", "object 1 value 1"),
-            ("start", "party 6"),
-            ("poll 6 0", "pending"),
-            ("status", "max 4 size 4 available 0 waiting 1"),
-        ],
-    ),
-    (
-        "shrink-stopped-half-way",
-        &[
-            ("pool 4 fifo none 0 1", "ok"),
-            ("start", "party 0"),
-            ("poll 0 0", "object 0 value 0"),
-            ("start", "party 1"),
-            ("poll 1 0", "object 1 value 1"),
-            ("start", "party 2"),
-            ("poll 2 0", "object 2 value 2"),
-            ("start", "party 3"),
-            ("poll 3 0", "object 3 value 3"),
-            ("back 0", "kept"),
-            ("back 1", "kept"),
-            ("resize 2", "ok"),
-            ("status", "max 2 size 3 available 1 waiting 0"),
-            ("back 2", "detached"),
-            ("back 3", "kept"),
-            ("status", "max 2 size 2 available 2 waiting 0"),
-            ("resize 1", "ok"),
-            ("status", "max 1 size 1 available 1 waiting 0"),
-        ],
-    ),
-    (
-        "last-handle-keeps-no-floor",
-        &[
-            ("pool 2 fifo none 0 2", "ok"),
-            ("start", "party 0"),
-            ("poll 0 0", "object 0 value 0"),
-            ("start", "party 1"),
-            ("poll 1 0", "object 1 value 1"),
-            ("back 0", "kept"),
-            ("drop", "ok"),
-            ("back 1", "dropped"),
-            ("status", "no handle"),
-            ("upgrade", "none"),
-        ],
-    ),
-    (
-        "floor-of-a-configuration",
-        &[
-            (r#"config none 0 {"max_size":3,"min_idle":1}"#, "ok"),
-            ("start", "party 0"),
-            ("poll 0 0", "object 0 value 0"),
-            ("start", "party 1"),
-            ("poll 1 0", "object 1 value 1"),
-            ("start", "party 2"),
-            ("poll 2 0", "object 2 value 2"),
-            ("back 0", "kept"),
-            ("back 1", "kept"),
-            ("back 2", "kept"),
-            ("retain", "retained 1 removed 0 1"),
-        ],
-    ),
-    (
-        "floors-that-are-no-numbers",
-        &[
-            (
-                r#"config none 0 {"max_size":1,"min_idle":null}"#,
-                "error min_idle is not a whole number in range",
-            ),
-            (
-                r#"config none 0 {"max_size":1,"min_idle":-1}"#,
-                "error min_idle is not a whole number in range",
-            ),
-            (
-                r#"config none 0 {"max_size":1,"min_idle":1.5}"#,
-                "error min_idle is not a whole number in range",
-            ),
-            (
-                r#"config none 0 {"max_size":1,"min_idle":18446744073709551616}"#,
-                "error min_idle is not a whole number in range",
-            ),
-            (
-                r#"config none 0 {"max_size":1,"min_idle":18446744073709551615}"#,
-                "ok",
-            ),
-        ],
-    ),
-    (
-        "floor-of-zero",
-        &[
-            ("pool 1 fifo none 0 0", "ok"),
-            ("start", "party 0"),
-            ("poll 0 0", "object 0 value 0"),
-            ("back 0", "kept"),
-            ("retain", "retained 0 removed 0"),
-        ],
-    ),
-    (
-        "greatest-floor",
-        &[
-            ("pool 1 lifo clock 7 18446744073709551615", "ok"),
-            ("start", "party 0"),
-            ("poll 0 0", "object 7 value 0"),
-            ("back 7", "kept"),
-            ("retain", "retained 1 removed"),
-        ],
-    ),
-    (
-        "floor-with-leading-zeros",
-        &[
-            ("pool 2 fifo none 0 001", "ok"),
-            ("start", "party 0"),
-            ("poll 0 0", "object 0 value 0"),
-            ("start", "party 1"),
-            ("poll 1 0", "object 1 value 1"),
-            ("back 0", "kept"),
-            ("back 1", "kept"),
-            ("retain", "retained 1 removed 0"),
-        ],
-    ),
-];
+const SCRIPTS: &str = r#"# floor-under-shrink-and-retain
+pool 4 fifo none 0 2 = ok
+start = party 0
+poll 0 0 = object 0 value 0
+start = party 1
+poll 1 0 = object 1 value 1
+start = party 2
+poll 2 0 = object 2 value 2
+start = party 3
+poll 3 0 = object 3 value 3
+back 0 = kept
+back 1 = kept
+resize 2 = ok
+status = max 2 size 4 available 2 waiting 0
+start 0 - - = party 4
+poll 4 0 = error Timeout occurred while waiting for a slot to become available
+back 2 = detached
+back 3 = detached
+status = max 2 size 2 available 2 waiting 0
+retain = retained 2 removed
+resize 1 = ok
+status = max 1 size 1 available 1 waiting 0
+close = ok
+status = max 0 size 0 available 0 waiting 0
+
+# retain-keeps-the-floor
+pool 3 fifo none 0 1 = ok
+start = party 0
+poll 0 0 = object 0 value 0
+start = party 1
+poll 1 0 = object 1 value 1
+start = party 2
+poll 2 0 = object 2 value 2
+back 0 = kept
+back 1 = kept
+back 2 = kept
+retain = retained 1 removed 0 1
+
+# json
+config none 0 {"max_size":1,"queue_mode":5,"min_idle":null} = error queue_mode is not Fifo or Lifo
+config none 0 {"max_size":1,"min_idle":null} = error min_idle is not a whole number in range
+config none 0 {"max_size":1,"min_idle":0} = ok
+
+# floor-above-the-limit
+pool 2 fifo none 0 5 = ok
+start = party 0
+poll 0 0 = object 0 value 0
+start = party 1
+poll 1 0 = object 1 value 1
+back 0 = kept
+back 1 = kept
+retain = retained 2 removed
+resize 1 = ok
+status = max 1 size 1 available 1 waiting 0
+start = party 2
+poll 2 0 = object 1 value 1
+back 1 = kept
+resize 3 = ok
+status = max 3 size 1 available 1 waiting 0
+close = ok
+status = max 0 size 0 available 0 waiting 0
+
+# floor-above-a-smaller-limit
+pool 4 fifo none 0 3 = ok
+start = party 0
+poll 0 0 = object 0 value 0
+start = party 1
+poll 1 0 = object 1 value 1
+start = party 2
+poll 2 0 = object 2 value 2
+start = party 3
+poll 3 0 = object 3 value 3
+back 0 = kept
+back 1 = kept
+back 2 = kept
+back 3 = kept
+resize 2 = ok
+status = max 2 size 2 available 2 waiting 0
+start = party 4
+poll 4 0 = object 2 value 2
+
+# floor-beside-objects-in-use
+pool 4 fifo none 0 1 = ok
+start = party 0
+poll 0 0 = object 0 value 0
+start = party 1
+poll 1 0 = object 1 value 1
+start = party 2
+poll 2 0 = object 2 value 2
+start = party 3
+poll 3 0 = object 3 value 3
+back 0 = kept
+back 1 = kept
+back 2 = kept
+answer recycle pending = ok
+start = party 4
+poll 4 0 = pending
+resize 1 = ok
+status = max 1 size 3 available 1 waiting 0
+back 3 = detached
+status = max 1 size 2 available 1 waiting 0
+poll 4 0 = object 0 value 0
+back 0 = detached
+status = max 1 size 1 available 1 waiting 0
+start = party 5
+poll 5 0 = object 2 value 2
+
+# retain-rejects-all-of-five
+pool 5 fifo none 0 2 = ok
+start = party 0
+poll 0 0 = object 0 value 0
+start = party 1
+poll 1 0 = object 1 value 1
+start = party 2
+poll 2 0 = object 2 value 2
+start = party 3
+poll 3 0 = object 3 value 3
+start = party 4
+poll 4 0 = object 4 value 4
+back 0 = kept
+back 1 = kept
+back 2 = kept
+back 3 = kept
+back 4 = kept
+retain = retained 2 removed 0 1 2
+status = max 5 size 2 available 2 waiting 0
+start = party 5
+poll 5 0 = object 3 value 3
+
+# retain-keeps-one-and-the-floor
+pool 5 fifo none 0 2 = ok
+start = party 0
+poll 0 0 = object 0 value 0
+start = party 1
+poll 1 0 = object 1 value 1
+start = party 2
+poll 2 0 = object 2 value 2
+start = party 3
+poll 3 0 = object 3 value 3
+start = party 4
+poll 4 0 = object 4 value 4
+back 0 = kept
+back 1 = kept
+back 2 = kept
+back 3 = kept
+back 4 = kept
+retain 0 = retained 2 removed 1 2 3
+start = party 5
+poll 5 0 = object 0 value 0
+start = party 6
+poll 6 0 = object 4 value 4
+
+# retain-spares-before-it-keeps
+pool 5 fifo none 0 2 = ok
+start = party 0
+poll 0 0 = object 0 value 0
+start = party 1
+poll 1 0 = object 1 value 1
+start = party 2
+poll 2 0 = object 2 value 2
+start = party 3
+poll 3 0 = object 3 value 3
+start = party 4
+poll 4 0 = object 4 value 4
+back 0 = kept
+back 1 = kept
+back 2 = kept
+back 3 = kept
+back 4 = kept
+retain 4 = retained 2 removed 0 1 2
+
+# growth-after-a-stopped-shrink
+pool 4 fifo none 0 2 = ok
+start = party 0
+poll 0 0 = object 0 value 0
+start = party 1
+poll 1 0 = object 1 value 1
+start = party 2
+poll 2 0 = object 2 value 2
+start = party 3
+poll 3 0 = object 3 value 3
+back 0 = kept
+back 1 = kept
+resize 2 = ok
+start = party 4
+poll 4 0 = pending
+status = max 2 size 4 available 1 waiting 0
+resize 4 = ok
+status = max 4 size 4 available 1 waiting 0
+start = party 5
+poll 5 0 = object 0 value 0
+poll 4 0 = object 1 value 1
+start = party 6
+poll 6 0 = pending
+status = max 4 size 4 available 0 waiting 1
+
+# shrink-stopped-half-way
+pool 4 fifo none 0 1 = ok
+start = party 0
+poll 0 0 = object 0 value 0
+start = party 1
+poll 1 0 = object 1 value 1
+start = party 2
+poll 2 0 = object 2 value 2
+start = party 3
+poll 3 0 = object 3 value 3
+back 0 = kept
+back 1 = kept
+resize 2 = ok
+status = max 2 size 3 available 1 waiting 0
+back 2 = detached
+back 3 = kept
+status = max 2 size 2 available 2 waiting 0
+resize 1 = ok
+status = max 1 size 1 available 1 waiting 0
+
+# last-handle-keeps-no-floor
+pool 2 fifo none 0 2 = ok
+start = party 0
+poll 0 0 = object 0 value 0
+start = party 1
+poll 1 0 = object 1 value 1
+back 0 = kept
+drop = ok
+back 1 = dropped
+status = no handle
+upgrade = none
+
+# floor-of-a-configuration
+config none 0 {"max_size":3,"min_idle":1} = ok
+start = party 0
+poll 0 0 = object 0 value 0
+start = party 1
+poll 1 0 = object 1 value 1
+start = party 2
+poll 2 0 = object 2 value 2
+back 0 = kept
+back 1 = kept
+back 2 = kept
+retain = retained 1 removed 0 1
+
+# floors-that-are-no-numbers
+config none 0 {"max_size":1,"min_idle":null} = error min_idle is not a whole number in range
+config none 0 {"max_size":1,"min_idle":-1} = error min_idle is not a whole number in range
+config none 0 {"max_size":1,"min_idle":1.5} = error min_idle is not a whole number in range
+config none 0 {"max_size":1,"min_idle":18446744073709551616} = error min_idle is not a whole number in range
+config none 0 {"max_size":1,"min_idle":18446744073709551615} = ok
+
+# floor-of-zero
+pool 1 fifo none 0 0 = ok
+start = party 0
+poll 0 0 = object 0 value 0
+back 0 = kept
+retain = retained 0 removed 0
+
+# greatest-floor
+pool 1 lifo clock 7 18446744073709551615 = ok
+start = party 0
+poll 0 0 = object 7 value 0
+back 7 = kept
+retain = retained 1 removed
+
+# floor-with-leading-zeros
+pool 2 fifo none 0 001 = ok
+start = party 0
+poll 0 0 = object 0 value 0
+start = party 1
+poll 1 0 = object 1 value 1
+back 0 = kept
+back 1 = kept
+retain = retained 1 removed 0
+"#;
 
 #[test]
 fn scripts_have_their_replies(rt: HostRuntime) -> Result<(), Fail> {
-    replies_as_written(&rt, &SCRIPTS)
+    replies_as_written(&rt, SCRIPTS)
 }
 
 // Each as the first line.
-const BAD_LINES: [&[u8]; 8] = [
-    b"pool 1 fifo none 0 -1",
-    b"pool 1 fifo none 0 x",
-    b"pool 1 fifo none 0 1.5",
-    b"pool 1 fifo none 0 18446744073709551616",
-    b"pool 1 fifo none 0 0 0",
-    b"pool 1 fifo none 0 ",
-    b"pool 1 fifo none 0  0",
-    b"unmanaged 1 none 0",
-];
+const BAD_LINES: &str = "\
+    pool 1 fifo none 0 -1|pool 1 fifo none 0 x|pool 1 fifo none 0 1.5|\
+    pool 1 fifo none 0 18446744073709551616|pool 1 fifo none 0 0 0|pool 1 fifo none 0 |\
+    pool 1 fifo none 0  0|unmanaged 1 none 0";
 
 #[test]
 fn a_floor_that_is_no_number_is_no_move(rt: HostRuntime) -> Result<(), Fail> {
-    for line in BAD_LINES {
-        let (written, ending) = play(&rt, line)?;
-        assert_eq!(rt; written.as_str(), "", "at {line:?}");
-        assert_eq!(rt; ending, Err(Fault::NotAMove(1)), "at {line:?}");
+    for line in BAD_LINES.split('|') {
+        comes_to(&rt, line, line.as_bytes(), "", Err(Fault::NotAMove(1)))?;
     }
     Ok(())
 }

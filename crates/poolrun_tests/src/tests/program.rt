@@ -1,9 +1,13 @@
 //! A whole program: its arguments, what it says, and the status that it ends with.
-use super::started::{Arguments, Started, ends_so};
+use super::started::{Arguments, Started, ends_so, is_refused, status_is};
 use super::streams::{FailingReader, FailingWriter};
+use super::{agree, count_is};
 use poolrun_engine::run;
 use std::io::ErrorKind;
+use std::random::RandomSource;
+use std::sync::Wait;
 use std::test::Fail;
+use std::thread::Threads;
 
 const NAME: Arguments = &[b"poolrun"];
 
@@ -20,13 +24,27 @@ const SCRIPTS: [(&[u8], &[u8], &str, u8); 4] = [
     ),
 ];
 
+fn script_ends_so<R>(
+    rt: R,
+    script: &[u8],
+    replies: &[u8],
+    said: &str,
+    status: u8,
+) -> Result<(), Fail>
+where
+    R: RandomSource + AllocGlobal,
+    R: Wait + Threads + Drop + Copy + Send + Sync + 'static,
+{
+    let mut reader = script;
+    let mut written = Vec::new(rt.alloc());
+    ends_so(rt, NAME, &mut reader, &mut written, said, status)?;
+    agree(said, &written, Ok(()), replies, Ok(()))
+}
+
 #[test]
 fn text_and_status_say_how_a_script_ended(rt: HostRuntime) -> Result<(), Fail> {
     for (script, replies, said, status) in SCRIPTS {
-        let mut reader = script;
-        let mut written = Vec::new(rt.alloc());
-        ends_so(rt, NAME, &mut reader, &mut written, said, status)?;
-        assert_eq!(rt; written.as_slice(), replies, "before {said:?}");
+        script_ends_so(rt, script, replies, said, status)?;
     }
     Ok(())
 }
@@ -43,12 +61,7 @@ const ARGUMENTS: [Arguments; 5] = [
 #[test]
 fn arguments_are_refused(rt: HostRuntime) -> Result<(), Fail> {
     for arguments in ARGUMENTS {
-        let mut reader: &[u8] = b"pool 1 fifo none 0\n";
-        let mut written = Vec::new(rt.alloc());
-        let said = "usage: poolrun [threads N M | buffers MOST]\n";
-        ends_so(rt, arguments, &mut reader, &mut written, said, 2)?;
-        assert!(rt; written.is_empty());
-        assert_eq!(rt; reader.len(), 19);
+        is_refused(rt, arguments)?;
     }
     Ok(())
 }
@@ -93,10 +106,8 @@ fn the_status_stands_where_nothing_is_said(rt: HostRuntime) -> Result<(), Fail> 
     let mut reader: &[u8] = b"start\n";
     let mut written = Vec::new(rt.alloc());
     let ending = run(&started, &mut reader, &mut written, &mut errors);
-    let shown = format!(in rt.alloc(); "{ending:?}")?;
-    assert_eq!(rt; shown.as_str(), "ExitCode(unix_exit_status(2))");
-    assert!(rt; written.is_empty() && errors.written.is_empty());
-    Ok(())
+    status_is(&rt, ending, &errors.written, "", 2)?;
+    count_is("bytes written", written.len(), 0)
 }
 
 // What the program is started with, what it reads, and what it writes.
@@ -129,8 +140,8 @@ fn lines_are_put_into_buffers(rt: HostRuntime) -> Result<(), Fail> {
         let mut reader = lines;
         let mut written = Vec::new(rt.alloc());
         ends_so(rt, arguments, &mut reader, &mut written, "", 0)?;
-        assert_eq!(rt; written.as_slice(), replies);
-        assert!(rt; reader.is_empty());
+        agree(arguments, &written, Ok(()), replies, Ok(()))?;
+        count_is("bytes left", reader.len(), 0)?;
     }
     Ok(())
 }
@@ -152,12 +163,7 @@ const NOT_ONE_NUMBER: [Arguments; 10] = [
 #[test]
 fn buffers_take_one_number(rt: HostRuntime) -> Result<(), Fail> {
     for arguments in NOT_ONE_NUMBER {
-        let mut reader: &[u8] = b"line\n";
-        let mut written = Vec::new(rt.alloc());
-        let said = "usage: poolrun [threads N M | buffers MOST]\n";
-        ends_so(rt, arguments, &mut reader, &mut written, said, 2)?;
-        assert!(rt; written.is_empty());
-        assert_eq!(rt; reader.len(), 5);
+        is_refused(rt, arguments)?;
     }
     Ok(())
 }

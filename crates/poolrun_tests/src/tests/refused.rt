@@ -1,205 +1,73 @@
 //! What is not in the language, and what just is.
-use super::play;
+use super::{comes_to, play};
 use poolrun_engine::Fault;
-use std::process::Abort;
 use std::random::RandomSource;
 use std::test::Fail;
 
-// Each as the second line, after a managed pool.
-const BAD_LINES: [&[u8]; 64] = [
-    b"poll 0",
-    b"poll 0 -1",
-    b"poll 0 +1",
-    b"poll 0 0 0",
-    b"poll 0  0",
-    b"poll 0 0x1",
-    b"poll 18446744073709551616 0",
-    b"poll 0 340282366920938463463374607431768211456",
-    b"Status",
-    b"status ",
-    b"status\r",
-    b"status\t",
-    b" status",
-    b" ",
-    b"\r",
-    b" # comment",
-    b"stat",
-    b"statuses",
-    b"start ",
-    b"start  - -",
-    b"start 1 2",
-    b"start - - - -",
-    b"start -- - -",
-    b"start 18446744073709551616 - -",
-    b"advance",
-    b"advance 0",
-    b"cancel",
-    b"cancel -",
-    b"put 0",
-    b"put 0 18446744073709551616",
-    b"put 0 1 2",
-    b"back",
-    b"back 0 0",
-    b"answer",
-    b"answer recycle",
-    b"answer recycle ",
-    b"answer recycle ok  ok",
-    b"answer create add",
-    b"answer create ok add",
-    b"answer detach ok",
-    b"answer pre OK",
-    b"take",
-    b"take 0 0",
-    b"resize",
-    b"resize -1",
-    b"resize 18446744073709551616",
-    b"retain ",
-    b"retain 0  1",
-    b"retain 0 x",
-    b"close 0",
-    b"clone 1",
-    b"drop 0",
-    b"upgrade ",
-    b"pool 1 fifo none 0",
-    b"config none 0 {\"max_size\":1}",
-    b"config",
-    b"\xff",
-    // The lines over an unmanaged pool.
-    b"unmanaged 1 none",
-    b"get",
-    b"get -",
-    b"get 0",
-    b"add 1",
-    b"tryget",
-    b"tryadd 1",
-];
+// Lines, parted by `|`: each as the second line, after a managed pool. Those from `unmanaged` on are of an unmanaged pool.
+const BAD_LINES: &str = "\
+    poll 0|poll 0 -1|poll 0 +1|poll 0 0 0|poll 0  0|poll 0 0x1|poll 18446744073709551616 0|\
+    poll 0 340282366920938463463374607431768211456|Status|status |status\r|status\t| status| |\r| # comment|\
+    stat|statuses|start |start  - -|start 1 2|start - - - -|start -- - -|\
+    start 18446744073709551616 - -|advance|advance 0|cancel|cancel -|put 0|\
+    put 0 18446744073709551616|put 0 1 2|back|back 0 0|answer|answer recycle|answer recycle |\
+    answer recycle ok  ok|answer create add|answer create ok add|answer detach ok|answer pre OK|\
+    take|take 0 0|resize|resize -1|resize 18446744073709551616|retain |retain 0  1|retain 0 x|\
+    close 0|clone 1|drop 0|upgrade |pool 1 fifo none 0|config none 0 {\"max_size\":1}|config|\
+    unmanaged 1 none|get|get -|get 0|add 1|tryget|tryadd 1";
 
-// Each as the second line, after an unmanaged pool.
-const BAD_UNMANAGED_LINES: [&[u8]; 57] = [
-    b"get ",
-    b"get  -",
-    b"get x",
-    b"get --",
-    b"get -1",
-    b"get +1",
-    b"get 0 0",
-    b"get - -",
-    b"get 18446744073709551616",
-    b"Get",
-    b"gets",
-    b"add",
-    b"add ",
-    b"add -",
-    b"add -1",
-    b"add 1 2",
-    b"add  1",
-    b"add 18446744073709551616",
-    b"tryget ",
-    b"tryget 0",
-    b"tryget -",
-    b"try get",
-    b"tryadd",
-    b"tryadd ",
-    b"tryadd x",
-    b"tryadd 1 2",
-    b"tryadd 18446744073709551616",
-    b"poll",
-    b"poll 0",
-    b"poll 0 -1",
-    b"poll 0 0 0",
-    b"poll 18446744073709551616 0",
-    b"poll 0 340282366920938463463374607431768211456",
-    b"cancel",
-    b"cancel 0 0",
-    b"back",
-    b"back 0 0",
-    b"take",
-    b"take -",
-    b"close 0",
-    b"status\r",
-    b"clone 1",
-    b"drop 0",
-    b"upgrade ",
-    b" ",
-    b"\xff",
-    // A second pool, and the lines over a managed one.
-    b"unmanaged 1 none",
-    b"pool 1 fifo none 0",
-    b"config none 0 {\"max_size\":1}",
-    b"answer create ok",
-    b"start",
-    b"start - - -",
-    b"advance 0 0",
-    b"put 0 0",
-    b"resize 1",
-    b"retain",
-    b"retain 0",
-];
+// Each as the second line, after an unmanaged pool. Those from `unmanaged` on are a second pool and lines of a managed one.
+const BAD_UNMANAGED_LINES: &str = "\
+    get |get  -|get x|get --|get -1|get +1|get 0 0|get - -|get 18446744073709551616|Get|gets|add|\
+    add |add -|add -1|add 1 2|add  1|add 18446744073709551616|tryget |tryget 0|tryget -|try get|\
+    tryadd|tryadd |tryadd x|tryadd 1 2|tryadd 18446744073709551616|poll|poll 0|poll 0 -1|poll 0 0 0|\
+    poll 18446744073709551616 0|poll 0 340282366920938463463374607431768211456|cancel|cancel 0 0|\
+    back|back 0 0|take|take -|close 0|status\r|clone 1|drop 0|upgrade | |unmanaged 1 none|\
+    pool 1 fifo none 0|config none 0 {\"max_size\":1}|answer create ok|start|start - - -|\
+    advance 0 0|put 0 0|resize 1|retain|retain 0";
 
 // Each as the first line.
-const BAD_FIRST_LINES: [&[u8]; 36] = [
-    b"start",
-    b"advance 0 0",
-    b"poll 0 0",
-    b"cancel 0",
-    b"put 0 0",
-    b"back 0",
-    b"status",
-    b"answer create ok",
-    b"pool",
-    b"pool 1 fifo none",
-    b"pool 1 fifo none 0 0 0",
-    b"pool 1 FIFO none 0",
-    b"pool 1 fifo timer 0",
-    b"pool -1 fifo none 0",
-    b"pool 18446744073709551616 fifo none 0",
-    b"pool 1 fifo none 18446744073709551616",
-    b"config none 0",
-    b"config none 0 ",
-    b"config none",
-    b"config timer 0 []",
-    b"config none -1 []",
-    b"config none  0 []",
-    b"config \xff 0 []",
-    b"get",
-    b"add 1",
-    b"tryget",
-    b"tryadd 1",
-    b"unmanaged",
-    b"unmanaged 1",
-    b"unmanaged 1 ",
-    b"unmanaged 1 none 0",
-    b"unmanaged 1 NONE",
-    b"unmanaged 1 fifo",
-    b"unmanaged none 1",
-    b"unmanaged -1 none",
-    b"unmanaged 18446744073709551616 none",
-];
+const BAD_FIRST_LINES: &str = "\
+    start|advance 0 0|poll 0 0|cancel 0|put 0 0|back 0|status|answer create ok|pool|\
+    pool 1 fifo none|pool 1 fifo none 0 0 0|pool 1 FIFO none 0|pool 1 fifo timer 0|\
+    pool -1 fifo none 0|pool 18446744073709551616 fifo none 0|pool 1 fifo none 18446744073709551616|\
+    config none 0|config none 0 |config none|config timer 0 []|config none -1 []|config none  0 []|\
+    get|add 1|tryget|tryadd 1|unmanaged|unmanaged 1|unmanaged 1 |unmanaged 1 none 0|\
+    unmanaged 1 NONE|unmanaged 1 fifo|unmanaged none 1|unmanaged -1 none|\
+    unmanaged 18446744073709551616 none";
 
-fn second_lines_end_the_run<R: RandomSource + AllocGlobal + Abort>(
+fn second_line_ends_the_run<R: RandomSource + AllocGlobal>(
     rt: &R,
     pool: &[u8],
-    lines: &[&[u8]],
+    line: &[u8],
 ) -> Result<(), Fail> {
-    for line in lines {
-        let script = [pool, *line, b"\nstatus\n"].concat(rt.alloc())?;
-        let (written, ending) = play(rt, &script)?;
-        assert_eq!(rt; written.as_str(), "ok\n", "at {line:?}");
-        assert_eq!(rt; ending, Err(Fault::NotAMove(2)), "at {line:?}");
+    let script = [pool, line, b"\nstatus\n"].concat(rt.alloc())?;
+    comes_to(rt, line, &script, "ok\n", Err(Fault::NotAMove(2)))
+}
+
+fn second_lines_end_the_run<R: RandomSource + AllocGlobal>(
+    rt: &R,
+    pool: &[u8],
+    lines: &str,
+) -> Result<(), Fail> {
+    for line in lines.split('|') {
+        second_line_ends_the_run(rt, pool, line.as_bytes())?;
     }
-    Ok(())
+    second_line_ends_the_run(rt, pool, b"\xff")
+}
+
+fn first_line_ends_the_run<R: RandomSource + AllocGlobal>(rt: &R, line: &[u8]) -> Result<(), Fail> {
+    comes_to(rt, line, line, "", Err(Fault::NotAMove(1)))
 }
 
 #[test]
 fn a_line_that_is_no_move_ends_the_run(rt: HostRuntime) -> Result<(), Fail> {
-    second_lines_end_the_run(&rt, b"pool 1 fifo none 0\n", &BAD_LINES)?;
-    second_lines_end_the_run(&rt, b"unmanaged 1 none\n", &BAD_UNMANAGED_LINES)?;
-    for line in BAD_FIRST_LINES {
-        let (written, ending) = play(&rt, line)?;
-        assert_eq!(rt; written.as_str(), "", "at {line:?}");
-        assert_eq!(rt; ending, Err(Fault::NotAMove(1)), "at {line:?}");
+    second_lines_end_the_run(&rt, b"pool 1 fifo none 0\n", BAD_LINES)?;
+    second_lines_end_the_run(&rt, b"unmanaged 1 none\n", BAD_UNMANAGED_LINES)?;
+    for line in BAD_FIRST_LINES.split('|') {
+        first_line_ends_the_run(&rt, line.as_bytes())?;
     }
-    Ok(())
+    first_line_ends_the_run(&rt, b"config \xff 0 []")
 }
 
 // Scripts, what they write, and how they end.
@@ -236,11 +104,17 @@ const ODD_SCRIPTS: [(&[u8], &str, Result<(), Fault>); 7] = [
 #[test]
 fn odd_scripts_have_their_ends(rt: HostRuntime) -> Result<(), Fail> {
     for (script, replies, want) in ODD_SCRIPTS {
-        let (written, ending) = play(&rt, script)?;
-        assert_eq!(rt; written.as_bytes(), replies.as_bytes());
-        assert_eq!(rt; ending, want);
+        comes_to(&rt, script, script, replies, want)?;
     }
     Ok(())
+}
+
+// Fails unless a run ended well, and these were the last replies.
+fn ends_well(written: &str, ending: Result<(), Fault>, last: &str) -> Result<(), Fail> {
+    if written.ends_with(last) && ending == Ok(()) {
+        return Ok(());
+    }
+    Err(Fail::new(format_args!("{ending:?}, and not after {last:?}")))
 }
 
 #[test]
@@ -251,13 +125,11 @@ fn no_more_parties_than_there_is_room_for(rt: HostRuntime) -> Result<(), Fail> {
         script.extend_from_slice(b"start\n")?;
     }
     let (written, ending) = play(&rt, &script)?;
-    assert!(rt;
-        written
-            .as_str()
-            .ends_with("party 1022\nparty 1023\nno room\n")
-    );
-    assert_eq!(rt; ending, Ok(()));
-    Ok(())
+    ends_well(
+        written.as_str(),
+        ending,
+        "party 1022\nparty 1023\nno room\n",
+    )
 }
 
 // Gets and adds count alike. An add that finds no room draws no number.
@@ -270,27 +142,21 @@ fn no_more_gets_and_adds_than_there_is_room_for(rt: HostRuntime) -> Result<(), F
     }
     script.extend_from_slice(b"get\nadd 7\ntryadd 8\n")?;
     let (written, ending) = play(&rt, &script)?;
-    assert!(rt;
-        written
-            .as_str()
-            .ends_with("party 1022\nparty 1023\nno room\nno room\nadded 512\n")
-    );
-    assert_eq!(rt; ending, Ok(()));
-    Ok(())
+    let last = "party 1022\nparty 1023\nno room\nno room\nadded 512\n";
+    ends_well(written.as_str(), ending, last)
+}
+
+fn text_gives_no_pool<R: RandomSource + AllocGlobal>(rt: &R, text: &[u8]) -> Result<(), Fail> {
+    let script = [b"config none 0 ", text, b"\npool 1 fifo none 0\n"].concat(rt.alloc())?;
+    let replies = "error Configuration is not JSON\nok\n";
+    comes_to(rt, text, &script, replies, Ok(()))
 }
 
 // A pool whose configuration is no JSON is refused, and the script goes on without one.
 #[test]
 fn a_text_that_is_no_json_gives_no_pool(rt: HostRuntime) -> Result<(), Fail> {
-    for text in [b"\xff".as_slice(), b"{\"max_size\":1", b" ", &[b'['; 200]] {
-        let script = [b"config none 0 ", text, b"\npool 1 fifo none 0\n"].concat(rt.alloc())?;
-        let (written, ending) = play(&rt, &script)?;
-        assert_eq!(rt;
-            written.as_str(),
-            "error Configuration is not JSON\nok\n",
-            "at {text:?}"
-        );
-        assert_eq!(rt; ending, Ok(()));
-    }
-    Ok(())
+    text_gives_no_pool(&rt, b"\xff")?;
+    text_gives_no_pool(&rt, b"{\"max_size\":1")?;
+    text_gives_no_pool(&rt, b" ")?;
+    text_gives_no_pool(&rt, &[b'['; 200])
 }

@@ -4,7 +4,7 @@ use std::alloc::Global;
 use std::env::FillError;
 use std::io;
 use std::io::{BufRead, Write};
-use std::process::Abort;
+use std::process::ExitCode;
 use std::random::RandomSource;
 use std::rt::Env;
 use std::sync::Wait;
@@ -58,6 +58,22 @@ impl<R: Wait> Wait for Started<R> {}
 
 impl<R: Threads> Threads for Started<R> {}
 
+/// Sees the status of a run, and what it said on standard error.
+pub fn status_is<R: AllocGlobal>(
+    rt: &R,
+    ending: ExitCode,
+    errors: &[u8],
+    said: &str,
+    status: u8,
+) -> Result<(), Fail> {
+    let shown = format!(in rt.alloc(); "{ending:?}")?;
+    let want = format!(in rt.alloc(); "ExitCode(unix_exit_status({status}))")?;
+    if errors == said.as_bytes() && shown == want {
+        return Ok(());
+    }
+    Err(Fail::new(format_args!("{shown}, and not {want}, after {said:?}, and not {errors:?}")))
+}
+
 /// Runs a program, sees its status and what it says on standard error.
 pub fn ends_so<R, B: BufRead, W: Write>(
     rt: R,
@@ -68,16 +84,27 @@ pub fn ends_so<R, B: BufRead, W: Write>(
     status: u8,
 ) -> Result<(), Fail>
 where
-    R: RandomSource + AllocGlobal + Abort,
+    R: RandomSource + AllocGlobal,
     R: Wait + Threads + Drop + Copy + Send + Sync + 'static,
 {
     let started = Started { rt, arguments };
     let mut errors = Vec::new(rt.alloc());
     let ending = run(&started, reader, writer, &mut errors);
-    let errors = String::from_utf8(errors)?;
-    assert_eq!(rt; errors.as_str(), said);
-    let shown = format!(in rt.alloc(); "{ending:?}")?;
-    let want = format!(in rt.alloc(); "ExitCode(unix_exit_status({status}))")?;
-    assert_eq!(rt; shown.as_str(), want.as_str(), "after {said:?}");
-    Ok(())
+    status_is(&rt, ending, &errors, said, status)
+}
+
+/// With arguments that it does not know, a program says how it is used, and reads and writes nothing.
+pub fn is_refused<R>(rt: R, arguments: Arguments) -> Result<(), Fail>
+where
+    R: RandomSource + AllocGlobal,
+    R: Wait + Threads + Drop + Copy + Send + Sync + 'static,
+{
+    let mut reader: &[u8] = b"pool 1 fifo none 0\n";
+    let mut written = Vec::new(rt.alloc());
+    let said = "usage: poolrun [threads N M | buffers MOST]\n";
+    ends_so(rt, arguments, &mut reader, &mut written, said, 2)?;
+    if written.is_empty() && reader.len() == 19 {
+        return Ok(());
+    }
+    Err(Fail::new("something is read or written"))
 }

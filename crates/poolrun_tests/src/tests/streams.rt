@@ -1,47 +1,45 @@
 //! Readers and writers of which one call fails, and a pair that sees in which order it is read and written.
-use super::{Lines, replies_of, script_of};
+use super::{Lines, agree, count_is, replies_of, script_of};
 use poolrun_engine::Fault;
 use std::cell::Cell;
 use std::io;
 use std::io::{BufRead, ErrorKind, Read, Write};
-use std::process::Abort;
 use std::random::RandomSource;
 use std::test::Fail;
 
 const SCRIPTS: [Lines; 3] = [
-    &[
-        ("pool 1 fifo none 0", "ok"),
-        ("start", "party 0"),
-        ("poll 0 0", "object 0 value 0"),
-        ("answer recycle add pending", "ok"),
-        ("status", "max 1 size 1 available 0 waiting 0"),
-        ("back 0", "kept"),
-    ],
-    &[
-        ("config clock 7 {\"max_size\":2,\"min_idle\":1}", "ok"),
-        ("answer postcreate refuse", "ok"),
-        ("start 5 - -", "party 0"),
-        ("poll 0 0", "error `post_create` hook failed: refused"),
-        ("poll 1 0", "no such"),
-        ("resize 0", "ok"),
-        ("start 5 - -", "party 1"),
-        ("advance 1 0", "pending"),
-        ("close", "ok"),
-        ("advance 1 1", "error Pool has been closed"),
-        ("retain 7 8", "retained 0 removed"),
-    ],
-    &[
-        ("unmanaged 1 none", "ok"),
-        ("tryadd 18446744073709551615", "added 0"),
-        ("add 2", "party 0"),
-        ("poll 0 0", "pending"),
-        ("tryget", "object 0 value 18446744073709551615"),
-        ("take 0", "taken 18446744073709551615"),
-        ("poll 0 1", "added 1"),
-        ("drop", "ok"),
-        ("upgrade", "none"),
-        ("status", "no handle"),
-    ],
+    "\
+pool 1 fifo none 0 = ok
+start = party 0
+poll 0 0 = object 0 value 0
+answer recycle add pending = ok
+status = max 1 size 1 available 0 waiting 0
+back 0 = kept
+",
+    r#"config clock 7 {"max_size":2,"min_idle":1} = ok
+answer postcreate refuse = ok
+start 5 - - = party 0
+poll 0 0 = error `post_create` hook failed: refused
+poll 1 0 = no such
+resize 0 = ok
+start 5 - - = party 1
+advance 1 0 = pending
+close = ok
+advance 1 1 = error Pool has been closed
+retain 7 8 = retained 0 removed
+"#,
+    "\
+unmanaged 1 none = ok
+tryadd 18446744073709551615 = added 0
+add 2 = party 0
+poll 0 0 = pending
+tryget = object 0 value 18446744073709551615
+take 0 = taken 18446744073709551615
+poll 0 1 = added 1
+drop = ok
+upgrade = none
+status = no handle
+",
 ];
 
 // Counts down to the call that fails, which 0 is. Those after it do not fail.
@@ -108,32 +106,42 @@ pub fn first_lines(text: &[u8], count: usize) -> &[u8] {
     text
 }
 
-// One read gives each byte, and one more finds the end. Gives how many reads failed.
-fn ends_at_each_read<R: RandomSource + AllocGlobal + Abort>(
+// The end of a run, of which a call may have failed.
+fn end_of(fault: Fault, failed: bool) -> Result<(), Fault> {
+    match failed {
+        true => Err(fault),
+        false => Ok(()),
+    }
+}
+
+// The read fails that comes after so many.
+fn ends_at_read<R: RandomSource + AllocGlobal>(
     rt: &R,
-    lines: Lines,
-) -> Result<usize, Fail> {
+    script: &[u8],
+    replies: &[u8],
+    reads: usize,
+) -> Result<(), Fail> {
+    let mut reader = FailingReader {
+        text: script,
+        reads_left: Some(reads),
+        kind: ErrorKind::BrokenPipe,
+    };
+    let mut written = Vec::new(rt.alloc());
+    let ending = poolrun_engine::play(rt, &mut reader, &mut written);
+    let whole = first_lines(replies, lines_in(first_bytes(script, reads)));
+    let want = end_of(Fault::InputFailed, reads <= script.len());
+    agree(reads, &written, ending, whole, want)
+}
+
+// One read gives each byte, and one more finds the end. Gives how many reads failed.
+fn ends_at_each_read<R: RandomSource + AllocGlobal>(rt: &R, lines: Lines) -> Result<usize, Fail> {
     let script = script_of(rt.alloc(), lines)?;
     let replies = replies_of(rt.alloc(), lines)?;
-    for reads in 0..=script.len().saturating_add(1) {
-        let mut reader = FailingReader {
-            text: script.as_bytes(),
-            reads_left: Some(reads),
-            kind: ErrorKind::BrokenPipe,
-        };
-        let mut written = Vec::new(rt.alloc());
-        let ending = poolrun_engine::play(rt, &mut reader, &mut written);
-        let whole = lines_in(first_bytes(script.as_bytes(), reads));
-        let whole = first_lines(replies.as_bytes(), whole);
-        let want = if reads <= script.len() {
-            Err(Fault::InputFailed)
-        } else {
-            Ok(())
-        };
-        assert_eq!(rt; ending, want, "at read {reads}");
-        assert_eq!(rt; written.as_slice(), whole, "at read {reads}");
+    let most = script.len().saturating_add(1);
+    for reads in 0..=most {
+        ends_at_read(rt, script.as_bytes(), replies.as_bytes(), reads)?;
     }
-    Ok(script.len().saturating_add(1))
+    Ok(most)
 }
 
 #[test]
@@ -146,23 +154,32 @@ fn a_failed_read_ends_the_run(rt: HostRuntime) -> Result<(), Fail> {
     Ok(())
 }
 
+// The read is interrupted that comes after so many.
+fn goes_on_at_read<R: RandomSource + AllocGlobal>(
+    rt: &R,
+    script: &[u8],
+    replies: &[u8],
+    reads: usize,
+) -> Result<(), Fail> {
+    let mut reader = FailingReader {
+        text: script,
+        reads_left: Some(reads),
+        kind: ErrorKind::Interrupted,
+    };
+    let mut written = Vec::new(rt.alloc());
+    let ending = poolrun_engine::play(rt, &mut reader, &mut written);
+    agree(reads, &written, ending, replies, Ok(()))
+}
+
 // Each of the reads is interrupted, which changes nothing. Gives how many there are.
-fn goes_on_at_each_read<R: RandomSource + AllocGlobal + Abort>(
+fn goes_on_at_each_read<R: RandomSource + AllocGlobal>(
     rt: &R,
     lines: Lines,
 ) -> Result<usize, Fail> {
     let script = script_of(rt.alloc(), lines)?;
     let replies = replies_of(rt.alloc(), lines)?;
     for reads in 0..=script.len() {
-        let mut reader = FailingReader {
-            text: script.as_bytes(),
-            reads_left: Some(reads),
-            kind: ErrorKind::Interrupted,
-        };
-        let mut written = Vec::new(rt.alloc());
-        let ending = poolrun_engine::play(rt, &mut reader, &mut written);
-        assert_eq!(rt; ending, Ok(()), "at read {reads}");
-        assert_eq!(rt; written.as_slice(), replies.as_bytes(), "at read {reads}");
+        goes_on_at_read(rt, script.as_bytes(), replies.as_bytes(), reads)?;
     }
     Ok(script.len().saturating_add(1))
 }
@@ -198,34 +215,37 @@ impl Write for FailingWriter {
     }
 }
 
-// One write takes each byte of the replies. No line is read after the one whose reply was not written. Gives how many
-// writes failed.
-fn ends_at_each_write<R: RandomSource + AllocGlobal + Abort>(
+// The write fails that comes after so many. No line is read after the one whose reply was not written.
+fn ends_at_write<R: RandomSource + AllocGlobal>(
     rt: &R,
-    lines: Lines,
-) -> Result<usize, Fail> {
+    script: &[u8],
+    replies: &[u8],
+    writes: usize,
+) -> Result<(), Fail> {
+    let mut reader = script;
+    let mut writer = FailingWriter {
+        written: Vec::new(rt.alloc()),
+        writes_left: Some(writes),
+        flushes_left: None,
+    };
+    let ending = poolrun_engine::play(rt, &mut reader, &mut writer);
+    let whole = first_bytes(replies, writes);
+    let want = end_of(Fault::OutputFailed, writes < replies.len());
+    agree(writes, &writer.written, ending, whole, want)?;
+    let read = lines_in(whole).saturating_add(1);
+    count_is(
+        "lines left",
+        lines_in(reader),
+        lines_in(script).saturating_sub(read),
+    )
+}
+
+// One write takes each byte of the replies. Gives how many writes failed.
+fn ends_at_each_write<R: RandomSource + AllocGlobal>(rt: &R, lines: Lines) -> Result<usize, Fail> {
     let script = script_of(rt.alloc(), lines)?;
     let replies = replies_of(rt.alloc(), lines)?;
     for writes in 0..=replies.len() {
-        let mut reader = script.as_bytes();
-        let mut writer = FailingWriter {
-            written: Vec::new(rt.alloc()),
-            writes_left: Some(writes),
-            flushes_left: None,
-        };
-        let ending = poolrun_engine::play(rt, &mut reader, &mut writer);
-        let whole = first_bytes(replies.as_bytes(), writes);
-        let want = if writes < replies.len() {
-            Err(Fault::OutputFailed)
-        } else {
-            Ok(())
-        };
-        assert_eq!(rt; ending, want, "at write {writes}");
-        assert_eq!(rt; writer.written.as_slice(), whole, "at write {writes}");
-        let lines_left = lines
-            .len()
-            .saturating_sub(lines_in(whole).saturating_add(1));
-        assert_eq!(rt; lines_in(reader), lines_left, "at write {writes}");
+        ends_at_write(rt, script.as_bytes(), replies.as_bytes(), writes)?;
     }
     Ok(replies.len())
 }
@@ -240,37 +260,45 @@ fn a_failed_write_ends_the_run(rt: HostRuntime) -> Result<(), Fail> {
     Ok(())
 }
 
-// One flush ends each reply. Gives how many flushes failed.
-fn ends_at_each_flush<R: RandomSource + AllocGlobal + Abort>(
+// The flush fails that comes after so many.
+fn ends_at_flush<R: RandomSource + AllocGlobal>(
     rt: &R,
-    lines: Lines,
-) -> Result<usize, Fail> {
+    script: &[u8],
+    replies: &[u8],
+    flushes: usize,
+) -> Result<(), Fail> {
+    let mut reader = script;
+    let mut writer = FailingWriter {
+        written: Vec::new(rt.alloc()),
+        writes_left: None,
+        flushes_left: Some(flushes),
+    };
+    let ending = poolrun_engine::play(rt, &mut reader, &mut writer);
+    let read = flushes.saturating_add(1);
+    let want = end_of(Fault::OutputFailed, flushes < lines_in(script));
+    agree(
+        flushes,
+        &writer.written,
+        ending,
+        first_lines(replies, read),
+        want,
+    )?;
+    count_is(
+        "lines left",
+        lines_in(reader),
+        lines_in(script).saturating_sub(read),
+    )
+}
+
+// One flush ends each reply. Gives how many flushes failed.
+fn ends_at_each_flush<R: RandomSource + AllocGlobal>(rt: &R, lines: Lines) -> Result<usize, Fail> {
     let script = script_of(rt.alloc(), lines)?;
     let replies = replies_of(rt.alloc(), lines)?;
-    for flushes in 0..=lines.len() {
-        let mut reader = script.as_bytes();
-        let mut writer = FailingWriter {
-            written: Vec::new(rt.alloc()),
-            writes_left: None,
-            flushes_left: Some(flushes),
-        };
-        let ending = poolrun_engine::play(rt, &mut reader, &mut writer);
-        let written = flushes.saturating_add(1);
-        let whole = first_lines(replies.as_bytes(), written);
-        let want = if flushes < lines.len() {
-            Err(Fault::OutputFailed)
-        } else {
-            Ok(())
-        };
-        assert_eq!(rt; ending, want, "at flush {flushes}");
-        assert_eq!(rt; writer.written.as_slice(), whole, "at flush {flushes}");
-        assert_eq!(rt;
-            lines_in(reader),
-            lines.len().saturating_sub(written),
-            "at flush {flushes}"
-        );
+    let most = lines_in(script.as_bytes());
+    for flushes in 0..=most {
+        ends_at_flush(rt, script.as_bytes(), replies.as_bytes(), flushes)?;
     }
-    Ok(lines.len())
+    Ok(most)
 }
 
 #[test]
@@ -334,27 +362,33 @@ impl<'a> BufRead for Speaker<'a> {
     }
 }
 
+// Each reply is flushed before the next line is read.
+fn replies_come_first<R: RandomSource + AllocGlobal>(
+    rt: &R,
+    script: &[u8],
+    replies: &[u8],
+) -> Result<(), Fail> {
+    let flushed = Cell::new(0);
+    let mut speaker = Speaker {
+        flushed: &flushed,
+        text: script,
+        lines: 0,
+    };
+    let mut listener = Listener {
+        written: Vec::new(rt.alloc()),
+        flushed: &flushed,
+    };
+    let ending = poolrun_engine::play(rt, &mut speaker, &mut listener);
+    agree("the end", &listener.written, ending, replies, Ok(()))?;
+    count_is("replies flushed", flushed.get(), lines_in(script))
+}
+
 #[test]
 fn each_reply_is_out_before_the_next_line_is_read(rt: HostRuntime) -> Result<(), Fail> {
     for lines in SCRIPTS {
         let script = script_of(rt.alloc(), lines)?;
         let replies = replies_of(rt.alloc(), lines)?;
-        let flushed = Cell::new(0);
-        let mut speaker = Speaker {
-            flushed: &flushed,
-            text: script.as_bytes(),
-            lines: 0,
-        };
-        let mut listener = Listener {
-            written: Vec::new(rt.alloc()),
-            flushed: &flushed,
-        };
-        assert_eq!(rt;
-            poolrun_engine::play(&rt, &mut speaker, &mut listener),
-            Ok(())
-        );
-        assert_eq!(rt; listener.written.as_slice(), replies.as_bytes());
-        assert_eq!(rt; flushed.get(), lines.len());
+        replies_come_first(&rt, script.as_bytes(), replies.as_bytes())?;
     }
     Ok(())
 }
