@@ -2,8 +2,8 @@
 ghost use Rattle.deadpool.specs.Opens.{Opens};
 
 use deadpool::managed::{
-    BuildError, Hook, HookResult, Manager, Metrics, NoHook, Pool, PoolBuilder, RecycleResult,
-    SyncHook, Timeouts,
+    BuildError, Hook, HookResult, Manager, Metrics, NoHook, Object, Pool, PoolBuilder,
+    RecycleResult, SyncHook, Timeouts,
 };
 use deadpool::{Clock, Moment, Runtime};
 use futures::task::{Context, Poll};
@@ -17,6 +17,7 @@ use std::sync::ledger::{Blank, Ledger};
 use std::sync::{Arc, Wait};
 use std::test::Fail;
 use std::time::Duration;
+use test_support::expected::expect;
 
 type Counter = Arc<AtomicUsize, Global>;
 
@@ -115,6 +116,8 @@ type Builder = PoolBuilder<Tracked, Tracked, NoHook, Tracked>;
 
 type Shared<R, G, N, O> = Pool<Tracked, Tracked, NoHook, Tracked, R, G, N, O>;
 
+type Out<R, G, N, O> = Object<Tracked, Tracked, NoHook, Tracked, R, G, N, O>;
+
 fn builder<R: AllocGlobal>(rt: &R, drops: &Drops) -> Result<Builder, Fail> {
     let manager = Tracked::of(&drops.manager)?;
     let clock = Tracked::of(&drops.clock)?;
@@ -125,7 +128,36 @@ fn builder<R: AllocGlobal>(rt: &R, drops: &Drops) -> Result<Builder, Fail> {
     }
 }
 
-// Looks at what the pool was built with, and has an object out after the last handle.
+// The object that the one get of a pool gives, when the pool has gone.
+fn left_by<R: Wait + Drop, G: Ledger, N: Ledger, O: Ledger>(
+    task: &MockTask,
+    pool: Shared<R, G, N, O>,
+) -> Result<Out<R, G, N, O>, Fail> {
+    match task.poll(&mut pool.get()) {
+        Poll::Ready(Ok(object)) => Ok(object),
+        _ => Err(Fail::new("no object")),
+    }
+}
+
+// An object is out after the last handle.
+fn goes_after_the_pool<R: Wait + Drop, G: Ledger, N: Ledger, O: Ledger>(
+    task: &MockTask,
+    pool: Shared<R, G, N, O>,
+    drops: &Drops,
+) -> Result<(), Fail> {
+    pool.manager().drops.store(10, Ordering::SeqCst);
+    let object = left_by(task, pool)?;
+    let without_the_pool = drops.counts();
+    drop(object);
+    // The object's value and its manager.
+    expect(
+        "drops",
+        [without_the_pool, drops.counts()],
+        [[10, 0, 0], [12, 1, 1]],
+    )
+}
+
+// Looks at what the pool was built with, and at what goes with it.
 fn leaves<R, G: Ledger, N: Ledger, O: Ledger>(
     rt: R,
     drops: &Drops,
@@ -139,6 +171,7 @@ where
     requires creations { Opens N.Ledger creations }
     requires outside { Opens O.Ledger outside }
 {
+    let task = MockTask::new(&rt)?;
     let builder = builder(&rt, drops)?
         .timeouts(Timeouts::wait_millis(5))
         .runtime(Runtime::Clock);
@@ -146,18 +179,8 @@ where
         return Err(Fail::new("the pool was not built"));
     };
     let pool: Shared<R, G, N, O> = pool;
-    assert_eq!(rt; pool.timeouts(), Timeouts::wait_millis(5));
-    pool.manager().drops.store(10, Ordering::SeqCst);
-    let task = MockTask::new(&rt)?;
-    let Poll::Ready(Ok(object)) = task.poll(&mut pool.get()) else {
-        return Err(Fail::new("no object"));
-    };
-    drop(pool);
-    assert_eq!(rt; drops.counts(), [10, 0, 0]);
-    drop(object);
-    // The object's value and its manager.
-    assert_eq!(rt; drops.counts(), [12, 1, 1]);
-    Ok(())
+    expect("the timeouts", pool.timeouts(), Timeouts::wait_millis(5))?;
+    goes_after_the_pool(&task, pool, drops)
 }
 
 #[test]
@@ -167,8 +190,7 @@ fn the_manager_goes_with_the_last_holder(rt: HostRuntime) -> Result<(), Fail> {
     let creations = Blank::new(u64::MAX);
     let outside = Blank::new(u64::MAX);
     leaves::<_, Brand, Brand, Brand>(rt, &drops, going, creations, outside)?;
-    assert_eq!(rt; drops.counts(), [12, 1, 1]);
-    Ok(())
+    expect("drops", drops.counts(), [12, 1, 1])
 }
 
 // Why a pool is not built.
@@ -208,9 +230,11 @@ where
     let creations = Blank::new(u64::MAX);
     let outside = Blank::new(u64::MAX);
     let cause = cause_of::<_, Brand, Brand, Brand>(rt, builder, going, creations, outside);
-    assert_eq!(rt; cause, Some(error));
-    assert_eq!(rt; drops.counts(), [1, 1, 1], "{error:?}");
-    Ok(())
+    expect(
+        "cause, drops",
+        (cause, drops.counts()),
+        (Some(error), [1, 1, 1]),
+    )
 }
 
 #[test]

@@ -1,7 +1,7 @@
 //! What counts as a handle of a pool, and what goes with the last one.
 ghost use Rattle.deadpool.specs.Opens.{Opens};
 
-use super::play::{Getting, Out, Shared, builder};
+use super::play::{Getting, Out, Shared, builder, built};
 use super::world::{Habit, Hand, Maker, SharedWorld, World};
 use deadpool::managed::{Object, WeakPool};
 use futures::task::Poll;
@@ -12,6 +12,7 @@ use std::random::RandomSource;
 use std::sync::Wait;
 use std::sync::ledger::{Blank, Ledger};
 use std::test::Fail;
+use test_support::expected::expect;
 
 // How a handle is come by.
 #[derive(Clone, Copy, Debug)]
@@ -44,10 +45,36 @@ fn object<R: Wait + Drop, G: Ledger, N: Ledger, O: Ledger>(
     task: &MockTask,
     get: &mut Getting<R, G, N, O>,
 ) -> Result<Out<R, G, N, O>, Fail> {
-    let Poll::Ready(Ok(object)) = task.poll(get) else {
-        return Err(Fail::new("no object"));
+    match task.poll(get) {
+        Poll::Ready(Ok(object)) => Ok(object),
+        _ => Err(Fail::new("no object")),
+    }
+}
+
+// A get that has ended, whose object has come back.
+fn ended_get<R: Wait + Drop, G: Ledger, N: Ledger, O: Ledger>(
+    task: &MockTask,
+    pool: &Shared<R, G, N, O>,
+) -> Result<Getting<R, G, N, O>, Fail> {
+    let mut get = pool.get();
+    match object(task, &mut get) {
+        Ok(_) => Ok(get),
+        Err(cause) => Err(cause),
+    }
+}
+
+// A pool that comes from another one, or from one of its objects.
+fn another_pool<R: Wait + Drop, G: Ledger, N: Ledger, O: Ledger>(
+    source: Source,
+    pool: &Shared<R, G, N, O>,
+    out: &Out<R, G, N, O>,
+) -> Result<Shared<R, G, N, O>, Fail> {
+    let another = match source {
+        Source::Upgrade => pool.weak()?.upgrade()?,
+        Source::Object => Object::pool(out)?,
+        _ => Some(pool.clone()?),
     };
-    Ok(object)
+    another.ok_or_else(|| Fail::new("no handle is left"))
 }
 
 fn one_more<R: Wait + Drop, G: Ledger, N: Ledger, O: Ledger>(
@@ -56,24 +83,76 @@ fn one_more<R: Wait + Drop, G: Ledger, N: Ledger, O: Ledger>(
     pool: &Shared<R, G, N, O>,
     out: &Out<R, G, N, O>,
 ) -> Result<Further<R, G, N, O>, Fail> {
-    let pool = match source {
-        Source::Clone => Some(pool.clone()?),
-        Source::Upgrade => pool.weak()?.upgrade()?,
-        Source::Object => Object::pool(out)?,
-        Source::Get => return Ok(Further::Get(pool.get())),
-        Source::EndedGet => {
-            let mut get = pool.get();
-            drop(object(task, &mut get)?);
-            return Ok(Further::Get(get));
-        }
-    };
-    match pool {
-        Some(pool) => Ok(Further::Pool(pool)),
-        None => Err(Fail::new("no handle is left")),
-    }
+    Ok(match source {
+        Source::Get => Further::Get(pool.get()),
+        Source::EndedGet => Further::Get(ended_get(task, pool)?),
+        _ => Further::Pool(another_pool(source, pool, out)?),
+    })
+}
+
+// One more handle, after which the first has gone.
+fn in_place_of<R: Wait + Drop, G: Ledger, N: Ledger, O: Ledger>(
+    source: Source,
+    task: &MockTask,
+    pool: Shared<R, G, N, O>,
+    out: &Out<R, G, N, O>,
+) -> Result<Further<R, G, N, O>, Fail> {
+    one_more(source, task, &pool, out)
+}
+
+// Whether a handle is left while this one is there, and when it has gone.
+fn is_open_with<R: Wait + Drop, G: Ledger, N: Ledger, O: Ledger>(
+    last: Further<R, G, N, O>,
+    weak: &Weak<R, G, N, O>,
+) -> Result<(bool, bool), Fail> {
+    let before = is_open(weak);
+    drop(last);
+    Ok((before?, is_open(weak)?))
 }
 
 // The pool is open as long as one of two handles is left, of which the second comes from this source.
+fn is_open_with_either<R: Wait + Drop, G: Ledger, N: Ledger, O: Ledger>(
+    source: Source,
+    task: &MockTask,
+    pool: Shared<R, G, N, O>,
+    out: &Out<R, G, N, O>,
+) -> Result<(), Fail> {
+    let weak = pool.weak()?;
+    drop(one_more(source, task, &pool, out)?);
+    let first = is_open(&weak)?;
+    let second = is_open_with(in_place_of(source, task, pool, out)?, &weak)?;
+    if (first, second) == (true, (true, false)) {
+        return Ok(());
+    }
+    Err(Fail::new(format_args!(
+        "{source:?}: with the first {first}, with the second and after it {second:?}"
+    )))
+}
+
+// Objects that are out stay when the last handle has gone.
+fn stay_without_a_pool<R: Wait + Drop, G: Ledger, N: Ledger, O: Ledger>(
+    out: &Out<R, G, N, O>,
+    taken: Out<R, G, N, O>,
+) -> Result<(), Fail> {
+    let has_pool = Object::pool(out)?.is_some();
+    expect(
+        "pool, values",
+        (has_pool, **out, Object::take(taken)),
+        (false, 0, 1),
+    )
+}
+
+fn counts_both<R: Wait + Drop, G: Ledger, N: Ledger, O: Ledger>(
+    source: Source,
+    task: &MockTask,
+    pool: Shared<R, G, N, O>,
+) -> Result<(), Fail> {
+    let out = object(task, &mut pool.get())?;
+    let taken = object(task, &mut pool.get())?;
+    is_open_with_either(source, task, pool, &out)?;
+    stay_without_a_pool(&out, taken)
+}
+
 fn count_with_ledgers<R, G: Ledger, N: Ledger, O: Ledger>(
     rt: R,
     world: &SharedWorld,
@@ -89,29 +168,10 @@ where
     requires outside { Opens O.Ledger outside }
 {
     let builder = builder(&rt, world)?.max_size(3);
-    let Ok(pool) = builder.build(going, creations, outside, rt) else {
-        return Err(Fail::new("the pool was not built"));
-    };
-    let pool: Shared<R, G, N, O> = pool;
-    let task = MockTask::new(&rt)?;
-    let weak = pool.weak()?;
-    let (out, taken) = (
-        object(&task, &mut pool.get())?,
-        object(&task, &mut pool.get())?,
-    );
-    drop(one_more(source, &task, &pool, &out)?);
-    assert!(rt; is_open(&weak)?, "{source:?}");
-    let last = one_more(source, &task, &pool, &out)?;
-    drop(pool);
-    assert!(rt; is_open(&weak)?, "{source:?}");
-    drop(last);
-    assert!(rt; !is_open(&weak)?, "{source:?}");
-    // Objects that are out stay, and are not detached from now on.
-    assert!(rt; Object::pool(&out)?.is_none());
-    assert_eq!(rt; (*out, Object::take(taken)), (0, 1));
-    drop(out);
-    assert_eq!(rt; world.counts().3, 0);
-    Ok(())
+    let pool = built::<R, G, N, O>(rt, builder, going, creations, outside)?;
+    counts_both(source, &MockTask::new(&rt)?, pool)?;
+    // They are not detached from now on.
+    expect("detached", world.counts().3, 0)
 }
 
 fn count_handles<R>(rt: R, source: Source) -> Result<(), Fail>

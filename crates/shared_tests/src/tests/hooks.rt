@@ -1,7 +1,7 @@
 //! Hooks in each of a pool's lists.
 use super::play::Reply::{Counted, Done, RefusedByHook, Value};
 use super::play::Step::{Back, Counts, Get};
-use super::play::{Line, builder, play_over};
+use super::play::{Builder, Line, builder, play_over};
 use super::world::{Habit, Kind, World};
 use deadpool::managed::Hook;
 use std::process::Abort;
@@ -32,22 +32,23 @@ where
 {
     let world = World::shared(rt.alloc())?;
     world.next.store(first, Ordering::SeqCst);
+    let builder = builder(&rt, &world)?.max_size(3);
     let habit = Habit::of(&world, kind)?;
+    play_over(rt, with_hook(builder, list, habit, is_sync)?, lines)
+}
+
+fn with_hook(builder: Builder, list: List, habit: Habit, is_sync: bool) -> Result<Builder, Fail> {
     let hook = if is_sync {
         Hook::sync_fn(habit)
     } else {
         Hook::async_fn(habit)
     };
-    let builder = builder(&rt, &world)?.max_size(3);
     let hooked = match list {
         List::PostCreate => builder.post_create(hook),
         List::PreRecycle => builder.pre_recycle(hook),
         List::PostRecycle => builder.post_recycle(hook),
     };
-    match hooked {
-        Ok(builder) => play_over(rt, builder, lines),
-        Err(_) => Err(Fail::new("no memory for a hook")),
-    }
+    hooked.map_err(|_| Fail::new("no memory for a hook"))
 }
 
 #[test]

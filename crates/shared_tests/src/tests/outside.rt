@@ -2,7 +2,7 @@
 ghost use Rattle.deadpool.specs.Opens.{Opens};
 
 use deadpool::managed::{
-    Manager, Metrics, NoHook, Object, Pool, PoolBuilder, RecycleError, RecycleResult,
+    Manager, Metrics, NoHook, Object, Pool, PoolBuilder, PoolError, RecycleError, RecycleResult,
 };
 use deadpool::{Clock, Moment};
 use futures::task::{Context, Poll};
@@ -16,6 +16,7 @@ use std::sync::ledger::{Blank, Ledger};
 use std::test::Fail;
 use std::thread;
 use std::thread::Threads;
+use test_support::expected::expect;
 
 // Waits in each call, but not for ever, until the other thread has asked for the pool's status.
 #[derive(Drop)]
@@ -32,6 +33,10 @@ impl Waiting {
             is_over: AtomicBool::new(false),
             answered: AtomicUsize::new(0),
         }
+    }
+
+    fn answered(&self) -> usize {
+        self.answered.load(Ordering::SeqCst)
     }
 
     fn is_answered(&self) -> bool {
@@ -94,6 +99,8 @@ impl Clock for Waiting {
 
 type Shared<R, G, N, O> = Pool<Waiting, NoHook, NoHook, Waiting, R, G, N, O>;
 
+type Out<R, G, N, O> = Object<Waiting, NoHook, NoHook, Waiting, R, G, N, O>;
+
 // Asks for the status in each call of the manager.
 fn answer<R: Wait + Drop, G: Ledger, N: Ledger, O: Ledger>(rt: &R, pool: Shared<R, G, N, O>) {
     for _turn in rt.forever() {
@@ -109,7 +116,64 @@ fn answer<R: Wait + Drop, G: Ledger, N: Ledger, O: Ledger>(rt: &R, pool: Shared<
     }
 }
 
+// Polls a new get once.
+fn polled<R: Wait + Drop, G: Ledger, N: Ledger, O: Ledger>(
+    task: &MockTask,
+    pool: &Shared<R, G, N, O>,
+) -> Poll<Result<Out<R, G, N, O>, PoolError<()>>> {
+    task.poll(&mut pool.get())
+}
+
+// How many calls were answered when an object has been created, which comes back then.
+fn answered_with_a_new_object<R: Wait + Drop, G: Ledger, N: Ledger, O: Ledger>(
+    task: &MockTask,
+    pool: &Shared<R, G, N, O>,
+) -> usize {
+    let _first = polled(task, pool);
+    pool.manager().answered()
+}
+
+// The idle object is recycled in vain and detached, another is created, and that is taken. How many calls were answered
+// before it is taken, and after.
+fn answered_with_an_idle_object<R: Wait + Drop, G: Ledger, N: Ledger, O: Ledger>(
+    task: &MockTask,
+    pool: &Shared<R, G, N, O>,
+) -> Result<(usize, usize), Fail> {
+    let Poll::Ready(Ok(second)) = polled(task, pool) else {
+        return Err(Fail::new("no object"));
+    };
+    let recycled = pool.manager().answered();
+    Object::take(second);
+    Ok((recycled, pool.manager().answered()))
+}
+
+// One more is created, and detached when it comes back above the limit.
+fn answered_above_the_limit<R: Wait + Drop, G: Ledger, N: Ledger, O: Ledger>(
+    task: &MockTask,
+    pool: &Shared<R, G, N, O>,
+) -> Result<usize, Fail> {
+    let third = polled(task, pool);
+    pool.resize(0)?;
+    drop(third);
+    Ok(pool.manager().answered())
+}
+
 // Calls the manager in each of its methods.
+fn all_answered<R: Wait + Drop, G: Ledger, N: Ledger, O: Ledger>(
+    task: &MockTask,
+    pool: &Shared<R, G, N, O>,
+) -> Result<(), Fail> {
+    let created = answered_with_a_new_object(task, pool);
+    let (recycled, taken) = answered_with_an_idle_object(task, pool)?;
+    let detached = answered_above_the_limit(task, pool)?;
+    expect(
+        "answered",
+        [created, recycled, taken, detached],
+        [2, 7, 8, 11],
+    )
+}
+
+// Calls the manager beside another thread.
 fn calls<R, G, N, O>(rt: R, going: Blank, creations: Blank, outside: Blank) -> Result<(), Fail>
 where
     R: Wait + Threads + RandomSource + AllocGlobal + Abort + Drop + Copy + Send + Sync + 'static,
@@ -120,6 +184,7 @@ where
     requires creations { Opens N.Ledger creations }
     requires outside { Opens O.Ledger outside }
 {
+    let task = MockTask::new(&rt)?;
     let builder = PoolBuilder::new(rt.alloc(), Waiting::new(), Waiting::new());
     let Ok(pool) = builder.build(going, creations, outside, rt) else {
         return Err(Fail::new("the pool was not built"));
@@ -127,27 +192,10 @@ where
     let pool: Shared<R, G, N, O> = pool;
     let other = pool.clone()?;
     let child = thread::spawn(&rt, move || answer(&rt, other))?;
-    let task = MockTask::new(&rt)?;
-    let answered = || pool.manager().answered.load(Ordering::SeqCst);
-    let first = task.poll(&mut pool.get());
-    let created = answered();
-    drop(first);
-    // The idle object is recycled in vain and detached, another is created, and that is taken.
-    let Poll::Ready(Ok(second)) = task.poll(&mut pool.get()) else {
-        return Err(Fail::new("no object"));
-    };
-    let recycled = answered();
-    Object::take(second);
-    let taken = answered();
-    // One more is created, and detached when it comes back above the limit.
-    let third = task.poll(&mut pool.get());
-    pool.resize(0)?;
-    drop(third);
-    let detached = answered();
+    let called = all_answered(&task, &pool);
     pool.manager().is_over.store(true, Ordering::SeqCst);
     child.join(&rt);
-    assert_eq!(rt; (created, recycled, taken, detached), (2, 7, 8, 11));
-    Ok(())
+    called
 }
 
 #[test]

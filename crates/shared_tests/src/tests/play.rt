@@ -97,17 +97,18 @@ pub type Out<R, G, N, O> = Object<Maker, Habit, Habit, Hand, R, G, N, O>;
 
 pub type Getting<R, G, N, O> = Get<Maker, Habit, Habit, Hand, R, G, N, O, Out<R, G, N, O>>;
 
-// A get with its task and its object.
+// A get with its object.
 #[derive(Drop)]
 struct Party<R: Wait + Drop, G: Ledger, N: Ledger, O: Ledger> {
-    task: MockTask,
     get: Option<Getting<R, G, N, O>>,
     object: Option<Out<R, G, N, O>>,
 }
 
+// A pool, and each get at the place of its task.
 #[derive(Drop)]
 struct Table<R: Wait + Drop, G: Ledger, N: Ledger, O: Ledger> {
     pool: Shared<R, G, N, O>,
+    tasks: Vec<MockTask>,
     parties: Vec<Party<R, G, N, O>>,
 }
 
@@ -137,7 +138,27 @@ where
     play_script::<_, Brand, Brand, Brand>(rt, builder, script, going, creations, outside)
 }
 
-// Makes the steps over a new pool, which counts with three ledgers. A blank opens each of them.
+/// A new pool, which counts with three ledgers. A blank opens each of them.
+pub fn built<R, G: Ledger, N: Ledger, O: Ledger>(
+    rt: R,
+    builder: Builder,
+    going: Blank,
+    creations: Blank,
+    outside: Blank,
+) -> Result<Shared<R, G, N, O>, Fail>
+where
+    R: Wait + RandomSource + AllocGlobal + Abort + Drop + Copy + Send + Sync,
+    requires going { Opens G.Ledger going }
+    requires creations { Opens N.Ledger creations }
+    requires outside { Opens O.Ledger outside }
+{
+    match builder.build(going, creations, outside, rt) {
+        Ok(pool) => Ok(pool),
+        Err(_) => Err(Fail::new("the pool was not built")),
+    }
+}
+
+// Makes the steps over a new pool.
 fn play_script<R, G: Ledger, N: Ledger, O: Ledger>(
     rt: R,
     builder: Builder,
@@ -152,70 +173,95 @@ where
     requires creations { Opens N.Ledger creations }
     requires outside { Opens O.Ledger outside }
 {
-    let Ok(pool) = builder.build(going, creations, outside, rt) else {
-        return Err(Fail::new("the pool was not built"));
-    };
-    let pool: Shared<R, G, N, O> = pool;
     let mut table = Table {
-        pool,
+        pool: built::<R, G, N, O>(rt, builder, going, creations, outside)?,
+        tasks: Vec::new(rt.alloc()),
         parties: Vec::new(rt.alloc()),
     };
-    for (number, line) in script.lines.iter().enumerate() {
-        table.play(rt, number, line)?;
+    table.play_all(&rt, script)
+}
+
+impl<R: Wait + Drop, G: Ledger, N: Ledger, O: Ledger> Party<R, G, N, O> {
+    // Polls the get in this task.
+    fn poll(&mut self, task: &MockTask) -> Result<Reply, Fail> {
+        let Some(get) = &mut self.get else {
+            return Err(Fail::new("the get was dropped"));
+        };
+        match task.poll(get) {
+            Poll::Pending => Ok(Reply::Pending),
+            Poll::Ready(Ok(object)) => {
+                let value = *object;
+                self.object = Some(object);
+                Ok(Reply::Value(value))
+            }
+            Poll::Ready(Err(cause)) => Ok(cause_of(&cause)),
+        }
     }
-    Ok(())
 }
 
 impl<R: Wait + Drop, G: Ledger, N: Ledger, O: Ledger> Table<R, G, N, O> {
-    // Makes a step, and looks at what it came to.
-    fn play<T: RandomSource + AllocGlobal + Abort + Copy>(
+    fn play_all<T: RandomSource + AllocGlobal>(
         &mut self,
-        rt: T,
+        rt: &T,
+        script: Script,
+    ) -> Result<(), Fail> {
+        for (number, line) in script.lines.iter().enumerate() {
+            self.play(rt, number, line)?;
+        }
+        Ok(())
+    }
+
+    // Makes a step, and looks at what it came to.
+    fn play<T: RandomSource + AllocGlobal>(
+        &mut self,
+        rt: &T,
         number: usize,
         line: &Line,
     ) -> Result<(), Fail> {
         let (step, reply, woken, stands) = *line;
-        assert_eq!(rt; self.make(&rt, step)?, reply, "line {number}, {step:?}");
-        for (place, party) in self.parties.iter().enumerate() {
-            let is_seen = party.get.is_some() && party.task.is_woken();
-            assert_eq!(rt;
-                is_seen,
-                woken.contains(&place),
-                "line {number}, task {place}"
-            );
+        let seen = (self.make(rt, step)?, self.stands());
+        if seen != (reply, stands) {
+            return Err(Fail::new(format_args!(
+                "line {number}, {step:?}: found {seen:?}, expected {reply:?}, {stands:?}"
+            )));
         }
-        assert_eq!(rt; self.stands(), stands, "line {number}, {step:?}");
+        self.has_woken(number, woken)
+    }
+
+    // These gets and no others have a task that is woken.
+    fn has_woken(&self, number: usize, woken: &[usize]) -> Result<(), Fail> {
+        for (place, (task, party)) in self.tasks.iter().zip(&self.parties).enumerate() {
+            let is_seen = party.get.is_some() && task.is_woken();
+            if is_seen != woken.contains(&place) {
+                return Err(Fail::new(format_args!("line {number}, task {place}: woken {is_seen}")));
+            }
+        }
         Ok(())
     }
 
     fn make<T: RandomSource + AllocGlobal>(&mut self, rt: &T, step: Step) -> Result<Reply, Fail> {
         match step {
-            Step::Get => {
-                let get = self.pool.get();
-                let place = self.start(rt, get)?;
-                self.poll(place, place)
-            }
-            Step::TryGet => {
-                let timeouts = Timeouts::wait_millis(0);
-                let get = self.pool.timeout_get(&timeouts);
-                let place = self.start(rt, get)?;
-                self.poll(place, place)
-            }
-            Step::Start => {
-                let get = self.pool.get();
-                self.start(rt, get)?;
-                Ok(Reply::Done)
-            }
+            Step::Get | Step::TryGet | Step::Start => self.begin(rt, step),
             Step::Poll(place) => self.poll(place, place),
             Step::PollIn(place, other) => self.poll(place, other),
             Step::Rest(place) => self.rest(place),
             Step::GiveUp(place) => self.give_up(place),
-            Step::Back(place) => {
-                drop(self.object(place)?);
-                Ok(Reply::Done)
-            }
-            Step::Take(place) => Ok(Reply::Value(Object::take(self.object(place)?))),
+            Step::Back(place) => self.back(place),
+            Step::Take(place) => self.take(place),
             step => self.ask(step),
+        }
+    }
+
+    // A step that starts a get.
+    fn begin<T: RandomSource + AllocGlobal>(&mut self, rt: &T, step: Step) -> Result<Reply, Fail> {
+        let get = match step {
+            Step::TryGet => self.pool.timeout_get(&Timeouts::wait_millis(0)),
+            _ => self.pool.get(),
+        };
+        let place = self.start(rt, get)?;
+        match step {
+            Step::Start => Ok(Reply::Done),
+            _ => self.poll(place, place),
         }
     }
 
@@ -225,18 +271,26 @@ impl<R: Wait + Drop, G: Ledger, N: Ledger, O: Ledger> Table<R, G, N, O> {
         rt: &T,
         get: Getting<R, G, N, O>,
     ) -> Result<usize, Fail> {
-        let task = MockTask::new(rt)?;
-        task.enter(|_cx| {});
-        let place = self.parties.len();
         let party = Party {
-            task,
             get: Some(get),
             object: None,
         };
+        let place = self.parties.len();
         match self.parties.push(party) {
-            Ok(()) => Ok(place),
+            Ok(()) => self.asleep(rt, place),
             Err(_) => Err(Fail::new("no memory for a get")),
         }
+    }
+
+    // The get at this place has a task, which is asleep.
+    fn asleep<T: RandomSource + AllocGlobal>(
+        &mut self,
+        rt: &T,
+        place: usize,
+    ) -> Result<usize, Fail> {
+        self.tasks.push(MockTask::new(rt)?)?;
+        self.rest(place)?;
+        Ok(place)
     }
 
     fn party(&mut self, place: usize) -> Result<&mut Party<R, G, N, O>, Fail> {
@@ -247,26 +301,21 @@ impl<R: Wait + Drop, G: Ledger, N: Ledger, O: Ledger> Table<R, G, N, O> {
 
     // Polls a get in the task of another, or in its own.
     fn poll(&mut self, place: usize, other: usize) -> Result<Reply, Fail> {
-        let Some(mut get) = self.party(place)?.get.take() else {
-            return Err(Fail::new("the get was dropped"));
-        };
-        let polled = self.party(other)?.task.poll(&mut get);
-        let party = self.party(place)?;
-        party.get = Some(get);
-        match polled {
-            Poll::Pending => Ok(Reply::Pending),
-            Poll::Ready(Ok(object)) => {
-                let value = *object;
-                party.object = Some(object);
-                Ok(Reply::Value(value))
-            }
-            Poll::Ready(Err(cause)) => Ok(cause_of(&cause)),
+        let Table { tasks, parties, .. } = self;
+        match (parties.get_mut(place), tasks.get(other)) {
+            (Some(party), Some(task)) => party.poll(task),
+            _ => Err(Fail::new("no such get")),
         }
     }
 
     fn rest(&mut self, place: usize) -> Result<Reply, Fail> {
-        self.party(place)?.task.enter(|_cx| {});
-        Ok(Reply::Done)
+        match self.tasks.get(place) {
+            Some(task) => {
+                task.enter(|_cx| {});
+                Ok(Reply::Done)
+            }
+            None => Err(Fail::new("no such get")),
+        }
     }
 
     fn give_up(&mut self, place: usize) -> Result<Reply, Fail> {
@@ -283,6 +332,15 @@ impl<R: Wait + Drop, G: Ledger, N: Ledger, O: Ledger> Table<R, G, N, O> {
     fn object(&mut self, place: usize) -> Result<Out<R, G, N, O>, Fail> {
         let object = self.party(place)?.object.take();
         object.ok_or_else(|| Fail::new("the object is not out"))
+    }
+
+    fn back(&mut self, place: usize) -> Result<Reply, Fail> {
+        drop(self.object(place)?);
+        Ok(Reply::Done)
+    }
+
+    fn take(&mut self, place: usize) -> Result<Reply, Fail> {
+        Ok(Reply::Value(Object::take(self.object(place)?)))
     }
 
     fn stands(&self) -> Stands {

@@ -13,6 +13,7 @@ use std::random::RandomSource;
 use std::sync::Wait;
 use std::sync::ledger::{Blank, Ledger};
 use std::test::Fail;
+use test_support::expected::expect;
 
 // An object, and how its pool stood when it was handed out.
 #[derive(Drop)]
@@ -35,6 +36,32 @@ impl<R: Wait + Drop, G: Ledger, N: Ledger, O: Ledger> From<Out<R, G, N, O>>
 
 type Wrapping<R, G, N, O> = Pool<Maker, Habit, Habit, Hand, R, G, N, O, Wrapped<R, G, N, O>>;
 
+// The object's value, how the pool stood when it was handed out, how it stands while it is out, and when it has come
+// back.
+fn seen<R: Wait + Drop, G: Ledger, N: Ledger, O: Ledger>(
+    wrapped: Wrapped<R, G, N, O>,
+    pool: &Wrapping<R, G, N, O>,
+) -> (u64, Option<Status>, Status, Status) {
+    let Wrapped { object, status } = wrapped;
+    let value = *object;
+    let out = pool.status();
+    drop(object);
+    (value, status, out, pool.status())
+}
+
+fn hands_out_a_wrapper<R: Wait + Drop, G: Ledger, N: Ledger, O: Ledger>(
+    task: &MockTask,
+    pool: &Wrapping<R, G, N, O>,
+) -> Result<(), Fail> {
+    let mut get = pool.get();
+    let Poll::Ready(Ok(wrapped)) = task.poll(&mut get) else {
+        return Err(Fail::new("no object"));
+    };
+    let (value, status, out, back) = seen(wrapped, pool);
+    let found = (value, status, out.available, back.available);
+    expect("value, status, available", found, (0, Some(out), 0, 1))
+}
+
 fn hands_out_wrappers<R, G: Ledger, N: Ledger, O: Ledger>(
     rt: R,
     world: &SharedWorld,
@@ -48,22 +75,12 @@ where
     requires creations { Opens N.Ledger creations }
     requires outside { Opens O.Ledger outside }
 {
-    let builder = Wrapping::<R, G, N, O>::builder(rt.alloc(), Maker::of(world)?, Hand::of(world)?);
-    let Ok(pool) = builder.max_size(1).build(going, creations, outside, rt) else {
-        return Err(Fail::new("the pool was not built"));
-    };
-    let pool: Wrapping<R, G, N, O> = pool;
     let task = MockTask::new(&rt)?;
-    let mut get = pool.get();
-    let Poll::Ready(Ok(wrapped)) = task.poll(&mut get) else {
-        return Err(Fail::new("no object"));
-    };
-    let Wrapped { object, status } = wrapped;
-    assert_eq!(rt; (*object, status), (0, Some(pool.status())));
-    assert_eq!(rt; pool.status().available, 0);
-    drop(object);
-    assert_eq!(rt; pool.status().available, 1);
-    Ok(())
+    let builder = Wrapping::<R, G, N, O>::builder(rt.alloc(), Maker::of(world)?, Hand::of(world)?);
+    match builder.max_size(1).build(going, creations, outside, rt) {
+        Ok(pool) => hands_out_a_wrapper::<R, G, N, O>(&task, &pool),
+        Err(_) => Err(Fail::new("the pool was not built")),
+    }
 }
 
 #[test]
