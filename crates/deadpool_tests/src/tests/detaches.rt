@@ -11,6 +11,7 @@ use std::test::Fail;
 use std::time::Duration;
 use test_support::answering::Answering;
 use test_support::bench::new_core;
+use test_support::expected::expect;
 use test_support::managers::{Calls, Counted};
 
 type Plain<'a> = Environment<Counted<'a>, NoHook, Answering>;
@@ -59,64 +60,71 @@ fn keep(desk: &mut Watched<'_, u64>, slot: Slot<u64>) -> Result<(), Fail> {
 // Whether a get went as it is to, and how many were detached at its step and after it.
 type Detached = (bool, usize, usize);
 
-// A get is cancelled that recycles.
-fn detached_by_a_cancel<R: RandomSource + AllocGlobal>(
+// How an object is given up.
+#[derive(Clone, Copy)]
+enum Way {
+    Cancel,
+    Timeout,
+    Hook,
+}
+
+fn detached_by<R: RandomSource + AllocGlobal>(
     rt: &R,
     task: &Solo,
+    way: Way,
     knows: bool,
 ) -> Result<Detached, Fail> {
     let calls = Calls::new();
-    let (mut desk, environment) = desk_with_object(rt, &calls, task)?;
+    let (mut desk, mut environment) = desk_with_object(rt, &calls, task)?;
+    let is_as_told = match way {
+        Way::Cancel => is_cancelled(&mut desk, &environment, task, knows),
+        Way::Timeout => is_late(&mut desk, &environment, task, knows),
+        Way::Hook => is_refused(&mut desk, &mut environment, task, knows),
+    };
+    Ok((is_as_told, desk.detached, calls.detached.get()))
+}
+
+// A get is cancelled that recycles.
+fn is_cancelled<'a>(
+    desk: &mut Watched<'a, u64>,
+    environment: &Plain<'a>,
+    task: &Solo,
+    knows: bool,
+) -> bool {
     desk.knows = knows;
-    calls.answers.set(false);
+    desk.calls.answers.set(false);
     let mut state = GetState::new(Timeouts::new());
-    let is_pending = poll(&mut state, &mut desk, &environment, task).is_none();
-    state.cancel(&mut desk, &environment);
-    Ok((is_pending, desk.detached, calls.detached.get()))
+    let is_pending = poll(&mut state, desk, environment, task).is_none();
+    state.cancel(desk, environment);
+    is_pending
 }
 
 // A get recycles, for which it has a timeout but no runtime.
-fn detached_by_a_timeout<R: RandomSource + AllocGlobal>(
-    rt: &R,
+fn is_late<'a>(
+    desk: &mut Watched<'a, u64>,
+    environment: &Plain<'a>,
     task: &Solo,
     knows: bool,
-) -> Result<Detached, Fail> {
-    let calls = Calls::new();
-    let (mut desk, environment) = desk_with_object(rt, &calls, task)?;
+) -> bool {
     desk.knows = knows;
     let mut state = GetState::new(Timeouts {
         recycle: Some(Duration::from_nanos(5)),
         ..Timeouts::new()
     });
-    let is_as_told = match poll(&mut state, &mut desk, &environment, task) {
+    match poll(&mut state, desk, environment, task) {
         Some(Ok(_)) => knows,
         Some(Err(PoolError::Closed)) => !knows,
         _ => false,
-    };
-    Ok((is_as_told, desk.detached, calls.detached.get()))
-}
-
-#[test]
-fn an_object_is_detached_after_its_step(rt: HostRuntime) -> Result<(), Fail> {
-    let task = task(&rt)?;
-    // A step that is not known of gives nothing up.
-    for (knows, detached) in [(true, 1), (false, 0)] {
-        let cancelled = detached_by_a_cancel(&rt, &task, knows)?;
-        assert_eq!(rt; cancelled, (true, 0, detached));
-        let late = detached_by_a_timeout(&rt, &task, knows)?;
-        assert_eq!(rt; late, (true, 0, detached));
     }
-    Ok(())
 }
 
 // A hook refuses a new object.
-fn detached_by_a_hook<R: RandomSource + AllocGlobal>(
-    rt: &R,
+fn is_refused<'a>(
+    desk: &mut Watched<'a, u64>,
+    environment: &mut Plain<'a>,
     task: &Solo,
     knows: bool,
-) -> Result<Detached, Fail> {
-    let calls = Calls::new();
-    let (mut desk, mut environment) = desk_with_object(rt, &calls, task)?;
+) -> bool {
     // The one idle object is out for good, so the next get creates one.
     let is_out = matches!(
         desk.core.enter(false),
@@ -125,22 +133,41 @@ fn detached_by_a_hook<R: RandomSource + AllocGlobal>(
     desk.knows = knows;
     let hook = Hook::async_fn(Answering::Refuses);
     let is_added = environment.hooks.add_post_create(hook).is_ok();
+    is_out && is_added && is_refused_by_a_hook(desk, environment, task, knows)
+}
+
+fn is_refused_by_a_hook<'a>(
+    desk: &mut Watched<'a, u64>,
+    environment: &Plain<'a>,
+    task: &Solo,
+    knows: bool,
+) -> bool {
     let mut state = GetState::new(Timeouts::new());
-    let is_as_told = match poll(&mut state, &mut desk, &environment, task) {
+    match poll(&mut state, desk, environment, task) {
         Some(Err(PoolError::PostCreateHook(_))) => knows,
         Some(Err(PoolError::Closed)) => !knows,
         _ => false,
-    };
-    let is_well = is_out && is_added && is_as_told;
-    Ok((is_well, desk.detached, calls.detached.get()))
+    }
+}
+
+#[test]
+fn an_object_is_detached_after_its_step(rt: HostRuntime) -> Result<(), Fail> {
+    let task = task(&rt)?;
+    // A step that is not known of gives nothing up.
+    for (knows, detached) in [(true, 1), (false, 0)] {
+        let cancelled = detached_by(&rt, &task, Way::Cancel, knows)?;
+        let late = detached_by(&rt, &task, Way::Timeout, knows)?;
+        expect("detached", [cancelled, late], [(true, 0, detached); 2])?;
+    }
+    Ok(())
 }
 
 #[test]
 fn a_new_object_is_detached_after_its_step(rt: HostRuntime) -> Result<(), Fail> {
     let task = task(&rt)?;
     for (knows, detached) in [(true, 1), (false, 0)] {
-        let refused = detached_by_a_hook(&rt, &task, knows)?;
-        assert_eq!(rt; refused, (true, 0, detached));
+        let refused = detached_by(&rt, &task, Way::Hook, knows)?;
+        expect("detached", refused, (true, 0, detached))?;
     }
     Ok(())
 }

@@ -82,7 +82,7 @@ fn a_smaller_limit_drops_each_once(rt: HostRuntime) -> Result<(), Fail> {
     let mut core = Core::new(rt.alloc(), 3, QueueMode::Fifo, 0, 0)?;
     let third = two_idle_and_one_out(&mut core, &drops)?;
     let before = drops.get();
-    core.resize(2)?;
+    let is_resized = core.resize(2).is_ok();
     let resized = drops.get();
     core.close();
     let closed = drops.get();
@@ -92,7 +92,11 @@ fn a_smaller_limit_drops_each_once(rt: HostRuntime) -> Result<(), Fail> {
     let back = drops.get();
     drop(reply);
     let seen = [before, resized, closed, back, drops.get()];
-    expect("dropped", seen, [0, 1, 2, 2, 3])
+    expect(
+        "resized, dropped",
+        (is_resized, seen),
+        (true, [0, 1, 2, 2, 3]),
+    )
 }
 
 #[test]

@@ -1,7 +1,7 @@
 //! Drops of what gets give up: objects, and what creations and recyclings have begun. Nothing of it is kept by anybody,
 //! whether the pool knows of the step that gives it up or not.
 use super::polls::{poll, task};
-use super::told::{Answer, Lent, Object, environment};
+use super::told::{Answer, Lent, Object, Told, environment};
 use super::watched::Watched;
 use deadpool::Moment;
 use deadpool::managed::{
@@ -79,6 +79,11 @@ fn make_idle(core: &mut Core<Object>, value: &Object) -> Result<(), Fail> {
     }
 }
 
+// What a poll leaves is as told, and afterwards nothing is left.
+fn are_left(living: [(usize, usize); 2], polled: (usize, usize)) -> Result<(), Fail> {
+    expect("living", living, [polled, (0, 0)])
+}
+
 // What a get leaves that recycles an idle object.
 fn left_by_a_recycling(
     alloc: Global,
@@ -108,7 +113,7 @@ fn an_idle_object_that_is_given_up(rt: HostRuntime) -> Result<(), Fail> {
         (Answer::Accepts, NO_TIMEOUTS, true, (1, 0)),
     ] {
         let living = left_by_a_recycling(rt.alloc(), &task, recycling, timeouts, knows)?;
-        assert_eq!(rt; living, [polled, (0, 0)], "{recycling:?}, {knows}");
+        are_left(living, polled)?;
     }
     Ok(())
 }
@@ -138,7 +143,7 @@ fn a_creation_that_is_given_up(rt: HostRuntime) -> Result<(), Fail> {
         (Answer::Accepts, NO_TIMEOUTS, true, (1, 0)),
     ] {
         let living = left_by_a_creation(rt.alloc(), &task, creation, timeouts, knows)?;
-        assert_eq!(rt; living, [polled, (0, 0)], "{creation:?}, {knows}");
+        are_left(living, polled)?;
     }
     Ok(())
 }
@@ -175,7 +180,7 @@ fn a_new_object_that_is_given_up(rt: HostRuntime) -> Result<(), Fail> {
         (Answering::Stalls, false, (1, 0)),
     ] {
         let living = left_by_a_hook(rt.alloc(), &task, hook, knows)?;
-        assert_eq!(rt; living, [polled, (0, 0)], "{polled:?}, {knows}");
+        are_left(living, polled)?;
     }
     Ok(())
 }
@@ -186,8 +191,7 @@ fn an_object_that_the_pool_does_not_know(rt: HostRuntime) -> Result<(), Fail> {
     let environment = environment(rt.alloc(), Answer::Stalls, Answer::Accepts)?;
     let mut core = new_core(rt.alloc(), 1, QueueMode::Fifo)?;
     ends_behind_a_gets_back(&mut core, &environment, &task)?;
-    let mut other = new_core(rt.alloc(), 1, QueueMode::Fifo)?;
-    hands_an_object_back(&mut core, &mut other, &environment)
+    hands_an_object_back(rt.alloc(), &mut core, &environment)
 }
 
 // The creation ends behind the get's back, and then with an object.
@@ -197,29 +201,56 @@ fn ends_behind_a_gets_back(
     task: &Solo,
 ) -> Result<(), Fail> {
     let mut state = GetState::new(NO_TIMEOUTS);
-    let is_pending = poll(&mut state, core, environment, task).is_none();
-    let begun = environment.manager.living();
+    let begun = polled(&mut state, core, environment, task);
     let step = core.failed();
     environment.manager.creation.set(Answer::Accepts);
-    let ended = poll(&mut state, core, environment, task);
-    let is_refused = matches!(ended, Some(Err(_)));
-    let left = environment.manager.living();
-    expect("pending, refused", (is_pending, is_refused), (true, true))?;
-    expect("the step", step, StepReply::Done)?;
-    expect("living", [begun, left], [(0, 1), (0, 0)])
+    let left = polled(&mut state, core, environment, task);
+    expect(
+        "given, living, the step",
+        (begun, step, left),
+        ((None, (0, 1)), StepReply::Done, (Some(false), (0, 0))),
+    )
+}
+
+// Whether a get gives an object, or none if it is pending, and what is there then.
+fn polled(
+    state: &mut GetState<Told, Answering>,
+    core: &mut Core<Object>,
+    environment: &Lent,
+    task: &Solo,
+) -> (Option<bool>, (usize, usize)) {
+    let ended = poll(state, core, environment, task);
+    let gives = match &ended {
+        Some(result) => Some(result.is_ok()),
+        None => None,
+    };
+    (gives, environment.manager.living())
 }
 
 // An object of another pool comes back, and is handed back.
 fn hands_an_object_back(
+    alloc: Global,
     core: &mut Core<Object>,
-    other: &mut Core<Object>,
     environment: &Lent,
 ) -> Result<(), Fail> {
-    let reply = core.back(created(other, &environment.manager.objects)?);
+    let mut other = new_core(alloc, 1, QueueMode::Fifo)?;
+    let slot = created(&mut other, &environment.manager.objects)?;
+    expect(
+        "unknown, living",
+        handed_back(core, environment, slot),
+        (true, (1, 0), (0, 0)),
+    )
+}
+
+// Whether an object that comes back is unknown, and what is there then, and again when it was dropped.
+fn handed_back(
+    core: &mut Core<Object>,
+    environment: &Lent,
+    slot: Slot<Object>,
+) -> (bool, (usize, usize), (usize, usize)) {
+    let reply = core.back(slot);
     let is_unknown = matches!(reply, BackReply::Unknown(_));
     let handed_back = environment.manager.living();
     drop(reply);
-    let left = environment.manager.living();
-    expect("unknown", is_unknown, true)?;
-    expect("living", [handed_back, left], [(1, 0), (0, 0)])
+    (is_unknown, handed_back, environment.manager.living())
 }

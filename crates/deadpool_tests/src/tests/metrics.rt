@@ -1,10 +1,12 @@
 //! Ages of objects.
 use deadpool::Moment;
 use deadpool::managed::Metrics;
+use std::test::Fail;
 use std::time::Duration;
+use test_support::expected::expect;
 
 #[test]
-fn ages_are_at_least_zero_and_at_most_the_longest(rt: HostRuntime) {
+fn ages_are_at_least_zero_and_at_most_the_longest(_rt: HostRuntime) -> Result<(), Fail> {
     let new = Metrics::new(Moment(10));
     let used = Metrics {
         recycled: Some(Moment(20)),
@@ -17,9 +19,13 @@ fn ages_are_at_least_zero_and_at_most_the_longest(rt: HostRuntime) {
         (25, Duration::from_nanos(15), Duration::from_nanos(5)),
         (u128::MAX, Duration::MAX, Duration::MAX),
     ] {
-        assert_eq!(rt; new.age(Moment(now)), age, "at {now}");
-        assert_eq!(rt; new.last_used(Moment(now)), age, "at {now}");
-        assert_eq!(rt; used.age(Moment(now)), age, "at {now}");
-        assert_eq!(rt; used.last_used(Moment(now)), last_used, "at {now}");
+        let of_new = [new.age(Moment(now)), new.last_used(Moment(now))];
+        let of_used = [used.age(Moment(now)), used.last_used(Moment(now))];
+        expect(
+            "ages",
+            (now, of_new, of_used),
+            (now, [age, age], [age, last_used]),
+        )?;
     }
+    Ok(())
 }

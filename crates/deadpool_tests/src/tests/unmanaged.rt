@@ -280,25 +280,23 @@ const MILLISECOND: u128 = 1_000_000;
 
 #[test]
 fn a_wait_wants_a_runtime(rt: HostRuntime) -> Result<(), Fail> {
-    let (ended, after) = gives_at(&rt, Some(Duration::from_millis(1)), None, 0, MILLISECOND)?;
-    assert!(rt; matches!(ended, Poll::Ready(Err(PoolError::NoRuntimeSpecified))));
-    assert!(rt; matches!(after, Poll::Pending));
-    let (ended, after) = gives_at(&rt, Some(Duration::from_millis(0)), None, 0, MILLISECOND)?;
-    assert!(rt; matches!(ended, Poll::Ready(Err(PoolError::Timeout))));
-    assert!(rt; matches!(after, Poll::Pending));
-    let (first, later) = gives_at(&rt, None, None, 0, u128::MAX)?;
-    assert!(rt; matches!((first, later), (Poll::Pending, Poll::Pending)));
-    Ok(())
+    let ended = gives_at(&rt, Some(Duration::from_millis(1)), None, 0, MILLISECOND)?;
+    let refused = Poll::Ready(Err(PoolError::NoRuntimeSpecified));
+    expect("polls", ended, (refused, Poll::Pending))?;
+    let ended = gives_at(&rt, Some(Duration::from_millis(0)), None, 0, MILLISECOND)?;
+    let late = Poll::Ready(Err(PoolError::Timeout));
+    expect("polls", ended, (late, Poll::Pending))?;
+    let waits = gives_at(&rt, None, None, 0, u128::MAX)?;
+    expect("polls", waits, (Poll::Pending, Poll::Pending))
 }
 
 #[test]
 fn a_wait_ends_with_a_runtime(rt: HostRuntime) -> Result<(), Fail> {
     let runtime = Some(Runtime::Clock);
     let wait = Some(Duration::from_millis(1));
-    let (first, ended) = gives_at(&rt, wait, runtime, 0, MILLISECOND)?;
-    assert!(rt; matches!(first, Poll::Pending));
-    assert!(rt; matches!(ended, Poll::Ready(Err(PoolError::Timeout))));
-    let (first, early) = gives_at(&rt, wait, runtime, 5, MILLISECOND + 4)?;
-    assert!(rt; matches!((first, early), (Poll::Pending, Poll::Pending)));
-    Ok(())
+    let ended = gives_at(&rt, wait, runtime, 0, MILLISECOND)?;
+    let late = Poll::Ready(Err(PoolError::Timeout));
+    expect("polls", ended, (Poll::Pending, late))?;
+    let early = gives_at(&rt, wait, runtime, 5, MILLISECOND + 4)?;
+    expect("polls", early, (Poll::Pending, Poll::Pending))
 }

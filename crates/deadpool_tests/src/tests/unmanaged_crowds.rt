@@ -26,6 +26,10 @@ fn status(trial: &mut Trial<u64>, alloc: Global) -> Result<Status, Fail> {
     }
 }
 
+fn stands_at(trial: &mut Trial<u64>, alloc: Global, expected: Status) -> Result<(), Fail> {
+    expect("the status", status(trial, alloc)?, expected)
+}
+
 // The pool is filled, an add waits, and an object goes out.
 fn fills_and_gets(alloc: Global) -> Result<Vec<Move<u64>>, Fail> {
     let mut moves = Vec::new(alloc);
@@ -68,11 +72,7 @@ fn is_added(replies: &[Reply<u64>]) -> bool {
 fn a_list_that_adds_and_one_that_goes_on(rt: HostRuntime) -> Result<(), Fail> {
     let mut trial = Trial::new(rt.alloc(), 2, None, 4)?;
     adds_and_goes_on(&mut trial, rt.alloc())?;
-    expect(
-        "the status",
-        status(&mut trial, rt.alloc())?,
-        stands(2, 2, 1, 0),
-    )
+    stands_at(&mut trial, rt.alloc(), stands(2, 2, 1, 0))
 }
 
 fn adds_and_goes_on(trial: &mut Trial<u64>, alloc: Global) -> Result<(), Fail> {
@@ -99,13 +99,13 @@ fn crowd(alloc: Global) -> Result<Vec<Move<u64>>, Fail> {
 #[test]
 fn crowds_of_gets_and_adds_wait(rt: HostRuntime) -> Result<(), Fail> {
     let mut trial = Trial::new(rt.alloc(), 0, None, 2 * CROWD)?;
-    let replies = run(&mut trial, crowd(rt.alloc())?)?;
-    all_wait(&replies)?;
-    expect(
-        "the status",
-        status(&mut trial, rt.alloc())?,
-        stands(0, 0, 0, CROWD),
-    )
+    crowd_waits(&mut trial, rt.alloc())?;
+    stands_at(&mut trial, rt.alloc(), stands(0, 0, 0, CROWD))
+}
+
+fn crowd_waits(trial: &mut Trial<u64>, alloc: Global) -> Result<(), Fail> {
+    let replies = run(trial, crowd(alloc)?)?;
+    all_wait(&replies)
 }
 
 fn all_wait(replies: &[Reply<u64>]) -> Result<(), Fail> {

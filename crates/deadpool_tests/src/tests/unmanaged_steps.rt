@@ -27,39 +27,47 @@ fn put_out(core: &mut Core<u64>, value: u64) -> Result<(), Fail> {
 #[test]
 fn an_add_has_its_object_until_it_ends(rt: HostRuntime) -> Result<(), Fail> {
     let mut core = Core::new(rt.alloc(), 1)?;
-    let mut first = AddState::new("first");
-    let begun = first.value().copied();
-    let ended = first.poll(&mut core);
-    let left = first.value().copied();
-    let after = first.poll(&mut core);
-    let mut second = AddState::new("second");
-    let waits = second.poll(&mut core);
-    let waiting = second.value().copied();
+    ends_with_room(&mut core, &mut AddState::new("first"))?;
+    ends_when_closed(&mut core, &mut AddState::new("second"))
+}
+
+// What an add ends with.
+type Added = Result<(), (&'static str, PoolError)>;
+
+fn ends_with_room(
+    core: &mut Core<&'static str>,
+    add: &mut AddState<&'static str>,
+) -> Result<(), Fail> {
+    has(add, Some("first"))?;
+    polls(core, add, Poll::Ready(Ok(())))?;
+    has(add, None)?;
+    polls(core, add, Poll::Pending)
+}
+
+fn ends_when_closed(
+    core: &mut Core<&'static str>,
+    add: &mut AddState<&'static str>,
+) -> Result<(), Fail> {
+    polls(core, add, Poll::Pending)?;
+    has(add, Some("second"))?;
     core.close();
-    let refused = second.poll(&mut core);
-    let late = second.poll(&mut core);
-    let gone = second.value().copied();
-    expect(
-        "the value of the first",
-        [begun, left],
-        [Some("first"), None],
-    )?;
-    expect(
-        "the first",
-        [ended, after],
-        [Poll::Ready(Ok(())), Poll::Pending],
-    )?;
-    expect(
-        "the value of the second",
-        [waiting, gone],
-        [Some("second"), None],
-    )?;
-    let closed = Poll::Ready(Err(("second", PoolError::Closed)));
-    expect(
-        "the second",
-        [waits, refused, late],
-        [Poll::Pending, closed, Poll::Pending],
-    )
+    polls(core, add, Poll::Ready(Err(("second", PoolError::Closed))))?;
+    polls(core, add, Poll::Pending)?;
+    has(add, None)
+}
+
+// An add has this value.
+fn has(add: &AddState<&'static str>, value: Option<&'static str>) -> Result<(), Fail> {
+    expect("the value", add.value().copied(), value)
+}
+
+// A poll of an add comes to this.
+fn polls(
+    core: &mut Core<&'static str>,
+    add: &mut AddState<&'static str>,
+    polled: Poll<Added>,
+) -> Result<(), Fail> {
+    expect("the add", add.poll(core), polled)
 }
 
 #[test]
