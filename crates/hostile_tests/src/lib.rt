@@ -1,4 +1,4 @@
-//! Tests of pools whose managers, hooks and scripts do their worst.
+//! Tests of pools whose managers and hooks do their worst.
 #![tactic(auto)]
 
 #[cfg(test)]

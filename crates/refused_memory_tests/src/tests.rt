@@ -1,15 +1,11 @@
+mod calls;
 mod configurations;
-mod engine;
-mod hoard;
-mod lines;
 mod managed_player;
-mod managed_scripts;
 mod player;
-mod scarce;
 mod shared_pools;
 mod told;
 mod tracked;
 mod trials;
 mod unmanaged_player;
-mod unmanaged_scripts;
 mod unmanaged_shared_pools;
+mod words;

@@ -203,19 +203,18 @@ pub fn builder(alloc: Global, answers: Answers, stalls: &Switch) -> Result<Build
         answers,
         stalls: Arc::try_clone(stalls)?,
     };
+    let builder = PoolBuilder::new(alloc, manager, NoTime);
     let post_create = hook(answers.post_create, stalls)?;
+    let builder = with(builder.post_create(post_create))?;
     let pre_recycle = hook(answers.pre_recycle, stalls)?;
+    let builder = with(builder.pre_recycle(pre_recycle))?;
     let post_recycle = hook(answers.post_recycle, stalls)?;
-    let Ok(builder) = PoolBuilder::new(alloc, manager, NoTime).post_create(post_create) else {
-        return Err(Fail::new("no memory for a hook"));
-    };
-    let Ok(builder) = builder.pre_recycle(pre_recycle) else {
-        return Err(Fail::new("no memory for a hook"));
-    };
-    let Ok(builder) = builder.post_recycle(post_recycle) else {
-        return Err(Fail::new("no memory for a hook"));
-    };
-    Ok(builder)
+    with(builder.post_recycle(post_recycle))
+}
+
+// The builder with a hook, if there was memory for it.
+fn with(added: Result<Builder, (Builder, Hook<NoHook, ToldHook>)>) -> Result<Builder, Fail> {
+    added.map_err(|_| Fail::new("no memory for a hook"))
 }
 
 fn hook(answer: Answer, stalls: &Switch) -> Result<Hook<NoHook, ToldHook>, AllocError> {

@@ -7,6 +7,7 @@ use deadpool::managed::{EnterReply, Entry, Get, Journal, NoHook, Object, Pool, S
 use deadpool::{Moment, Status};
 use futures::task::Poll;
 use futures::test::MockTask;
+use std::alloc::Global;
 use std::marker::Brand;
 use std::mem;
 use std::process::Abort;
@@ -43,6 +44,18 @@ struct PoolLanes<R: Wait + Drop, G: Ledger, N: Ledger, O: Ledger> {
     lanes: Vec<Lane<R, G, N, O>>,
 }
 
+fn empty_lanes<R: Wait + Drop, G: Ledger, N: Ledger, O: Ledger>(
+    alloc: Global,
+) -> Result<Vec<Lane<R, G, N, O>>, Fail> {
+    let mut lanes = Vec::new(alloc);
+    for _lane in 0..LANES {
+        if lanes.push(Lane::Empty).is_err() {
+            return Err(Fail::new("no memory for a lane"));
+        }
+    }
+    Ok(lanes)
+}
+
 impl<R: Wait + Drop, G: Ledger, N: Ledger, O: Ledger> PoolLanes<R, G, N, O> {
     // A pool with empty lanes.
     fn new<H: RandomSource + AllocGlobal>(
@@ -50,12 +63,7 @@ impl<R: Wait + Drop, G: Ledger, N: Ledger, O: Ledger> PoolLanes<R, G, N, O> {
         pool: TestPool<R, G, N, O>,
         answers: Answers,
     ) -> Result<Self, Fail> {
-        let mut lanes = Vec::new(rt.alloc());
-        for _lane in 0..LANES {
-            if lanes.push(Lane::Empty).is_err() {
-                return Err(Fail::new("no memory for a lane"));
-            }
-        }
+        let lanes = empty_lanes(rt.alloc())?;
         Ok(PoolLanes {
             task: MockTask::new(rt)?,
             pool,
@@ -78,6 +86,11 @@ impl<R: Wait + Drop, G: Ledger, N: Ledger, O: Ledger> PoolLanes<R, G, N, O> {
         }
     }
 
+    // Polls a get, which is to be pending.
+    fn is_pending(&self, get: &mut TestGet<R, G, N, O>) -> bool {
+        self.task.poll(get).is_pending()
+    }
+
     // Three gets are polled once while all polls are pending. Gives what stands in the journal then.
     fn journal_of_three(&self, stalls: &Switch) -> Result<Journal, Fail> {
         stalls.store(true, Ordering::SeqCst);
@@ -86,9 +99,9 @@ impl<R: Wait + Drop, G: Ledger, N: Ledger, O: Ledger> PoolLanes<R, G, N, O> {
             self.pool.get(),
             self.pool.get(),
         );
-        let are_pending = self.task.poll(&mut first).is_pending()
-            && self.task.poll(&mut second).is_pending()
-            && self.task.poll(&mut third).is_pending();
+        let are_pending = self.is_pending(&mut first)
+            && self.is_pending(&mut second)
+            && self.is_pending(&mut third);
         if !are_pending {
             return Err(Fail::new("a poll was not pending"));
         }
@@ -173,7 +186,7 @@ fn are_two_served(journal: &Journal) -> bool {
     }
 }
 
-// Plays over a new pool, whose places are all free in the end. Gives the number of rounds.
+// Names the ledgers of a pool.
 fn play_one<R>(rt: R, answers: Answers, most_steps: usize) -> Result<usize, Fail>
 where
     R: Wait + RandomSource + AllocGlobal + Abort + Copy + Drop + Send + Sync,
@@ -184,6 +197,7 @@ where
     play_with::<_, Brand, Brand, Brand>(rt, answers, most_steps, going, creations, outside)
 }
 
+// Plays over a new pool.
 fn play_with<R, G: Ledger, N: Ledger, O: Ledger>(
     rt: R,
     answers: Answers,
@@ -204,10 +218,22 @@ where
         .journal(JOURNAL);
     let pool: TestPool<R, G, N, O> = builder.build(going, creations, outside, rt)?;
     let mut lanes = PoolLanes::new(&rt, pool, answers)?;
-    let rounds = play(&rt, &mut lanes, answers, most_steps)?;
-    let journal = lanes.journal_of_three(&switch)?;
-    assert!(rt; are_two_served(&journal), "{answers:?}, {most_steps} steps");
-    Ok(rounds)
+    play_over(&rt, &mut lanes, most_steps, &switch)
+}
+
+// Plays over a pool, whose places are all free in the end. Gives the number of rounds.
+fn play_over<R: Wait + Drop, G: Ledger, N: Ledger, O: Ledger, H: Abort>(
+    rt: &H,
+    lanes: &mut PoolLanes<R, G, N, O>,
+    most_steps: usize,
+    switch: &Switch,
+) -> Result<usize, Fail> {
+    let answers = lanes.answers;
+    let rounds = play(rt, lanes, answers, most_steps)?;
+    if are_two_served(&lanes.journal_of_three(switch)?) {
+        return Ok(rounds);
+    }
+    Err(Fail::new(format_args!("{answers:?}, {most_steps} steps")))
 }
 
 // Plays all ways to answer in which a creation is answered so.

@@ -13,6 +13,8 @@ use std::test::Fail;
 // How many gets are started at most: one in each lane, one in each round, and three in the end.
 const PARTIES: usize = LANES + ROUNDS + 3;
 
+type TestTrial = Trial<Told, NoHook, ToldHook, NoTime>;
+
 // What is in a lane: a party of the trial, with the steps that it has made or the object that it was given.
 #[derive(Clone, Copy)]
 enum Lane {
@@ -26,20 +28,25 @@ enum Lane {
 #[derive(Drop)]
 struct TrialLanes {
     task: MockTask,
-    trial: Trial<Told, NoHook, ToldHook, NoTime>,
+    trial: TestTrial,
     answers: Answers,
     lanes: Vec<Lane>,
     // The party that starts next.
     next: usize,
 }
 
+// A trial that is answered so.
+fn trial_of(alloc: Global, answers: Answers) -> Result<TestTrial, Fail> {
+    let switch = new_switch(alloc)?;
+    let builder = builder(alloc, answers, &switch)?.max_size(LIMIT);
+    Ok(Trial::new(builder, PARTIES, 0)?)
+}
+
 impl TrialLanes {
     fn new<R: RandomSource + AllocGlobal>(rt: &R, answers: Answers) -> Result<Self, Fail> {
-        let switch = new_switch(rt.alloc())?;
-        let builder = builder(rt.alloc(), answers, &switch)?.max_size(LIMIT);
         Ok(TrialLanes {
             task: MockTask::new(rt)?,
-            trial: Trial::new(builder, PARTIES, 0)?,
+            trial: trial_of(rt.alloc(), answers)?,
             answers,
             lanes: vec![in rt.alloc(); Lane::Empty; LANES]?,
             next: 0,
@@ -165,18 +172,35 @@ fn are_two_served(replies: &[Reply<(), Refused>]) -> bool {
     )
 }
 
-// Plays over a new trial, whose places are all free in the end. Gives the number of rounds.
+// Of three more gets two go on, and the third waits, so the places are all free.
+fn serves_two(alloc: Global, lanes: &mut TrialLanes) -> Result<bool, Fail> {
+    let moves = three_gets(alloc, lanes.next)?;
+    let replies = lanes.run(moves)?;
+    Ok(are_two_served(&replies))
+}
+
+// Plays over a trial, whose places are all free in the end. Gives the number of rounds.
+fn play_over<R: AllocGlobal + Abort>(
+    rt: &R,
+    lanes: &mut TrialLanes,
+    most_steps: usize,
+) -> Result<usize, Fail> {
+    let answers = lanes.answers;
+    let rounds = play(rt, lanes, answers, most_steps)?;
+    if serves_two(rt.alloc(), lanes)? {
+        return Ok(rounds);
+    }
+    Err(Fail::new(format_args!("{answers:?}, {most_steps} steps")))
+}
+
+// Plays over a new trial.
 fn play_one<R: RandomSource + AllocGlobal + Abort>(
     rt: &R,
     answers: Answers,
     most_steps: usize,
 ) -> Result<usize, Fail> {
     let mut lanes = TrialLanes::new(rt, answers)?;
-    let rounds = play(rt, &mut lanes, answers, most_steps)?;
-    let moves = three_gets(rt.alloc(), lanes.next)?;
-    let replies = lanes.run(moves)?;
-    assert!(rt; are_two_served(&replies), "{answers:?}, {most_steps} steps");
-    Ok(rounds)
+    play_over(rt, &mut lanes, most_steps)
 }
 
 // Plays all ways to answer in which a creation is answered so.

@@ -1,15 +1,14 @@
 //! Configurations that are written, and hooks that are added, while too little memory is left.
-use super::hoard::{Hoard, more};
-use super::told::{Kind, Told, ToldHook, World};
-use deadpool::managed::{ConfigError, NoHook, PoolBuilder, PoolConfig, QueueMode, Timeouts};
+use super::calls::TRIES;
+use super::told::{Kind, SharedWorld, Told, ToldHook, World};
+use deadpool::managed::{ConfigError, Hook, NoHook, PoolBuilder, PoolConfig, QueueMode, Timeouts};
 use deadpool::unmanaged;
 use serde_json::Value;
-use std::process::Abort;
+use std::alloc::{AllocError, Global};
 use std::test::Fail;
 use std::time::Duration;
-
-// With how many amounts of memory a call is tried at most.
-const TRIES: usize = 2_000;
+use test_support::expected::expect;
+use test_support::hoard::{Hoard, more};
 
 fn config() -> PoolConfig {
     PoolConfig {
@@ -27,18 +26,33 @@ fn config() -> PoolConfig {
 const TEXT: &str =
     r#"{"max_size":42,"min_idle":1,"queue_mode":"Lifo","timeouts":{"create":null,"recycle":{"nanos":5,"secs":0},"wait":{"nanos":0,"secs":1}}}"#;
 
-// What was written while so much memory was left. None if it was refused.
-fn written_as<R: AllocGlobal + Abort>(
-    rt: &R,
+// Whether a configuration was written, as this text. If it was not, it was refused for want of memory.
+fn is_written(
+    alloc: Global,
     written: Result<Value, ConfigError>,
-) -> Result<Option<String>, Fail> {
+    wanted: &str,
+) -> Result<bool, Fail> {
     match written {
-        Ok(value) => Ok(Some(value.to_string(rt.alloc())?)),
+        Ok(value) => {
+            expect(
+                "the configuration",
+                value.to_string(alloc)?.as_str(),
+                wanted,
+            )?;
+            Ok(true)
+        }
         Err(cause) => {
-            assert_eq!(rt; cause, ConfigError::OutOfMemory);
-            Ok(None)
+            expect("the cause", cause, ConfigError::OutOfMemory)?;
+            Ok(false)
         }
     }
+}
+
+// There was a refusal. Prints how often.
+fn tell<R: Print>(rt: &R, refusals: usize) -> Result<(), Fail> {
+    expect("there was a refusal", refusals > 0, true)?;
+    println!(rt; "{refusals} refusals")?;
+    Ok(())
 }
 
 #[test]
@@ -49,11 +63,8 @@ fn configurations_that_find_no_memory(rt: HostRuntime) -> Result<(), Fail> {
         hoard.take(left)?;
         let written = config().to_json(rt.alloc());
         hoard.let_go();
-        if let Some(text) = written_as(&rt, written)? {
-            assert_eq!(rt; text.as_str(), TEXT);
-            assert!(rt; refusals > 0);
-            println!(rt; "{refusals} refusals")?;
-            return Ok(());
+        if is_written(rt.alloc(), written, TEXT)? {
+            return tell(&rt, refusals);
         }
         left = more(left);
     }
@@ -68,15 +79,48 @@ fn unmanaged_configurations_that_find_no_memory(rt: HostRuntime) -> Result<(), F
         hoard.take(left)?;
         let written = unmanaged::PoolConfig::new(2).to_json(rt.alloc());
         hoard.let_go();
-        if let Some(text) = written_as(&rt, written)? {
-            assert_eq!(rt; text.as_str(), r#"{"max_size":2,"timeout":null}"#);
-            assert!(rt; refusals > 0);
-            println!(rt; "{refusals} refusals")?;
-            return Ok(());
+        if is_written(rt.alloc(), written, r#"{"max_size":2,"timeout":null}"#)? {
+            return tell(&rt, refusals);
         }
         left = more(left);
     }
     Err(Fail::new("memory is always refused"))
+}
+
+type Builder = PoolBuilder<Told, NoHook, ToldHook, ()>;
+
+// A builder, and a hook that is not added to it.
+type Apart = (Builder, Hook<NoHook, ToldHook>);
+
+// Adds the hook while so much memory is left. If none is found, both come back.
+fn add_short(hoard: &mut Hoard, apart: Apart, left: usize) -> Result<Result<Builder, Apart>, Fail> {
+    hoard.take(left)?;
+    let (builder, hook) = apart;
+    let added = builder.post_create(hook);
+    hoard.let_go();
+    Ok(added)
+}
+
+// Adds the hook with more and more memory, until it finds enough. Gives how often it was refused.
+fn add(hoard: &mut Hoard, apart: Apart) -> Result<usize, Fail> {
+    let mut apart = apart;
+    let mut left = 0;
+    for refusals in 0..TRIES {
+        match add_short(hoard, apart, left)? {
+            Ok(_builder) => return Ok(refusals),
+            Err(same) => apart = same,
+        }
+        left = more(left);
+    }
+    Err(Fail::new("memory is always refused"))
+}
+
+// A builder that has no hook.
+fn builder_of(alloc: Global, world: &SharedWorld) -> Result<Builder, AllocError> {
+    let manager = Told {
+        world: world.clone()?,
+    };
+    Ok(PoolBuilder::new(alloc, manager, ()))
 }
 
 // A hook that finds no memory comes back with the builder, and both are as before: it is added once there is some.
@@ -84,32 +128,8 @@ fn unmanaged_configurations_that_find_no_memory(rt: HostRuntime) -> Result<(), F
 fn hooks_that_find_no_memory(rt: HostRuntime) -> Result<(), Fail> {
     let world = World::shared(rt.alloc())?;
     let mut hoard = Hoard::new(rt.alloc())?;
-    let manager = Told {
-        world: world.clone()?,
-    };
-    let mut builder: PoolBuilder<Told, NoHook, ToldHook, ()> = PoolBuilder::new(
-        rt.alloc(),
-        manager,
-        (),
-    );
-    let mut hook = ToldHook::of(&world, Kind::PostCreate)?;
-    let mut left = 0;
-    for refusals in 0..TRIES {
-        hoard.take(left)?;
-        let added = builder.post_create(hook);
-        hoard.let_go();
-        match added {
-            Ok(_builder) => {
-                assert!(rt; refusals > 0);
-                println!(rt; "{refusals} refusals")?;
-                return Ok(());
-            }
-            Err((same_builder, same_hook)) => {
-                builder = same_builder;
-                hook = same_hook;
-                left = more(left);
-            }
-        }
-    }
-    Err(Fail::new("memory is always refused"))
+    let builder = builder_of(rt.alloc(), &world)?;
+    let hook = ToldHook::of(&world, Kind::PostCreate)?;
+    let refusals = add(&mut hoard, (builder, hook))?;
+    tell(&rt, refusals)
 }

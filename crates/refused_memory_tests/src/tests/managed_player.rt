@@ -1,16 +1,16 @@
 //! A managed trial on which scripts are played.
-use super::hoard::Hoard;
-use super::lines::{Words, next_moment, next_number};
 use super::player::Player;
 use super::told::{Kind, Refused, SharedWorld, Told, ToldHook, World};
+use super::words::{Words, next_moment, next_number};
 use deadpool::Runtime;
-use deadpool::managed::{BuildError, NoHook, PoolBuilder, QueueMode, RetainResult, Timeouts};
+use deadpool::managed::{BuildError, Hook, NoHook, PoolBuilder, QueueMode, RetainResult, Timeouts};
 use deadpool::replay::{Move, Reply, Trial};
 use futures::test::MockTask;
 use std::alloc::{AllocError, Global};
 use std::random::RandomSource;
 use std::test::Fail;
 use std::time::Duration;
+use test_support::hoard::Hoard;
 
 // How many gets a script starts at most.
 const PARTIES: usize = 9;
@@ -54,34 +54,50 @@ impl ManagedPlayer {
 
     // A reply as a line, with the value of the object that it hands out.
     fn text_of(&self, reply: Reply<u64, Refused>) -> Result<String, AllocError> {
+        let value = match &reply {
+            Reply::Object(number) => self.trial.value(*number).copied(),
+            _ => None,
+        };
         let mut text = String::new(self.alloc);
-        match reply {
-            Reply::Started(party) => write!(text, "party {party}")?,
-            Reply::NoRoom => text.push_str("no room")?,
-            Reply::NoSuch => text.push_str("no such")?,
-            Reply::NoHandle => text.push_str("no handle")?,
-            Reply::More => text.push_str("more")?,
-            Reply::Pending => text.push_str("pending")?,
-            Reply::Object(number) => {
-                let value = self.trial.value(number).copied();
-                write!(text, "object {number} value {value:?}")?;
-            }
-            Reply::Failed(cause) => write!(text, "error {cause}")?,
-            Reply::Cancelled => text.push_str("cancelled")?,
-            Reply::Done => text.push_str("ok")?,
-            Reply::Kept => text.push_str("kept")?,
-            Reply::Detached => text.push_str("detached")?,
-            Reply::Dropped => text.push_str("dropped")?,
-            Reply::Taken(value) => write!(text, "taken {value}")?,
-            Reply::OutOfMemory => text.push_str("out of memory")?,
-            Reply::Retained(retain) => write_retained(&mut text, &retain)?,
-            Reply::Stands(status) => write!(text, "{status:?}")?,
-            Reply::Upgraded(is_counted) => write!(text, "upgraded {is_counted}")?,
-        }
-        if !text.as_str().ends_with('\n') {
-            text.push('\n')?;
-        }
+        write_reply(&mut text, &reply, value)?;
         Ok(text)
+    }
+}
+
+// Appends a reply as a line.
+fn write_reply(
+    text: &mut String,
+    reply: &Reply<u64, Refused>,
+    value: Option<u64>,
+) -> Result<(), AllocError> {
+    match reply {
+        Reply::Started(party) => write!(text, "party {party}"),
+        Reply::Object(number) => write!(text, "object {number} value {value:?}"),
+        Reply::Failed(cause) => write!(text, "error {cause}"),
+        Reply::Taken(value) => write!(text, "taken {value}"),
+        Reply::Retained(retain) => write_retained(text, retain),
+        Reply::Stands(status) => write!(text, "{status:?}"),
+        Reply::Upgraded(is_counted) => write!(text, "upgraded {is_counted}"),
+        _ => text.push_str(word_of(reply)),
+    }?;
+    text.push('\n')
+}
+
+// A reply in which there is no value.
+fn word_of(reply: &Reply<u64, Refused>) -> &'static str {
+    match reply {
+        Reply::NoRoom => "no room",
+        Reply::NoSuch => "no such",
+        Reply::NoHandle => "no handle",
+        Reply::More => "more",
+        Reply::Pending => "pending",
+        Reply::Cancelled => "cancelled",
+        Reply::Done => "ok",
+        Reply::Kept => "kept",
+        Reply::Detached => "detached",
+        Reply::Dropped => "dropped",
+        Reply::OutOfMemory => "out of memory",
+        _ => "a value",
     }
 }
 
@@ -190,19 +206,18 @@ fn told_builder(alloc: Global, world: &SharedWorld) -> Result<Builder, Fail> {
     let manager = Told {
         world: world.clone()?,
     };
+    let builder = PoolBuilder::new(alloc, manager, ());
     let post_create = ToldHook::of(world, Kind::PostCreate)?;
+    let builder = with(builder.post_create(post_create))?;
     let pre_recycle = ToldHook::of(world, Kind::PreRecycle)?;
+    let builder = with(builder.pre_recycle(pre_recycle))?;
     let post_recycle = ToldHook::of(world, Kind::PostRecycle)?;
-    let Ok(builder) = PoolBuilder::new(alloc, manager, ()).post_create(post_create) else {
-        return Err(Fail::new("no memory for a hook"));
-    };
-    let Ok(builder) = builder.pre_recycle(pre_recycle) else {
-        return Err(Fail::new("no memory for a hook"));
-    };
-    let Ok(builder) = builder.post_recycle(post_recycle) else {
-        return Err(Fail::new("no memory for a hook"));
-    };
-    Ok(builder)
+    with(builder.post_recycle(post_recycle))
+}
+
+// The builder with a hook, if there was memory for it.
+fn with(added: Result<Builder, (Builder, Hook<NoHook, ToldHook>)>) -> Result<Builder, Fail> {
+    added.map_err(|_| Fail::new("no memory for a hook"))
 }
 
 // The move that a line says.
@@ -216,22 +231,39 @@ fn move_of(alloc: Global, line: &str) -> Result<Move<u64>, Fail> {
 }
 
 fn parse_move(word: &str, words: &mut Words<'_>) -> Option<Move<u64>> {
-    Some(match word {
-        "start" => Move::Start(timeouts_of(words)),
-        "advance" => Move::Advance(next_number(words)?, next_moment(words)?),
-        "poll" => Move::Poll(next_number(words)?, next_moment(words)?),
-        "cancel" => Move::Cancel(next_number(words)?),
-        "put" => Move::Put(next_number(words)?, next_number(words)?),
-        "back" => Move::Back(next_number(words)?),
-        "take" => Move::Take(next_number(words)?),
-        "resize" => Move::Resize(next_number(words)?),
-        "close" => Move::Close,
-        "status" => Move::Status,
-        "clone" => Move::Clone,
-        "drop" => Move::DropHandle,
-        "upgrade" => Move::Upgrade,
-        _ => return None,
-    })
+    match word {
+        "start" => Some(Move::Start(timeouts_of(words))),
+        "advance" => Some(Move::Advance(next_number(words)?, next_moment(words)?)),
+        "poll" => Some(Move::Poll(next_number(words)?, next_moment(words)?)),
+        "put" => Some(Move::Put(next_number(words)?, next_number(words)?)),
+        _ => match next_number(words) {
+            Some(number) => numbered_move(word, number),
+            None => bare_move(word),
+        },
+    }
+}
+
+// The move that a word says with one number.
+fn numbered_move(word: &str, number: usize) -> Option<Move<u64>> {
+    match word {
+        "cancel" => Some(Move::Cancel(number)),
+        "back" => Some(Move::Back(number)),
+        "take" => Some(Move::Take(number)),
+        "resize" => Some(Move::Resize(number)),
+        _ => None,
+    }
+}
+
+// The move that a word says alone.
+fn bare_move(word: &str) -> Option<Move<u64>> {
+    match word {
+        "close" => Some(Move::Close),
+        "status" => Some(Move::Status),
+        "clone" => Some(Move::Clone),
+        "drop" => Some(Move::DropHandle),
+        "upgrade" => Some(Move::Upgrade),
+        _ => None,
+    }
 }
 
 // Three timeouts, or no word.

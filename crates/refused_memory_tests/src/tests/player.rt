@@ -1,7 +1,7 @@
 //! Pools on which scripts are played, a line at a time.
-use super::hoard::Hoard;
 use std::random::RandomSource;
 use std::test::Fail;
+use test_support::hoard::Hoard;
 
 /// A pool on which a script is played. Each reply is a line of text.
 pub trait Player: Drop {

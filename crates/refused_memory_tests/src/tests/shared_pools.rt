@@ -1,24 +1,26 @@
 //! Calls of a shared managed pool, made while too little memory is left.
 ghost use Rattle.deadpool.specs.Opens.{Opens};
 
-use super::hoard::{Hoard, more};
-use super::tracked::{Counts, Maker, NoTime};
+use super::calls::{Came, Polled, TRIES};
+use super::tracked::{Counts, Maker, NoTime, SharedCounts};
 use deadpool::Status;
 use deadpool::managed::{BuildError, Get, NoHook, Object, Pool, PoolBuilder, PoolError, WeakPool};
 use futures::task::Poll;
 use futures::test::MockTask;
+use std::alloc::{AllocError, Global};
 use std::marker::Brand;
-use std::process::Abort;
 use std::random::RandomSource;
 use std::sync::Wait;
 use std::sync::ledger::{Blank, Ledger};
 use std::test::Fail;
-
-// With how many amounts of memory a call is tried at most.
-const TRIES: usize = 2_000;
+use test_support::bench::stands;
+use test_support::expected::expect;
+use test_support::hoard::{Hoard, more};
 
 // How many objects a pool has at most.
 const LIMIT: usize = 2;
+
+type Builder = PoolBuilder<Maker, NoHook, NoHook, NoTime>;
 
 type TestPool<R, G, N, O> = Pool<Maker, NoHook, NoHook, NoTime, R, G, N, O>;
 
@@ -65,31 +67,13 @@ impl Call {
             Call::Clone | Call::Weak | Call::Upgrade | Call::ObjectPool | Call::Get => false,
         }
     }
-}
 
-// What a call came to.
-#[derive(Clone, Copy, Debug, PartialEq, Eq)]
-enum Came {
-    Refused,
-    Made,
-    // Neither of them.
-    Wrong,
-}
-
-impl Came {
-    fn of<T: Drop, E: Drop>(called: Result<T, E>) -> Self {
-        match called {
-            Ok(_) => Came::Made,
-            Err(_) => Came::Refused,
+    // How often it was refused, which is never if it takes no memory.
+    fn refused(self, refusals: usize) -> Result<usize, Fail> {
+        if self.takes_memory() == (refusals > 0) {
+            return Ok(refusals);
         }
-    }
-
-    fn of_some<T: Drop, E: Drop>(called: Result<Option<T>, E>) -> Self {
-        match called {
-            Ok(Some(_)) => Came::Made,
-            Ok(None) => Came::Wrong,
-            Err(_) => Came::Refused,
-        }
+        Err(Fail::new(format_args!("{self:?}: refused {refusals} times")))
     }
 }
 
@@ -102,6 +86,19 @@ struct Scene<R: Wait + Drop, G: Ledger, N: Ledger, O: Ledger> {
     out: TestObject<R, G, N, O>,
 }
 
+// An object that the get gives goes back.
+fn poll_get<R: Wait + Drop, G: Ledger, N: Ledger, O: Ledger>(
+    task: &MockTask,
+    get: &mut TestGet<R, G, N, O>,
+) -> Polled {
+    match task.poll(get) {
+        Poll::Pending => Polled::Pending,
+        Poll::Ready(Ok(_)) => Polled::Served,
+        Poll::Ready(Err(PoolError::OutOfMemory)) => Polled::Refused,
+        Poll::Ready(Err(_)) => Polled::Failed,
+    }
+}
+
 fn get_object<R: Wait + Drop, G: Ledger, N: Ledger, O: Ledger>(
     task: &MockTask,
     pool: &TestPool<R, G, N, O>,
@@ -112,16 +109,25 @@ fn get_object<R: Wait + Drop, G: Ledger, N: Ledger, O: Ledger>(
     }
 }
 
+// An object that is out, while another is idle.
+fn get_beside_idle<R: Wait + Drop, G: Ledger, N: Ledger, O: Ledger>(
+    task: &MockTask,
+    pool: &TestPool<R, G, N, O>,
+) -> Result<TestObject<R, G, N, O>, Fail> {
+    let out = get_object(task, pool)?;
+    let idle = get_object(task, pool)?;
+    drop(idle);
+    Ok(out)
+}
+
 impl<R: Wait + Drop, G: Ledger, N: Ledger, O: Ledger> Scene<R, G, N, O> {
     fn new<H: RandomSource + AllocGlobal>(
         rt: &H,
         pool: TestPool<R, G, N, O>,
     ) -> Result<Self, Fail> {
         let task = MockTask::new(rt)?;
-        let out = get_object(&task, &pool)?;
-        let idle = get_object(&task, &pool)?;
-        drop(idle);
         let weak = pool.weak()?;
+        let out = get_beside_idle(&task, &pool)?;
         Ok(Scene {
             task,
             pool,
@@ -141,59 +147,105 @@ impl<R: Wait + Drop, G: Ledger, N: Ledger, O: Ledger> Scene<R, G, N, O> {
             Call::Journal => Came::of(self.pool.journal()),
             Call::Resize => Came::of(self.pool.resize(100)),
             Call::Retain => Came::of(self.pool.retain(|_value, _metrics| false)),
-            Call::Get => match self.task.poll(&mut self.pool.get()) {
-                Poll::Ready(Ok(_)) => Came::Made,
-                Poll::Ready(Err(PoolError::OutOfMemory)) => Came::Refused,
-                _ => Came::Wrong,
+            Call::Get => match poll_get(&self.task, &mut self.pool.get()) {
+                Polled::Served => Came::Made,
+                Polled::Refused => Came::Refused,
+                Polled::Pending | Polled::Failed => Came::Wrong,
             },
         }
     }
 
     // How the pool stands once the call was made.
     fn after(&self, call: Call) -> Status {
-        let before = status(LIMIT, 2, 1, 0);
         match call {
-            Call::Resize => status(100, 2, 1, 0),
-            Call::Retain => status(LIMIT, 1, 0, 0),
-            _ => before,
+            Call::Resize => stands(100, 2, 1, 0),
+            Call::Retain => stands(LIMIT, 1, 0, 0),
+            _ => stands(LIMIT, 2, 1, 0),
         }
     }
 }
 
-fn status(max_size: usize, size: usize, available: usize, waiting: usize) -> Status {
-    Status {
-        max_size,
-        size,
-        available,
-        waiting,
-    }
-}
-
 // Makes a call while so much memory is left. If it is refused, the pool stands as before, and the call is made again.
-fn try_in_scene<R: Wait + Drop, G: Ledger, N: Ledger, O: Ledger, H: Abort>(
-    rt: &H,
+fn try_in_scene<R: Wait + Drop, G: Ledger, N: Ledger, O: Ledger>(
     hoard: &mut Hoard,
     scene: &Scene<R, G, N, O>,
     call: Call,
     left: usize,
 ) -> Result<Came, Fail> {
     let before = scene.pool.status();
-    assert_eq!(rt; before, status(LIMIT, 2, 1, 0), "{call:?}");
     hoard.take(left)?;
     let came = scene.make(call);
     hoard.let_go();
-    if came == Came::Refused {
-        assert_eq!(rt; scene.pool.status(), before, "{call:?}");
-        assert_eq!(rt; scene.make(call), Came::Made, "{call:?}");
-    }
-    assert_eq!(rt; scene.pool.status(), scene.after(call), "{call:?}");
+    let again = if came == Came::Refused {
+        (scene.pool.status(), scene.make(call))
+    } else {
+        (before, Came::Made)
+    };
+    expect(
+        "the status before a call, the call made again, and the status after it",
+        (before, again, scene.pool.status()),
+        (
+            stands(LIMIT, 2, 1, 0),
+            (before, Came::Made),
+            scene.after(call),
+        ),
+    )?;
     Ok(came)
+}
+
+// A get that was refused stays at its end, and the pool does not count it. The next takes its place, and waits.
+fn queue_again<R: Wait + Drop, G: Ledger, N: Ledger, O: Ledger>(
+    task: &MockTask,
+    pool: &TestPool<R, G, N, O>,
+    get: &mut TestGet<R, G, N, O>,
+) -> Result<(), Fail> {
+    let refused = pool.status();
+    let ended = (poll_get(task, get), pool.status());
+    *get = pool.get();
+    let out = stands(LIMIT, 2, 0, 0);
+    expect(
+        "a get at its end, and the next",
+        (refused, ended, poll_get(task, get)),
+        (out, (Polled::Pending, out), Polled::Pending),
+    )
+}
+
+// Polls a get while so much memory is left. If it is refused, the next waits.
+fn queue_short<R: Wait + Drop, G: Ledger, N: Ledger, O: Ledger>(
+    task: &MockTask,
+    hoard: &mut Hoard,
+    pool: &TestPool<R, G, N, O>,
+    get: &mut TestGet<R, G, N, O>,
+    left: usize,
+) -> Result<Came, Fail> {
+    hoard.take(left)?;
+    let came = poll_get(task, get).came();
+    hoard.let_go();
+    if came == Came::Refused {
+        queue_again(task, pool, get)?;
+    }
+    Ok(came)
+}
+
+// A get that waits is woken by a return, and has the object.
+fn serve<R: Wait + Drop, G: Ledger, N: Ledger, O: Ledger>(
+    task: &MockTask,
+    pool: &TestPool<R, G, N, O>,
+    get: &mut TestGet<R, G, N, O>,
+    out: TestObject<R, G, N, O>,
+) -> Result<(), Fail> {
+    let before = pool.status();
+    drop(out);
+    expect(
+        "a get that waits, and is served",
+        (before, task.is_woken(), poll_get(task, get)),
+        (stands(LIMIT, 2, 0, 1), true, Polled::Served),
+    )
 }
 
 // Polls a get for which no place is free while so much memory is left. If it is refused, it stays at its end, and the
 // next is queued. The one that is queued is woken by a return, and has the object.
-fn try_queue<R: Wait + Drop, G: Ledger, N: Ledger, O: Ledger, H: Abort>(
-    rt: &H,
+fn try_queue<R: Wait + Drop, G: Ledger, N: Ledger, O: Ledger>(
     hoard: &mut Hoard,
     scene: Scene<R, G, N, O>,
     left: usize,
@@ -206,28 +258,41 @@ fn try_queue<R: Wait + Drop, G: Ledger, N: Ledger, O: Ledger, H: Abort>(
     } = scene;
     let other = get_object(&task, &pool)?;
     let mut get: TestGet<R, G, N, O> = pool.get();
-    hoard.take(left)?;
-    let polled = task.poll(&mut get);
-    hoard.let_go();
-    let came = match polled {
-        Poll::Pending => Came::Made,
-        Poll::Ready(Err(PoolError::OutOfMemory)) => Came::Refused,
-        Poll::Ready(_) => Came::Wrong,
-    };
-    if came == Came::Refused {
-        assert_eq!(rt; pool.status(), status(LIMIT, 2, 0, 0));
-        assert!(rt; task.poll(&mut get).is_pending());
-        assert_eq!(rt; pool.status(), status(LIMIT, 2, 0, 0));
-        get = pool.get();
-        assert!(rt; task.poll(&mut get).is_pending());
-    }
-    assert_eq!(rt; pool.status(), status(LIMIT, 2, 0, 1));
-    drop(out);
-    assert!(rt; task.is_woken());
-    assert!(rt; matches!(task.poll(&mut get), Poll::Ready(Ok(_))));
+    let came = queue_short(&task, hoard, &pool, &mut get, left)?;
+    serve(&task, &pool, &mut get, out)?;
     drop(other);
-    assert_eq!(rt; pool.status(), status(LIMIT, 2, 2, 0));
+    expect(
+        "the status in the end",
+        pool.status(),
+        stands(LIMIT, 2, 2, 0),
+    )?;
     Ok(came)
+}
+
+// What a pool is built of whose objects are counted here.
+fn builder_of(alloc: Global, counts: &SharedCounts) -> Result<Builder, AllocError> {
+    let builder: Builder = PoolBuilder::new(alloc, Maker::of(counts)?, NoTime);
+    Ok(builder.max_size(LIMIT).journal(8))
+}
+
+// Makes a call over a pool that was built, if it was, while so much memory is left.
+fn try_built<R: Wait + Drop, G: Ledger, N: Ledger, O: Ledger, H: RandomSource + AllocGlobal>(
+    rt: &H,
+    hoard: &mut Hoard,
+    built: Result<TestPool<R, G, N, O>, BuildError>,
+    call: Call,
+    left: usize,
+) -> Result<Came, Fail> {
+    let scene = match built {
+        Ok(pool) => Scene::new(rt, pool)?,
+        Err(BuildError::OutOfMemory) => return Ok(Came::Refused),
+        Err(_) => return Ok(Came::Wrong),
+    };
+    match call {
+        Call::Build => Ok(Came::Made),
+        Call::Queue => try_queue(hoard, scene, left),
+        call => try_in_scene(hoard, &scene, call, left),
+    }
 }
 
 // Makes a call over a new pool while so much memory is left. In the end each object was dropped once.
@@ -241,19 +306,13 @@ fn try_over<R, G: Ledger, N: Ledger, O: Ledger>(
     outside: Blank,
 ) -> Result<Came, Fail>
 where
-    R: Wait + RandomSource + AllocGlobal + Abort + Copy + Drop + Send + Sync,
+    R: Wait + RandomSource + AllocGlobal + Copy + Drop + Send + Sync,
     requires going { Opens G.Ledger going }
     requires creations { Opens N.Ledger creations }
     requires outside { Opens O.Ledger outside }
 {
     let counts = Counts::shared(rt.alloc())?;
-    let maker = Maker::of(&counts)?;
-    let builder: PoolBuilder<Maker, NoHook, NoHook, NoTime> = PoolBuilder::new(
-        rt.alloc(),
-        maker,
-        NoTime,
-    );
-    let builder = builder.max_size(LIMIT).journal(8);
+    let builder = builder_of(rt.alloc(), &counts)?;
     if call == Call::Build {
         hoard.take(left)?;
     }
@@ -261,32 +320,15 @@ where
         going, creations, outside, rt,
     );
     hoard.let_go();
-    let pool = match built {
-        Ok(pool) => pool,
-        Err(BuildError::OutOfMemory) => return Ok(Came::Refused),
-        Err(_) => return Ok(Came::Wrong),
-    };
-    let scene = Scene::new(&rt, pool)?;
-    let came = match call {
-        Call::Build => {
-            drop(scene);
-            Came::Made
-        }
-        Call::Queue => try_queue(&rt, hoard, scene, left)?,
-        call => {
-            let came = try_in_scene(&rt, hoard, &scene, call, left)?;
-            drop(scene);
-            came
-        }
-    };
-    assert_eq!(rt; counts.living(), Some(0), "{call:?}");
+    let came = try_built(&rt, hoard, built, call, left)?;
+    expect("the objects in the end", counts.living(), Some(0))?;
     Ok(came)
 }
 
 // Names the ledgers of a pool.
 fn try_once<R>(rt: R, hoard: &mut Hoard, call: Call, left: usize) -> Result<Came, Fail>
 where
-    R: Wait + RandomSource + AllocGlobal + Abort + Copy + Drop + Send + Sync,
+    R: Wait + RandomSource + AllocGlobal + Copy + Drop + Send + Sync,
 {
     let going = Blank::new(u64::MAX);
     let creations = Blank::new(u64::MAX);
@@ -297,12 +339,12 @@ where
 // Makes a call with more and more memory, until it finds enough. Gives how often it was refused.
 fn try_call<R>(rt: R, hoard: &mut Hoard, call: Call) -> Result<usize, Fail>
 where
-    R: Wait + RandomSource + AllocGlobal + Abort + Copy + Drop + Send + Sync,
+    R: Wait + RandomSource + AllocGlobal + Copy + Drop + Send + Sync,
 {
     let mut left = 0;
     for refusals in 0..TRIES {
         match try_once(rt, hoard, call, left)? {
-            Came::Made => return Ok(refusals),
+            Came::Made => return call.refused(refusals),
             Came::Refused => left = more(left),
             Came::Wrong => return Err(Fail::new("neither made nor refused")),
         }
@@ -316,7 +358,6 @@ fn calls_of_a_shared_pool_that_find_no_memory(rt: HostRuntime) -> Result<(), Fai
     let mut refused = 0usize;
     for call in CALLS {
         let refusals = try_call(rt, &mut hoard, call)?;
-        assert_eq!(rt; refusals > 0, call.takes_memory(), "{call:?}");
         refused = refused.saturating_add(refusals);
     }
     println!(rt; "{refused} refusals")?;

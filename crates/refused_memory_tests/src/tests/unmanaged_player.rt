@@ -1,14 +1,13 @@
 //! An unmanaged trial on which scripts are played.
-use super::hoard::Hoard;
-use super::lines::{Words, next_moment, next_number};
 use super::player::Player;
+use super::words::{Words, next_moment, next_number};
 use deadpool::Runtime;
 use deadpool::replay::unmanaged::{Move, Reply, Trial};
-use poolrun_engine::write_unmanaged;
 use std::alloc::{AllocError, Global};
 use std::random::RandomSource;
 use std::test::Fail;
 use std::time::Duration;
+use test_support::hoard::Hoard;
 
 // How many gets and adds a script starts at most.
 const PARTIES: usize = 9;
@@ -21,9 +20,14 @@ pub struct UnmanagedPlayer {
 }
 
 impl UnmanagedPlayer {
+    // A reply as a line, with the value of the object that it hands out.
     fn text_of(&self, reply: Reply<u64>) -> Result<String, AllocError> {
+        let value = match &reply {
+            Reply::Object(number) => self.trial.value(*number).copied(),
+            _ => None,
+        };
         let mut text = String::new(self.alloc);
-        write_unmanaged(&mut text, reply, &self.trial)?;
+        write_reply(&mut text, &reply, value)?;
         Ok(text)
     }
 
@@ -31,6 +35,42 @@ impl UnmanagedPlayer {
     fn run(&mut self, moves: Vec<Move<u64>>) -> Option<Reply<u64>> {
         let mut replies = self.trial.run(moves).ok()?;
         replies.pop()
+    }
+}
+
+// Appends a reply as a line.
+fn write_reply(
+    text: &mut String,
+    reply: &Reply<u64>,
+    value: Option<u64>,
+) -> Result<(), AllocError> {
+    match reply {
+        Reply::Started(party) => write!(text, "party {party}"),
+        Reply::Exhausted(value) => write!(text, "exhausted value {value}"),
+        Reply::Object(number) => write!(text, "object {number} value {value:?}"),
+        Reply::Added(number) => write!(text, "added {number}"),
+        Reply::Failed(cause) => write!(text, "error {cause}"),
+        Reply::Refused(cause, value) => write!(text, "error {cause} value {value}"),
+        Reply::Taken(value) => write!(text, "taken {value}"),
+        Reply::Stands(status) => write!(text, "{status:?}"),
+        Reply::Upgraded(is_counted) => write!(text, "upgraded {is_counted}"),
+        _ => text.push_str(word_of(reply)),
+    }?;
+    text.push('\n')
+}
+
+// A reply in which there is no value.
+fn word_of(reply: &Reply<u64>) -> &'static str {
+    match reply {
+        Reply::NoRoom => "no room",
+        Reply::NoSuch => "no such",
+        Reply::NoHandle => "no handle",
+        Reply::Pending => "pending",
+        Reply::Cancelled => "cancelled",
+        Reply::Kept => "kept",
+        Reply::Dropped => "dropped",
+        Reply::Done => "ok",
+        _ => "a value",
     }
 }
 

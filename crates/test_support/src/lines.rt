@@ -1,26 +1,8 @@
-//! Scripts by lines, and lines by words.
-use deadpool::Moment;
+//! Scripts by lines, and what comes of a line that finds no memory.
 use std::alloc::{AllocError, Global};
-use std::str::{FromStr, Split};
 
 /// A script, of which one line stands below the other.
 pub type Script = &'static str;
-
-/// The words of a line.
-pub type Words<'a> = Split<'a, char>;
-
-/// The next word, if it is a number.
-pub fn next_number<N: FromStr>(words: &mut Words<'_>) -> Option<N>
-where
-    N::Err: Drop,
-{
-    words.next()?.parse::<N>().ok()
-}
-
-/// The next word, if it is a moment.
-pub fn next_moment(words: &mut Words<'_>) -> Option<Moment> {
-    Some(Moment(next_number(words)?))
-}
 
 /// The party that a line advances, polls or cancels.
 pub fn party_of(line: &str) -> Option<&str> {

@@ -1,5 +1,5 @@
 //! A line of a million bytes, and a million lines of none.
-use super::scripts::play;
+use super::scripts::writes;
 use poolrun_engine::Fault;
 use std::alloc::{AllocError, Global};
 use std::test::Fail;
@@ -16,9 +16,13 @@ fn with_long_line(alloc: Global, first: &str) -> Result<String, AllocError> {
 fn a_line_of_a_million_bytes_is_no_move(rt: HostRuntime) -> Result<(), Fail> {
     for first in ["x", "status ", "retain 1"] {
         let script = with_long_line(rt.alloc(), first)?;
-        let (written, ending) = play(&rt, script.as_bytes())?;
-        assert_eq!(rt; written.as_str(), "ok\n", "{first}");
-        assert_eq!(rt; ending, Err(Fault::NotAMove(2)), "{first}");
+        writes(
+            &rt,
+            first,
+            script.as_bytes(),
+            "ok\n",
+            Err(Fault::NotAMove(2)),
+        )?;
     }
     Ok(())
 }
@@ -26,25 +30,16 @@ fn a_line_of_a_million_bytes_is_no_move(rt: HostRuntime) -> Result<(), Fail> {
 #[test]
 fn a_comment_of_a_million_bytes_is_skipped(rt: HostRuntime) -> Result<(), Fail> {
     let script = with_long_line(rt.alloc(), "#")?;
-    let (written, ending) = play(&rt, script.as_bytes())?;
-    assert_eq!(rt;
-        written.as_str(),
-        "ok\nmax 1 size 0 available 0 waiting 0\n"
-    );
-    assert_eq!(rt; ending, Ok(()));
-    Ok(())
+    let replies = "ok\nmax 1 size 0 available 0 waiting 0\n";
+    writes(&rt, "a comment", script.as_bytes(), replies, Ok(()))
 }
 
 // Each of them is counted.
 #[test]
 fn a_million_empty_lines_are_skipped(rt: HostRuntime) -> Result<(), Fail> {
     let mut script = "\n".repeat(rt.alloc(), MILLION)?;
-    let (written, ending) = play(&rt, script.as_bytes())?;
-    assert_eq!(rt; (written.as_str(), ending), ("", Ok(())));
-
+    writes(&rt, "empty lines", script.as_bytes(), "", Ok(()))?;
     script.push_str("pool 1 fifo none 0\nmove\n")?;
-    let (written, ending) = play(&rt, script.as_bytes())?;
-    assert_eq!(rt; written.as_str(), "ok\n");
-    assert_eq!(rt; ending, Err(Fault::NotAMove(1_000_002)));
-    Ok(())
+    let ending = Err(Fault::NotAMove(1_000_002));
+    writes(&rt, "lines after them", script.as_bytes(), "ok\n", ending)
 }

@@ -3,6 +3,10 @@ use poolrun_engine::Fault;
 use std::alloc::{AllocError, Global};
 use std::random::RandomSource;
 use std::test::Fail;
+use test_support::expected::expect;
+
+/// What a run writes, and how it ends.
+pub type Run = (String, Result<(), Fault>);
 
 /// A script by lines, each with its reply.
 pub type Lines = &'static [(&'static str, &'static str)];
@@ -27,13 +31,22 @@ pub fn replies_of(alloc: Global, lines: Lines) -> Result<String, AllocError> {
     Ok(text)
 }
 
-/// What a script writes, and how its run ends.
-pub fn play<R: RandomSource + AllocGlobal>(
-    rt: &R,
-    script: &[u8],
-) -> Result<(String, Result<(), Fault>), Fail> {
+/// Plays a script.
+pub fn play<R: RandomSource + AllocGlobal>(rt: &R, script: &[u8]) -> Result<Run, Fail> {
     let mut reader = script;
     let mut written = Vec::new(rt.alloc());
     let ending = poolrun_engine::play(rt, &mut reader, &mut written);
     Ok((String::from_utf8(written)?, ending))
+}
+
+/// Plays a script, which writes these replies and ends so.
+pub fn writes<R: RandomSource + AllocGlobal>(
+    rt: &R,
+    what: &str,
+    script: &[u8],
+    replies: &str,
+    ending: Result<(), Fault>,
+) -> Result<(), Fail> {
+    let (written, ended) = play(rt, script)?;
+    expect(what, (written.as_str(), ended), (replies, ending))
 }

@@ -1,8 +1,7 @@
 //! A script with each of its bytes changed, and cut off at each of them.
-use super::scripts::{Lines, play, script_of};
+use super::scripts::{Lines, Run, play, script_of, writes};
 use poolrun_engine::Fault;
 use std::alloc::{AllocError, Global};
-use std::process::Abort;
 use std::random::RandomSource;
 use std::test::Fail;
 
@@ -41,8 +40,15 @@ fn ends_after(ending: Result<(), Fault>, lines: usize) -> bool {
     }
 }
 
+// Whether the lines before a changed byte have their replies, and the run ends well or at a later line.
+fn are_first(alloc: Global, run: &Run, lines: usize) -> Result<bool, AllocError> {
+    let (written, ending) = run;
+    let replies = first_replies(alloc, lines)?;
+    Ok(written.as_str().starts_with(replies.as_str()) && ends_after(*ending, lines))
+}
+
 // The run over a script of which one byte is another: the lines before it have their replies.
-fn plays_changed<R: RandomSource + AllocGlobal + Abort>(
+fn plays_changed<R: RandomSource + AllocGlobal>(
     rt: &R,
     script: &[u8],
     at: usize,
@@ -52,15 +58,11 @@ fn plays_changed<R: RandomSource + AllocGlobal + Abort>(
     if let Some(old) = changed.get_mut(at) {
         *old = byte;
     }
-    let (written, ending) = play(rt, &changed)?;
-    let lines = lines_before(script, at);
-    let replies = first_replies(rt.alloc(), lines)?;
-    assert!(rt;
-        written.as_str().starts_with(replies.as_str()),
-        "{byte} at {at}: {written}"
-    );
-    assert!(rt; ends_after(ending, lines), "{byte} at {at}: {ending:?}");
-    Ok(())
+    let run = play(rt, &changed)?;
+    if are_first(rt.alloc(), &run, lines_before(script, at))? {
+        return Ok(());
+    }
+    Err(Fail::new(format_args!("{byte} at {at}: {run:?}")))
 }
 
 #[test]
@@ -81,17 +83,14 @@ fn one_changed_byte_leaves_the_lines_before(rt: HostRuntime) -> Result<(), Fail>
 }
 
 // The run over a script that is cut off: so many lines have their replies, and there are no others.
-fn plays_cut<R: RandomSource + AllocGlobal + Abort>(
+fn plays_cut<R: RandomSource + AllocGlobal>(
     rt: &R,
     cut: &[u8],
     lines: usize,
     want: Result<(), Fault>,
 ) -> Result<(), Fail> {
-    let (written, ending) = play(rt, cut)?;
     let replies = first_replies(rt.alloc(), lines)?;
-    assert_eq!(rt; written.as_str(), replies.as_str(), "{cut:?}");
-    assert_eq!(rt; ending, want, "{cut:?}");
-    Ok(())
+    writes(rt, "a script that is cut off", cut, replies.as_str(), want)
 }
 
 // A part of a line is no move. A line that lacks its line feed is one.

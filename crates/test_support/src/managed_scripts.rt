@@ -1,5 +1,5 @@
 //! Worked scripts over a managed pool.
-use super::lines::Script;
+use crate::lines::Script;
 
 /// Each with its name.
 pub const SCRIPTS: [(&'static str, Script); 24] = [

@@ -1,6 +1,5 @@
 //! Scripts in which one poll is pending and its get is cancelled, or it is refused, or it adds one to the object.
-use super::scripts::{Lines, play, replies_of, script_of};
-use std::process::Abort;
+use super::scripts::{Lines, replies_of, script_of, writes};
 use std::random::RandomSource;
 use std::test::Fail;
 
@@ -137,7 +136,7 @@ const IDLE_OBJECTS: [(&'static str, Lines); 3] = [
 ];
 
 // Plays the script with this word for each K.
-fn has_its_replies<R: RandomSource + AllocGlobal + Abort>(
+fn has_its_replies<R: RandomSource + AllocGlobal>(
     rt: &R,
     name: &str,
     lines: Lines,
@@ -145,10 +144,7 @@ fn has_its_replies<R: RandomSource + AllocGlobal + Abort>(
 ) -> Result<(), Fail> {
     let script = script_of(rt.alloc(), lines)?.replace(rt.alloc(), 'K', kind)?;
     let replies = replies_of(rt.alloc(), lines)?;
-    let (written, ending) = play(rt, script.as_bytes())?;
-    assert_eq!(rt; written.as_str(), replies.as_str(), "{name} {kind}");
-    assert_eq!(rt; ending, Ok(()), "{name} {kind}");
-    Ok(())
+    writes(rt, name, script.as_bytes(), replies.as_str(), Ok(()))
 }
 
 #[test]

@@ -1,7 +1,7 @@
 //! A reader that leaves a script's player too little memory at one line.
-use super::hoard::Hoard;
 use std::io;
 use std::io::{BufRead, ErrorKind, Read};
+use test_support::hoard::Hoard;
 
 /// Gives one line at each read. Before the read of one of them it takes all memory but so many bytes, and lets it go
 /// with the read after that.
