@@ -4,9 +4,9 @@ use crate::lines::{read_line, without_line_feed, write_out};
 use crate::manager::{Answer, Answers, Kind};
 use crate::opening::{ManagedTrial, Refusal, ScriptPool, UnmanagedTrial, open_pool};
 use crate::script;
-use crate::script::{LineError, ManagedLine, PoolLine};
+use crate::script::{LineError, ManagedLine};
 use crate::texts::{end_line, write_managed, write_unmanaged};
-use deadpool::replay::{Move, unmanaged};
+use deadpool::replay::Move;
 use futures::task::{Context, Doorbell, Solo};
 use std::alloc::Global;
 use std::io::{BufRead, Write};
@@ -82,41 +82,47 @@ impl<'a> Engine<'a> {
             reply,
         } = self;
         match pool {
-            None => {
-                *pool = open(*alloc, answers, script::parse_pool(*alloc, line)?, reply)?;
-                Ok(())
-            }
+            None => open(pool, *alloc, answers, line, reply),
             Some(ScriptPool::Managed(trial)) => match script::parse_managed(*alloc, line)? {
                 ManagedLine::Answer(kind, words) => answer(answers, kind, words, reply),
                 ManagedLine::Move(next) => make_managed(trial, next, cx, reply),
             },
-            Some(ScriptPool::Unmanaged(trial)) => {
-                make_unmanaged(trial, script::parse_unmanaged(line)?, reply)
-            }
+            Some(ScriptPool::Unmanaged(trial)) => make_unmanaged(trial, line, reply),
         }
     }
 }
 
-// Makes the pool. One that is refused leaves the script without a pool.
+// Makes the pool that a line asks for. One that is refused leaves the script without a pool.
 fn open<'a>(
+    pool: &mut Option<ScriptPool<'a>>,
     alloc: Global,
     answers: &'a Answers,
-    line: PoolLine,
+    line: &[u8],
     reply: &mut String,
-) -> Result<Option<ScriptPool<'a>>, LineError> {
-    let pool = match open_pool(alloc, answers, line) {
-        Ok(pool) => {
-            reply.push_str("ok")?;
-            Some(pool)
+) -> Result<(), LineError> {
+    match open_pool(alloc, answers, script::parse_pool(alloc, line)?) {
+        Ok(opened) => {
+            *pool = Some(opened);
+            confirm(reply)
         }
-        Err(Refusal::Unread) => return Err(LineError::OutOfMemory),
-        Err(cause) => {
-            write!(reply, "error {cause}")?;
-            None
-        }
-    };
+        Err(refusal) => refuse(refusal, reply),
+    }
+}
+
+// The reply to a line that has nothing else to say.
+fn confirm(reply: &mut String) -> Result<(), LineError> {
+    reply.push_str("ok\n")?;
+    Ok(())
+}
+
+// The reply to a line whose pool is refused. If there was no memory to read its configuration, it has none.
+fn refuse(refusal: Refusal, reply: &mut String) -> Result<(), LineError> {
+    if refusal == Refusal::Unread {
+        return Err(LineError::OutOfMemory);
+    }
+    write!(reply, "error {refusal}")?;
     end_line(reply)?;
-    Ok(pool)
+    Ok(())
 }
 
 // The next polls of this kind are to be answered so.
@@ -127,8 +133,7 @@ fn answer(
     reply: &mut String,
 ) -> Result<(), LineError> {
     answers.append(kind, words)?;
-    reply.push_str("ok\n")?;
-    Ok(())
+    confirm(reply)
 }
 
 // Makes a move over a managed pool.
@@ -143,13 +148,13 @@ fn make_managed(
     Ok(())
 }
 
-// Makes a move over an unmanaged pool.
+// Makes the move that a line says over an unmanaged pool.
 fn make_unmanaged(
     trial: &mut UnmanagedTrial,
-    next: unmanaged::Move<u64>,
+    line: &[u8],
     text: &mut String,
 ) -> Result<(), LineError> {
-    let reply = trial.make(next);
+    let reply = trial.make(script::parse_unmanaged(line)?);
     write_unmanaged(text, reply, trial)?;
     Ok(())
 }

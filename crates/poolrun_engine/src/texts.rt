@@ -12,27 +12,27 @@ pub fn write_managed(
     reply: Reply<u64, Refused>,
     trial: &ManagedTrial<'_>,
 ) -> Result<(), AllocError> {
-    match reply {
-        Reply::Started(party) => write!(text, "party {party}")?,
-        Reply::NoRoom => text.push_str("no room")?,
-        Reply::NoSuch => text.push_str("no such")?,
-        Reply::NoHandle => text.push_str("no handle")?,
-        Reply::More => text.push_str("more")?,
-        Reply::Pending => text.push_str("pending")?,
-        Reply::Object(number) => write_object(text, number, trial.value(number))?,
-        Reply::Failed(cause) => write!(text, "error {cause}")?,
-        Reply::Cancelled => text.push_str("cancelled")?,
-        Reply::Done => text.push_str("ok")?,
-        Reply::Kept => text.push_str("kept")?,
-        Reply::Detached => text.push_str("detached")?,
-        Reply::Dropped => text.push_str("dropped")?,
-        Reply::Taken(value) => write!(text, "taken {value}")?,
-        Reply::OutOfMemory => text.push_str("out of memory")?,
-        Reply::Retained(retain) => write_retained(text, &retain)?,
-        Reply::Stands(status) => write_status(text, status)?,
-        Reply::Upgraded(true) => text.push_str("ok")?,
-        Reply::Upgraded(false) => text.push_str("none")?,
-    }
+    match &reply {
+        Reply::Started(party) => write!(text, "party {party}"),
+        Reply::NoRoom => text.push_str("no room"),
+        Reply::NoSuch => text.push_str("no such"),
+        Reply::NoHandle => text.push_str("no handle"),
+        Reply::More => text.push_str("more"),
+        Reply::Pending => text.push_str("pending"),
+        Reply::Object(number) => write_object(text, *number, trial.value(*number)),
+        Reply::Failed(cause) => write!(text, "error {cause}"),
+        Reply::Cancelled => text.push_str("cancelled"),
+        Reply::Done => text.push_str("ok"),
+        Reply::Kept => text.push_str("kept"),
+        Reply::Detached => text.push_str("detached"),
+        Reply::Dropped => text.push_str("dropped"),
+        Reply::Taken(value) => write!(text, "taken {value}"),
+        Reply::OutOfMemory => text.push_str("out of memory"),
+        Reply::Retained(retain) => write_retained(text, retain),
+        Reply::Stands(status) => write_status(text, *status),
+        Reply::Upgraded(true) => text.push_str("ok"),
+        Reply::Upgraded(false) => text.push_str("none"),
+    }?;
     end_line(text)
 }
 
@@ -43,26 +43,26 @@ pub fn write_unmanaged(
     trial: &UnmanagedTrial,
 ) -> Result<(), AllocError> {
     use unmanaged::Reply;
-    match reply {
-        Reply::Started(party) => write!(text, "party {party}")?,
-        Reply::NoRoom => text.push_str("no room")?,
-        Reply::NoSuch => text.push_str("no such")?,
-        Reply::NoHandle => text.push_str("no handle")?,
-        Reply::Exhausted(value) => write!(text, "exhausted value {value}")?,
-        Reply::Pending => text.push_str("pending")?,
-        Reply::Object(number) => write_object(text, number, trial.value(number))?,
-        Reply::Added(number) => write!(text, "added {number}")?,
-        Reply::Failed(cause) => write!(text, "error {cause}")?,
-        Reply::Refused(cause, value) => write!(text, "error {cause} value {value}")?,
-        Reply::Cancelled => text.push_str("cancelled")?,
-        Reply::Kept => text.push_str("kept")?,
-        Reply::Dropped => text.push_str("dropped")?,
-        Reply::Taken(value) => write!(text, "taken {value}")?,
-        Reply::Done => text.push_str("ok")?,
-        Reply::Stands(status) => write_status(text, status)?,
-        Reply::Upgraded(true) => text.push_str("ok")?,
-        Reply::Upgraded(false) => text.push_str("none")?,
-    }
+    match &reply {
+        Reply::Started(party) => write!(text, "party {party}"),
+        Reply::NoRoom => text.push_str("no room"),
+        Reply::NoSuch => text.push_str("no such"),
+        Reply::NoHandle => text.push_str("no handle"),
+        Reply::Exhausted(value) => write!(text, "exhausted value {value}"),
+        Reply::Pending => text.push_str("pending"),
+        Reply::Object(number) => write_object(text, *number, trial.value(*number)),
+        Reply::Added(number) => write!(text, "added {number}"),
+        Reply::Failed(cause) => write!(text, "error {cause}"),
+        Reply::Refused(cause, value) => write!(text, "error {cause} value {value}"),
+        Reply::Cancelled => text.push_str("cancelled"),
+        Reply::Kept => text.push_str("kept"),
+        Reply::Dropped => text.push_str("dropped"),
+        Reply::Taken(value) => write!(text, "taken {value}"),
+        Reply::Done => text.push_str("ok"),
+        Reply::Stands(status) => write_status(text, *status),
+        Reply::Upgraded(true) => text.push_str("ok"),
+        Reply::Upgraded(false) => text.push_str("none"),
+    }?;
     end_line(text)
 }
 
