@@ -99,16 +99,33 @@ pub fn cancels<R: Host, L: Line>(
 fn each<R: Host, L: Line>(rt: R, lines: Vec<L>, waiters: usize) -> io::Result<(Tenths, Vec<L>)> {
     let leaving = (waiters / 10).max(5);
     let left = (leaving as u64).saturating_mul(lines.len() as u64);
-    let mut filled = Vec::with_capacity(rt.alloc(), lines.len())?;
-    for line in lines {
-        filled.push(Filled::fill(rt.alloc(), line, waiters, leaving)?)?;
-    }
+    let mut filled = fill_all(rt.alloc(), lines, waiters, leaving)?;
     let window = cancel_middles(&rt, &mut filled)?;
-    let mut emptied = Vec::with_capacity(rt.alloc(), filled.len())?;
+    let emptied = empty_all(rt.alloc(), filled)?;
+    Ok((Tenths::nanoseconds(window, left), emptied))
+}
+
+// In each line so many wait, of whom so many are to leave.
+fn fill_all<L: Line>(
+    alloc: Global,
+    lines: Vec<L>,
+    waiters: usize,
+    leaving: usize,
+) -> io::Result<Vec<Filled<L>>> {
+    let mut filled = Vec::with_capacity(alloc, lines.len())?;
+    for line in lines {
+        filled.push(Filled::fill(alloc, line, waiters, leaving)?)?;
+    }
+    Ok(filled)
+}
+
+// The lines with nobody in them.
+fn empty_all<L: Line>(alloc: Global, filled: Vec<Filled<L>>) -> io::Result<Vec<L>> {
+    let mut emptied = Vec::with_capacity(alloc, filled.len())?;
     for line in filled {
         emptied.push(line.empty()?)?;
     }
-    Ok((Tenths::nanoseconds(window, left), emptied))
+    Ok(emptied)
 }
 
 fn cancel_middles<L: Line>(clock: &impl Clock, lines: &mut [Filled<L>]) -> io::Result<Duration> {

@@ -34,23 +34,30 @@ impl Line for Gate {
 pub fn measure<R: Host>(table: Table<R>) -> io::Result<()> {
     table.head("queue")?;
     for waiters in table.scale.waiters {
-        let mut gates = Vec::new(table.rt.alloc());
-        for _gate in 0..lines(waiters) {
-            gates.push(Gate::new(table.rt.alloc()))?;
-        }
-        cancels(table, "withdraw from the middle", gates, waiters)?;
+        measure_gate(table, waiters)?;
     }
     for waiters in table.scale.waiters {
-        if waiters > MOST_IN_VECTOR {
-            continue;
+        if waiters <= MOST_IN_VECTOR {
+            measure_vector(table, waiters)?;
         }
-        let mut gates = Vec::new(table.rt.alloc());
-        for _gate in 0..lines(waiters) {
-            gates.push(VectorGate::new(table.rt.alloc()))?;
-        }
-        cancels(table, "withdraw from a plain vector", gates, waiters)?;
     }
     Ok(())
+}
+
+fn measure_gate<R: Host>(table: Table<R>, waiters: usize) -> io::Result<()> {
+    let mut gates = Vec::new(table.rt.alloc());
+    for _gate in 0..lines(waiters) {
+        gates.push(Gate::new(table.rt.alloc()))?;
+    }
+    cancels(table, "withdraw from the middle", gates, waiters)
+}
+
+fn measure_vector<R: Host>(table: Table<R>, waiters: usize) -> io::Result<()> {
+    let mut gates = Vec::new(table.rt.alloc());
+    for _gate in 0..lines(waiters) {
+        gates.push(VectorGate::new(table.rt.alloc()))?;
+    }
+    cancels(table, "withdraw from a plain vector", gates, waiters)
 }
 
 // How many lines are timed together, so that a reading of the clock weighs little.

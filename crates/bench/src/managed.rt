@@ -53,14 +53,20 @@ where
         return Err(io::Error::other("the managed pool was not built"));
     };
     let pool: ZeroPool<R, G, N, O> = pool;
+    measure_built(table, &pool)
+}
+
+fn measure_built<R, G, N, O>(table: Table<R>, pool: &ZeroPool<R, G, N, O>) -> io::Result<()>
+where
+    R: Host,
+    G: Ledger + Send + Sync + 'static,
+    N: Ledger + Send + Sync + 'static,
+    O: Ledger + Send + Sync + 'static,
+{
     table.head("managed pool")?;
-    measure_alone(table, &pool)?;
-    let holds = Holds {
-        pool: pool.clone()?,
-        rt: table.rt,
-    };
-    crowds(table, &holds)?;
-    measure_cancels(table, &pool)
+    measure_alone(table, pool)?;
+    crowds(table, &Holds::new(table.rt, pool)?)?;
+    measure_cancels(table, pool)
 }
 
 fn measure_alone<R: Host, G: Ledger, N: Ledger, O: Ledger>(
@@ -70,21 +76,15 @@ fn measure_alone<R: Host, G: Ledger, N: Ledger, O: Ledger>(
     // Beside its object's slot and timeouts of its own, a get takes at most 128 bytes.
     let places = size_of::<Option<Slot<u64>>>() + size_of::<Option<Timeouts>>();
     prove!(size_of::<ZeroGet<R, G, N, O>>() <= 128 + places);
-    let creates = Creates {
-        pool: pool.clone()?,
-        task: Solo::new(&table.rt, Doorbell::spinning())?,
-    };
-    table.figure("create and take, polled by hand", &creates)?;
-    let polls = Polls {
-        pool: pool.clone()?,
-        task: Solo::new(&table.rt, Doorbell::spinning())?,
-    };
-    table.figure("get and return, polled by hand", &polls)?;
-    let blocks = Blocks {
-        pool: pool.clone()?,
-        rt: table.rt,
-    };
-    table.figure("get and return, by block_on", &blocks)
+    table.figure(
+        "create and take, polled by hand",
+        &Creates::new(table.rt, pool)?,
+    )?;
+    table.figure(
+        "get and return, polled by hand",
+        &Polls::new(table.rt, pool)?,
+    )?;
+    table.figure("get and return, by block_on", &Blocks::new(table.rt, pool)?)
 }
 
 // All objects are out, so every get waits.
@@ -93,21 +93,35 @@ fn measure_cancels<R: Host, G: Ledger, N: Ledger, O: Ledger>(
     pool: &ZeroPool<R, G, N, O>,
 ) -> io::Result<()> {
     pool.resize(1)?;
-    let task = MockTask::new(&table.rt)?;
-    let Poll::Ready(Ok(held)) = task.poll(&mut pool.get()) else {
-        return Err(lacks_object());
-    };
+    let held = get_at_once(table.rt, pool)?;
     for waiters in table.scale.waiters {
-        let line = PoolLine {
-            pool: pool.clone()?,
-            task: MockTask::new(&table.rt)?,
-        };
-        let mut lines = Vec::new(table.rt.alloc());
-        lines.push(line)?;
-        cancels(table, "cancel in the middle", lines, waiters)?;
+        cancel_gets(table, pool, waiters)?;
     }
     drop(held);
     Ok(())
+}
+
+// An object that a get gives at once.
+fn get_at_once<R: Host, G: Ledger, N: Ledger, O: Ledger>(
+    rt: R,
+    pool: &ZeroPool<R, G, N, O>,
+) -> io::Result<Zero<R, G, N, O>> {
+    let task = MockTask::new(&rt)?;
+    match task.poll(&mut pool.get()) {
+        Poll::Ready(Ok(object)) => Ok(object),
+        _ => Err(lacks_object()),
+    }
+}
+
+// Cancels gets while so many wait.
+fn cancel_gets<R: Host, G: Ledger, N: Ledger, O: Ledger>(
+    table: Table<R>,
+    pool: &ZeroPool<R, G, N, O>,
+    waiters: usize,
+) -> io::Result<()> {
+    let mut lines = Vec::new(table.rt.alloc());
+    lines.push(PoolLine::new(table.rt, pool)?)?;
+    cancels(table, "cancel in the middle", lines, waiters)
 }
 
 // Gets an object and gives it back, in a poll of one task.
@@ -115,6 +129,15 @@ fn measure_cancels<R: Host, G: Ledger, N: Ledger, O: Ledger>(
 struct Polls<R: Host, G: Ledger, N: Ledger, O: Ledger> {
     pool: ZeroPool<R, G, N, O>,
     task: Solo,
+}
+
+impl<R: Host, G: Ledger, N: Ledger, O: Ledger> Polls<R, G, N, O> {
+    fn new(rt: R, pool: &ZeroPool<R, G, N, O>) -> io::Result<Self> {
+        Ok(Polls {
+            pool: pool.clone()?,
+            task: Solo::new(&rt, Doorbell::spinning())?,
+        })
+    }
 }
 
 impl<R: Host, G: Ledger, N: Ledger, O: Ledger> Work for Polls<R, G, N, O> {
@@ -139,6 +162,15 @@ struct Blocks<R: Host, G: Ledger, N: Ledger, O: Ledger> {
     rt: R,
 }
 
+impl<R: Host, G: Ledger, N: Ledger, O: Ledger> Blocks<R, G, N, O> {
+    fn new(rt: R, pool: &ZeroPool<R, G, N, O>) -> io::Result<Self> {
+        Ok(Blocks {
+            pool: pool.clone()?,
+            rt,
+        })
+    }
+}
+
 impl<R: Host, G: Ledger, N: Ledger, O: Ledger> Work for Blocks<R, G, N, O> {
     fn repeat(&self, times: u32) -> io::Result<()> {
         for _time in 0..times {
@@ -156,6 +188,15 @@ impl<R: Host, G: Ledger, N: Ledger, O: Ledger> Work for Blocks<R, G, N, O> {
 struct Creates<R: Host, G: Ledger, N: Ledger, O: Ledger> {
     pool: ZeroPool<R, G, N, O>,
     task: Solo,
+}
+
+impl<R: Host, G: Ledger, N: Ledger, O: Ledger> Creates<R, G, N, O> {
+    fn new(rt: R, pool: &ZeroPool<R, G, N, O>) -> io::Result<Self> {
+        Ok(Creates {
+            pool: pool.clone()?,
+            task: Solo::new(&rt, Doorbell::spinning())?,
+        })
+    }
 }
 
 impl<R: Host, G: Ledger, N: Ledger, O: Ledger> Work for Creates<R, G, N, O> {
@@ -178,6 +219,15 @@ impl<R: Host, G: Ledger, N: Ledger, O: Ledger> Work for Creates<R, G, N, O> {
 struct Holds<R: Host, G: Ledger, N: Ledger, O: Ledger> {
     pool: ZeroPool<R, G, N, O>,
     rt: R,
+}
+
+impl<R: Host, G: Ledger, N: Ledger, O: Ledger> Holds<R, G, N, O> {
+    fn new(rt: R, pool: &ZeroPool<R, G, N, O>) -> io::Result<Self> {
+        Ok(Holds {
+            pool: pool.clone()?,
+            rt,
+        })
+    }
 }
 
 impl<R: Host, G: Ledger, N: Ledger, O: Ledger> Work for Holds<R, G, N, O> {
@@ -213,6 +263,15 @@ where
 struct PoolLine<R: Host, G: Ledger, N: Ledger, O: Ledger> {
     pool: ZeroPool<R, G, N, O>,
     task: MockTask,
+}
+
+impl<R: Host, G: Ledger, N: Ledger, O: Ledger> PoolLine<R, G, N, O> {
+    fn new(rt: R, pool: &ZeroPool<R, G, N, O>) -> io::Result<Self> {
+        Ok(PoolLine {
+            pool: pool.clone()?,
+            task: MockTask::new(&rt)?,
+        })
+    }
 }
 
 impl<R: Host, G: Ledger, N: Ledger, O: Ledger> Line for PoolLine<R, G, N, O> {

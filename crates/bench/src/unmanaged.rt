@@ -41,31 +41,32 @@ fn measure_alone<R: Host>(table: Table<R>) -> io::Result<()> {
     if pool.try_add(0).is_err() {
         return Err(io::Error::other("an object was not added"));
     }
-    let tries = Tries {
-        pool: pool.clone()?,
-    };
-    table.figure("get and return, at once", &tries)?;
-    let polls = Polls {
-        pool: pool.clone()?,
-        task: Solo::new(&table.rt, Doorbell::spinning())?,
-    };
-    table.figure("get and return, polled by hand", &polls)?;
-    let blocks = Blocks { pool, rt: table.rt };
-    table.figure("get and return, by block_on", &blocks)
+    measure_gets(table, &pool)
+}
+
+// The pool has one object.
+fn measure_gets<R: Host>(table: Table<R>, pool: &ZeroPool<R>) -> io::Result<()> {
+    table.figure("get and return, at once", &Tries::new(pool)?)?;
+    table.figure(
+        "get and return, polled by hand",
+        &Polls::new(table.rt, pool)?,
+    )?;
+    table.figure("get and return, by block_on", &Blocks::new(table.rt, pool)?)
 }
 
 // The pool has no object, so every get waits.
 fn measure_cancels<R: Host>(table: Table<R>) -> io::Result<()> {
     for waiters in table.scale.waiters {
-        let line = PoolLine {
-            pool: Pool::new(table.rt.alloc(), 1, NoTime, table.rt)?,
-            task: MockTask::new(&table.rt)?,
-        };
-        let mut lines = Vec::new(table.rt.alloc());
-        lines.push(line)?;
-        cancels(table, "cancel in the middle", lines, waiters)?;
+        cancel_gets(table, waiters)?;
     }
     Ok(())
+}
+
+// Cancels gets while so many wait.
+fn cancel_gets<R: Host>(table: Table<R>, waiters: usize) -> io::Result<()> {
+    let mut lines = Vec::new(table.rt.alloc());
+    lines.push(PoolLine::new(table.rt)?)?;
+    cancels(table, "cancel in the middle", lines, waiters)
 }
 
 // Adds an object and removes it, neither of which waits.
@@ -94,6 +95,14 @@ struct Tries<R: Host> {
     pool: ZeroPool<R>,
 }
 
+impl<R: Host> Tries<R> {
+    fn new(pool: &ZeroPool<R>) -> io::Result<Self> {
+        Ok(Tries {
+            pool: pool.clone()?,
+        })
+    }
+}
+
 impl<R: Host> Work for Tries<R> {
     fn repeat(&self, times: u32) -> io::Result<()> {
         for _time in 0..times {
@@ -111,6 +120,15 @@ impl<R: Host> Work for Tries<R> {
 struct Polls<R: Host> {
     pool: ZeroPool<R>,
     task: Solo,
+}
+
+impl<R: Host> Polls<R> {
+    fn new(rt: R, pool: &ZeroPool<R>) -> io::Result<Self> {
+        Ok(Polls {
+            pool: pool.clone()?,
+            task: Solo::new(&rt, Doorbell::spinning())?,
+        })
+    }
 }
 
 impl<R: Host> Work for Polls<R> {
@@ -137,6 +155,15 @@ impl<R: Host> Work for Polls<R> {
 struct Blocks<R: Host> {
     pool: ZeroPool<R>,
     rt: R,
+}
+
+impl<R: Host> Blocks<R> {
+    fn new(rt: R, pool: &ZeroPool<R>) -> io::Result<Self> {
+        Ok(Blocks {
+            pool: pool.clone()?,
+            rt,
+        })
+    }
 }
 
 impl<R: Host> Work for Blocks<R> {
@@ -185,6 +212,15 @@ impl<R: Host> SharedWork for Holds<R> {
 struct PoolLine<R: Host> {
     pool: ZeroPool<R>,
     task: MockTask,
+}
+
+impl<R: Host> PoolLine<R> {
+    fn new(rt: R) -> io::Result<Self> {
+        Ok(PoolLine {
+            pool: Pool::new(rt.alloc(), 1, NoTime, rt)?,
+            task: MockTask::new(&rt)?,
+        })
+    }
 }
 
 impl<R: Host> Line for PoolLine<R> {
