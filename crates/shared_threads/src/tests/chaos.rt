@@ -5,7 +5,7 @@ mod dice;
 mod rounds;
 mod world;
 
-use super::replay::last_status;
+use super::replay::ends_so;
 use deadpool::Runtime;
 use deadpool::managed::{Hook, PoolBuilder};
 use rounds::{ChaosPool, Host, play};
@@ -28,23 +28,21 @@ type Builder = PoolBuilder<Maker, Refusing, Stalling, Ticking>;
 
 // A pool of at most three objects, with a hook of each list and a long journal.
 fn builder(alloc: Global, world: &Shared) -> Result<Builder, Fail> {
-    let post_create = Stalling::new(world)?;
-    let pre_recycle = Refusing::new(world)?;
-    let post_recycle = Stalling::new(world)?;
     let builder = PoolBuilder::new(alloc, Maker::new(world)?, Ticking::new())
         .max_size(3)
         .runtime(Runtime::Clock)
         .journal(1_000_000);
-    let Ok(builder) = builder.post_create(Hook::async_fn(post_create)) else {
-        return Err(Fail::new("no memory for a hook"));
-    };
-    let Ok(builder) = builder.pre_recycle(Hook::sync_fn(pre_recycle)) else {
-        return Err(Fail::new("no memory for a hook"));
-    };
-    let Ok(builder) = builder.post_recycle(Hook::async_fn(post_recycle)) else {
-        return Err(Fail::new("no memory for a hook"));
-    };
-    Ok(builder)
+    let builder = added(builder.post_create(Hook::async_fn(Stalling::new(world)?)))?;
+    let builder = added(builder.pre_recycle(Hook::sync_fn(Refusing::new(world)?)))?;
+    added(builder.post_recycle(Hook::async_fn(Stalling::new(world)?)))
+}
+
+// The builder with one more hook, if there was memory for it.
+fn added(builder: Result<Builder, (Builder, Hook<Refusing, Stalling>)>) -> Result<Builder, Fail> {
+    match builder {
+        Ok(builder) => Ok(builder),
+        Err(_) => Err(Fail::new("no memory for a hook")),
+    }
 }
 
 // All threads play their rounds.
@@ -87,14 +85,22 @@ where
     let builder = builder(rt.alloc(), world)?;
     let pool: ChaosPool<R, G, N, O> = builder.build(going, creations, outside, rt)?;
     all_play(rt, &pool)?;
+    ends_well(rt, &pool)
+}
+
+// All objects are back and nobody waits, and the journal of the closed pool replays.
+fn ends_well<R, G, N, O>(rt: R, pool: &ChaosPool<R, G, N, O>) -> Result<(), Fail>
+where
+    R: Host + Abort + Copy,
+    G: Ledger,
+    N: Ledger,
+    O: Ledger,
+{
     let status = pool.status();
     assert_eq!(rt; (status.available, status.waiting), (status.size, 0));
     pool.close();
     let closed = pool.status();
-    let journal = pool.journal()?;
-    assert!(rt; !journal.full);
-    assert_eq!(rt; last_status(rt.alloc(), &journal)?, Some(closed));
-    Ok(())
+    ends_so(rt, &pool.journal()?, closed)
 }
 
 #[test]

@@ -1,10 +1,10 @@
 //! A hundred jobs over ten threads, with three objects at most.
 ghost use Rattle.deadpool.specs.Opens.{Opens};
 
-use super::replay::last_status;
+use super::replay::ends_so;
 use deadpool::managed::{
     AgainReply, AskReply, BackReply, CreatedReply, Entry, Journal, Manager, Metrics, NoHook, Pool,
-    PoolBuilder, RecycleResult, StepReply, TakeReply,
+    PoolBuilder, RecycleResult, Status, StepReply, TakeReply,
 };
 use deadpool::{Clock, Moment};
 use futures::executor::block_on;
@@ -174,20 +174,38 @@ where
         .journal(10_000);
     let pool: Numbers<R, G, N, O> = builder.build(going, creations, outside, rt)?;
     work(rt, &pool)?;
+    all_are_done(rt, &pool)
+}
+
+// Nobody waits, all objects are back, and their sum has each job.
+fn all_are_done<R, G, N, O>(rt: R, pool: &Numbers<R, G, N, O>) -> Result<(), Fail>
+where
+    R: Wait + AllocGlobal + Abort + Drop + Copy,
+    G: Ledger,
+    N: Ledger,
+    O: Ledger,
+{
     let status = pool.status();
-    assert_eq!(rt; (status.max_size, status.waiting), (3, 0));
-    assert_eq!(rt; status.available, status.size);
-    let journal = pool.journal()?;
-    assert!(rt; !journal.full);
+    let counts = (status.max_size, status.available, status.waiting);
+    assert_eq!(rt; counts, (3, status.size, 0));
+    each_is_noted(rt, &pool.journal()?, status)?;
+    assert_eq!(rt; sum_of(pool)?, 100);
+    Ok(())
+}
+
+// The journal has each job, and nothing that was not known.
+fn each_is_noted<R: AllocGlobal + Abort + Drop + Copy>(
+    rt: R,
+    journal: &Journal,
+    status: Status,
+) -> Result<(), Fail> {
     let tally = Tally {
         enters: 100,
         backs: 100,
         unknown: 0,
     };
-    assert_eq!(rt; tally_of(&journal), tally);
-    assert_eq!(rt; last_status(rt.alloc(), &journal)?, Some(status));
-    assert_eq!(rt; sum_of(&pool)?, 100);
-    Ok(())
+    assert_eq!(rt; tally_of(journal), tally);
+    ends_so(rt, journal, status)
 }
 
 #[test]

@@ -169,25 +169,41 @@ impl Clock for NoTime {
 
 type WatchedPool<R, G, N, O> = Pool<WatchedManager, NoHook, WatchedHook, NoTime, R, G, N, O>;
 
+type WatchedObject<R, G, N, O> = Object<WatchedManager, NoHook, WatchedHook, NoTime, R, G, N, O>;
+
 type WatchedBuilder = PoolBuilder<WatchedManager, NoHook, WatchedHook, NoTime>;
+
+type AnyHook = Hook<NoHook, WatchedHook>;
 
 // A pool of at most one object, with a hook of each list.
 fn builder(alloc: Global, call: Call) -> Result<WatchedBuilder, Fail> {
     let watch = Arc::new(alloc, Watch::new(call))?;
-    let post_create = WatchedHook::new(&watch, Call::PostCreate)?;
-    let pre_recycle = WatchedHook::new(&watch, Call::PreRecycle)?;
-    let post_recycle = WatchedHook::new(&watch, Call::PostRecycle)?;
-    let builder = PoolBuilder::new(alloc, WatchedManager { watch }, NoTime).max_size(1);
-    let Ok(builder) = builder.post_create(Hook::async_fn(post_create)) else {
-        return Err(Fail::new("no memory for a hook"));
+    let manager = WatchedManager {
+        watch: Arc::try_clone(&watch)?,
     };
-    let Ok(builder) = builder.pre_recycle(Hook::async_fn(pre_recycle)) else {
-        return Err(Fail::new("no memory for a hook"));
-    };
-    let Ok(builder) = builder.post_recycle(Hook::async_fn(post_recycle)) else {
-        return Err(Fail::new("no memory for a hook"));
-    };
-    Ok(builder)
+    let builder = PoolBuilder::new(alloc, manager, NoTime).max_size(1);
+    with_hooks(builder, &watch)
+}
+
+// The builder with a hook of each list.
+fn with_hooks(builder: WatchedBuilder, watch: &Watched) -> Result<WatchedBuilder, Fail> {
+    let builder = added(builder.post_create(hook(watch, Call::PostCreate)?))?;
+    let builder = added(builder.pre_recycle(hook(watch, Call::PreRecycle)?))?;
+    added(builder.post_recycle(hook(watch, Call::PostRecycle)?))
+}
+
+fn hook(watch: &Watched, call: Call) -> Result<AnyHook, AllocError> {
+    Ok(Hook::async_fn(WatchedHook::new(watch, call)?))
+}
+
+// The builder with one more hook, if there was memory for it.
+fn added(
+    builder: Result<WatchedBuilder, (WatchedBuilder, AnyHook)>,
+) -> Result<WatchedBuilder, Fail> {
+    match builder {
+        Ok(builder) => Ok(builder),
+        Err(_) => Err(Fail::new("no memory for a hook")),
+    }
 }
 
 // Asks for the status once the call is under way.
@@ -209,6 +225,23 @@ where
     }
 }
 
+// The object that a get gives in its first poll, if it does.
+fn first_poll<R, G, N, O>(
+    task: &MockTask,
+    pool: &WatchedPool<R, G, N, O>,
+) -> Option<WatchedObject<R, G, N, O>>
+where
+    R: Wait + Drop,
+    G: Ledger,
+    N: Ledger,
+    O: Ledger,
+{
+    match task.poll(&mut pool.get()) {
+        Poll::Ready(Ok(object)) => Some(object),
+        _ => None,
+    }
+}
+
 // Whether the second of two gets, after each other, gives the object of the first. None if one of them is refused.
 fn gets_it_again<R, G, N, O>(rt: &R, pool: &WatchedPool<R, G, N, O>) -> Result<Option<bool>, Fail>
 where
@@ -218,12 +251,12 @@ where
     O: Ledger,
 {
     let task = MockTask::new(rt)?;
-    let Poll::Ready(Ok(object)) = task.poll(&mut pool.get()) else {
+    let Some(object) = first_poll(&task, pool) else {
         return Ok(None);
     };
     let first = Object::id(&object);
     drop(object);
-    let Poll::Ready(Ok(object)) = task.poll(&mut pool.get()) else {
+    let Some(object) = first_poll(&task, pool) else {
         return Ok(None);
     };
     Ok(Some(Object::id(&object) == first))

@@ -4,6 +4,8 @@ use deadpool::managed::{
     Core, Desk, Entry, Journal, Metrics, Removal, Removals, Retainer, Slot, Status, by_number,
 };
 use std::alloc::{AllocError, Global};
+use std::process::Abort;
+use std::test::Fail;
 
 /// A new pool that opens as the journal says makes each step of it. None if one of them is answered otherwise.
 pub fn replayed(alloc: Global, journal: &Journal) -> Result<Option<Core<()>>, AllocError> {
@@ -16,9 +18,20 @@ pub fn replayed(alloc: Global, journal: &Journal) -> Result<Option<Core<()>>, Al
     Ok(Some(core))
 }
 
-/// How the pool stands at the end of a journal that replays.
-pub fn last_status(alloc: Global, journal: &Journal) -> Result<Option<Status>, AllocError> {
+// How the pool stands at the end of a journal that replays.
+fn last_status(alloc: Global, journal: &Journal) -> Result<Option<Status>, AllocError> {
     Ok(replayed(alloc, journal)?.map(|mut core| core.status()))
+}
+
+/// Nothing is missing in a journal, and at its end the pool stands so.
+pub fn ends_so<R: AllocGlobal + Abort + Drop>(
+    rt: R,
+    journal: &Journal,
+    status: Status,
+) -> Result<(), Fail> {
+    assert!(rt; !journal.full);
+    assert_eq!(rt; last_status(rt.alloc(), journal)?, Some(status));
+    Ok(())
 }
 
 fn answers_so(core: &mut Core<()>, entry: &Entry) -> bool {
