@@ -114,12 +114,19 @@ fn fill(alloc: Global, core: &mut Core<u64>, count: usize) -> Result<(), Fail> {
 
 #[test]
 fn a_large_limit_is_filled(rt: HostRuntime) -> Result<(), Fail> {
-    let mut core = new_core(rt.alloc(), LARGE, QueueMode::Fifo)?;
-    fill(rt.alloc(), &mut core, LARGE)?;
+    fills_a_large_core(rt.alloc())?;
+    fills_a_core_that_grew(rt.alloc())
+}
 
-    let mut core = new_core(rt.alloc(), 1, QueueMode::Lifo)?;
+fn fills_a_large_core(alloc: Global) -> Result<(), Fail> {
+    let mut core = new_core(alloc, LARGE, QueueMode::Fifo)?;
+    fill(alloc, &mut core, LARGE)
+}
+
+fn fills_a_core_that_grew(alloc: Global) -> Result<(), Fail> {
+    let mut core = new_core(alloc, 1, QueueMode::Lifo)?;
     core.resize(LARGE)?;
-    fill(rt.alloc(), &mut core, LARGE)
+    fill(alloc, &mut core, LARGE)
 }
 
 #[test]

@@ -36,11 +36,16 @@ fn gets(alloc: Global, count: usize) -> Result<Vec<Move<u64>>, Fail> {
 
 // Of three gets the first has the object.
 fn is_first_served(replies: &[CounterReply]) -> bool {
+    match replies {
+        [Reply::Started(0), Reply::Object(0), others @ ..] => others_wait(others),
+        _ => false,
+    }
+}
+
+fn others_wait(replies: &[CounterReply]) -> bool {
     matches!(
         replies,
         [
-            Reply::Started(0),
-            Reply::Object(0),
             Reply::Started(1),
             Reply::Pending,
             Reply::Started(2),
