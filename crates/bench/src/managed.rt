@@ -1,5 +1,6 @@
 //! The managed pool.
-ghost use Rattle.deadpool.specs.Opens.{Opens};
+
+ghost use Rattle.std.specs.Prelude.{◌≡◌};
 
 use crate::cancels::cancels;
 use crate::crowd::{LIMIT, crowds};
@@ -7,61 +8,48 @@ use crate::host::Host;
 use crate::line::Line;
 use crate::table::Table;
 use crate::work::{SharedWork, Work};
-use crate::zeros::{NoTime, Zeros};
-use deadpool::managed::{Get, NoHook, Object, Pool, PoolBuilder, Slot, Timeouts};
+use crate::zeros::Zeros;
+use deadpool::NoTime;
+use deadpool::managed::{Blanks, Get, Ledgers, NoHook, Object, Pool, PoolBuilder, Slot, Timeouts};
 use futures::Future;
 use futures::executor::block_on;
 use futures::task::{Doorbell, Poll, Solo};
 use futures::test::MockTask;
 use std::alloc::AllocError;
 use std::marker::Brand;
-use std::sync::ledger::{Blank, Ledger};
 use std::{io, thread};
 
-type ZeroPool<R, G, N, O> = Pool<Zeros, NoHook, NoHook, NoTime, R, G, N, O>;
+type ZeroPool<R, L> = Pool<Zeros, NoHook, NoHook, NoTime, R, L>;
 
-type Zero<R, G, N, O> = Object<Zeros, NoHook, NoHook, NoTime, R, G, N, O>;
+type Zero<R, L> = Object<Zeros, NoHook, NoHook, NoTime, R, L>;
 
-type ZeroGet<R, G, N, O> = Get<Zeros, NoHook, NoHook, NoTime, R, G, N, O, Zero<R, G, N, O>>;
+type ZeroGet<R, L> = Get<Zeros, NoHook, NoHook, NoTime, R, L, Zero<R, L>>;
 
 /// Times all work of a managed pool.
 pub fn measure<R: Host>(table: Table<R>) -> io::Result<()> {
-    let going = Blank::new(u64::MAX);
-    let creations = Blank::new(u64::MAX);
-    let outside = Blank::new(u64::MAX);
-    measure_pool::<_, Brand, Brand, Brand>(table, going, creations, outside)
+    let blanks = Blanks::new();
+    measure_pool::<_, Brand>(table, blanks)
 }
 
 // A blank opens each of the ledgers that the pool counts with.
-fn measure_pool<R, G, N, O>(
-    table: Table<R>,
-    going: Blank,
-    creations: Blank,
-    outside: Blank,
-) -> io::Result<()>
+fn measure_pool<R, L>(table: Table<R>, blanks: Blanks) -> io::Result<()>
 where
     R: Host,
-    G: Ledger + Send + Sync + 'static,
-    N: Ledger + Send + Sync + 'static,
-    O: Ledger + Send + Sync + 'static,
-    requires going { Opens G.Ledger going }
-    requires creations { Opens N.Ledger creations }
-    requires outside { Opens O.Ledger outside }
+    L: Ledgers + Send + Sync + 'static,
+    requires { blanks ≡ L.names }
 {
     let builder = PoolBuilder::new(table.rt.alloc(), Zeros, NoTime).max_size(LIMIT);
-    let Ok(pool) = builder.build(going, creations, outside, table.rt) else {
+    let Ok(pool) = builder.build(blanks, table.rt) else {
         return Err(io::Error::other("the managed pool was not built"));
     };
-    let pool: ZeroPool<R, G, N, O> = pool;
+    let pool: ZeroPool<R, L> = pool;
     measure_built(table, &pool)
 }
 
-fn measure_built<R, G, N, O>(table: Table<R>, pool: &ZeroPool<R, G, N, O>) -> io::Result<()>
+fn measure_built<R, L>(table: Table<R>, pool: &ZeroPool<R, L>) -> io::Result<()>
 where
     R: Host,
-    G: Ledger + Send + Sync + 'static,
-    N: Ledger + Send + Sync + 'static,
-    O: Ledger + Send + Sync + 'static,
+    L: Ledgers + Send + Sync + 'static,
 {
     table.head("managed pool")?;
     measure_alone(table, pool)?;
@@ -69,13 +57,10 @@ where
     measure_cancels(table, pool)
 }
 
-fn measure_alone<R: Host, G: Ledger, N: Ledger, O: Ledger>(
-    table: Table<R>,
-    pool: &ZeroPool<R, G, N, O>,
-) -> io::Result<()> {
+fn measure_alone<R: Host, L: Ledgers>(table: Table<R>, pool: &ZeroPool<R, L>) -> io::Result<()> {
     // Beside its object's slot and timeouts of its own, a get takes at most 128 bytes.
     let places = size_of::<Option<Slot<u64>>>() + size_of::<Option<Timeouts>>();
-    prove!(size_of::<ZeroGet<R, G, N, O>>() <= 128 + places);
+    prove!(size_of::<ZeroGet<R, L>>() <= 128 + places);
     table.figure(
         "create and take, polled by hand",
         &Creates::new(table.rt, pool)?,
@@ -88,10 +73,7 @@ fn measure_alone<R: Host, G: Ledger, N: Ledger, O: Ledger>(
 }
 
 // All objects are out, so every get waits.
-fn measure_cancels<R: Host, G: Ledger, N: Ledger, O: Ledger>(
-    table: Table<R>,
-    pool: &ZeroPool<R, G, N, O>,
-) -> io::Result<()> {
+fn measure_cancels<R: Host, L: Ledgers>(table: Table<R>, pool: &ZeroPool<R, L>) -> io::Result<()> {
     pool.resize(1)?;
     let held = get_at_once(table.rt, pool)?;
     for waiters in table.scale.waiters {
@@ -102,10 +84,7 @@ fn measure_cancels<R: Host, G: Ledger, N: Ledger, O: Ledger>(
 }
 
 // An object that a get gives at once.
-fn get_at_once<R: Host, G: Ledger, N: Ledger, O: Ledger>(
-    rt: R,
-    pool: &ZeroPool<R, G, N, O>,
-) -> io::Result<Zero<R, G, N, O>> {
+fn get_at_once<R: Host, L: Ledgers>(rt: R, pool: &ZeroPool<R, L>) -> io::Result<Zero<R, L>> {
     let task = MockTask::new(&rt)?;
     match task.poll(&mut pool.get()) {
         Poll::Ready(Ok(object)) => Ok(object),
@@ -114,9 +93,9 @@ fn get_at_once<R: Host, G: Ledger, N: Ledger, O: Ledger>(
 }
 
 // Cancels gets while so many wait.
-fn cancel_gets<R: Host, G: Ledger, N: Ledger, O: Ledger>(
+fn cancel_gets<R: Host, L: Ledgers>(
     table: Table<R>,
-    pool: &ZeroPool<R, G, N, O>,
+    pool: &ZeroPool<R, L>,
     waiters: usize,
 ) -> io::Result<()> {
     let mut lines = Vec::new(table.rt.alloc());
@@ -126,13 +105,13 @@ fn cancel_gets<R: Host, G: Ledger, N: Ledger, O: Ledger>(
 
 // Gets an object and gives it back, in a poll of one task.
 #[derive(Drop)]
-struct Polls<R: Host, G: Ledger, N: Ledger, O: Ledger> {
-    pool: ZeroPool<R, G, N, O>,
+struct Polls<R: Host, L: Ledgers> {
+    pool: ZeroPool<R, L>,
     task: Solo,
 }
 
-impl<R: Host, G: Ledger, N: Ledger, O: Ledger> Polls<R, G, N, O> {
-    fn new(rt: R, pool: &ZeroPool<R, G, N, O>) -> io::Result<Self> {
+impl<R: Host, L: Ledgers> Polls<R, L> {
+    fn new(rt: R, pool: &ZeroPool<R, L>) -> io::Result<Self> {
         Ok(Polls {
             pool: pool.clone()?,
             task: Solo::new(&rt, Doorbell::spinning())?,
@@ -140,7 +119,7 @@ impl<R: Host, G: Ledger, N: Ledger, O: Ledger> Polls<R, G, N, O> {
     }
 }
 
-impl<R: Host, G: Ledger, N: Ledger, O: Ledger> Work for Polls<R, G, N, O> {
+impl<R: Host, L: Ledgers> Work for Polls<R, L> {
     fn repeat(&self, times: u32) -> io::Result<()> {
         let mut cx = self.task.begin();
         let mut served = 0u32;
@@ -157,13 +136,13 @@ impl<R: Host, G: Ledger, N: Ledger, O: Ledger> Work for Polls<R, G, N, O> {
 
 // The same, each get in a task of its own.
 #[derive(Drop)]
-struct Blocks<R: Host, G: Ledger, N: Ledger, O: Ledger> {
-    pool: ZeroPool<R, G, N, O>,
+struct Blocks<R: Host, L: Ledgers> {
+    pool: ZeroPool<R, L>,
     rt: R,
 }
 
-impl<R: Host, G: Ledger, N: Ledger, O: Ledger> Blocks<R, G, N, O> {
-    fn new(rt: R, pool: &ZeroPool<R, G, N, O>) -> io::Result<Self> {
+impl<R: Host, L: Ledgers> Blocks<R, L> {
+    fn new(rt: R, pool: &ZeroPool<R, L>) -> io::Result<Self> {
         Ok(Blocks {
             pool: pool.clone()?,
             rt,
@@ -171,7 +150,7 @@ impl<R: Host, G: Ledger, N: Ledger, O: Ledger> Blocks<R, G, N, O> {
     }
 }
 
-impl<R: Host, G: Ledger, N: Ledger, O: Ledger> Work for Blocks<R, G, N, O> {
+impl<R: Host, L: Ledgers> Work for Blocks<R, L> {
     fn repeat(&self, times: u32) -> io::Result<()> {
         for _time in 0..times {
             let Ok(object) = block_on(&self.rt, self.pool.get())? else {
@@ -185,13 +164,13 @@ impl<R: Host, G: Ledger, N: Ledger, O: Ledger> Work for Blocks<R, G, N, O> {
 
 // Has an object created, and takes it out of the pool.
 #[derive(Drop)]
-struct Creates<R: Host, G: Ledger, N: Ledger, O: Ledger> {
-    pool: ZeroPool<R, G, N, O>,
+struct Creates<R: Host, L: Ledgers> {
+    pool: ZeroPool<R, L>,
     task: Solo,
 }
 
-impl<R: Host, G: Ledger, N: Ledger, O: Ledger> Creates<R, G, N, O> {
-    fn new(rt: R, pool: &ZeroPool<R, G, N, O>) -> io::Result<Self> {
+impl<R: Host, L: Ledgers> Creates<R, L> {
+    fn new(rt: R, pool: &ZeroPool<R, L>) -> io::Result<Self> {
         Ok(Creates {
             pool: pool.clone()?,
             task: Solo::new(&rt, Doorbell::spinning())?,
@@ -199,7 +178,7 @@ impl<R: Host, G: Ledger, N: Ledger, O: Ledger> Creates<R, G, N, O> {
     }
 }
 
-impl<R: Host, G: Ledger, N: Ledger, O: Ledger> Work for Creates<R, G, N, O> {
+impl<R: Host, L: Ledgers> Work for Creates<R, L> {
     fn repeat(&self, times: u32) -> io::Result<()> {
         let mut cx = self.task.begin();
         let mut served = 0u32;
@@ -216,13 +195,13 @@ impl<R: Host, G: Ledger, N: Ledger, O: Ledger> Work for Creates<R, G, N, O> {
 
 // Gets an object, holds it over a yield, and gives it back.
 #[derive(Drop)]
-struct Holds<R: Host, G: Ledger, N: Ledger, O: Ledger> {
-    pool: ZeroPool<R, G, N, O>,
+struct Holds<R: Host, L: Ledgers> {
+    pool: ZeroPool<R, L>,
     rt: R,
 }
 
-impl<R: Host, G: Ledger, N: Ledger, O: Ledger> Holds<R, G, N, O> {
-    fn new(rt: R, pool: &ZeroPool<R, G, N, O>) -> io::Result<Self> {
+impl<R: Host, L: Ledgers> Holds<R, L> {
+    fn new(rt: R, pool: &ZeroPool<R, L>) -> io::Result<Self> {
         Ok(Holds {
             pool: pool.clone()?,
             rt,
@@ -230,7 +209,7 @@ impl<R: Host, G: Ledger, N: Ledger, O: Ledger> Holds<R, G, N, O> {
     }
 }
 
-impl<R: Host, G: Ledger, N: Ledger, O: Ledger> Work for Holds<R, G, N, O> {
+impl<R: Host, L: Ledgers> Work for Holds<R, L> {
     fn repeat(&self, times: u32) -> io::Result<()> {
         for _time in 0..times {
             let Ok(object) = block_on(&self.rt, self.pool.get())? else {
@@ -243,12 +222,10 @@ impl<R: Host, G: Ledger, N: Ledger, O: Ledger> Work for Holds<R, G, N, O> {
     }
 }
 
-impl<R, G, N, O> SharedWork for Holds<R, G, N, O>
+impl<R, L> SharedWork for Holds<R, L>
 where
     R: Host,
-    G: Ledger + Send + Sync + 'static,
-    N: Ledger + Send + Sync + 'static,
-    O: Ledger + Send + Sync + 'static,
+    L: Ledgers + Send + Sync + 'static,
 {
     fn share(&self) -> Result<Self, AllocError> {
         Ok(Holds {
@@ -260,13 +237,13 @@ where
 
 // The gets that wait in a pool.
 #[derive(Drop)]
-struct PoolLine<R: Host, G: Ledger, N: Ledger, O: Ledger> {
-    pool: ZeroPool<R, G, N, O>,
+struct PoolLine<R: Host, L: Ledgers> {
+    pool: ZeroPool<R, L>,
     task: MockTask,
 }
 
-impl<R: Host, G: Ledger, N: Ledger, O: Ledger> PoolLine<R, G, N, O> {
-    fn new(rt: R, pool: &ZeroPool<R, G, N, O>) -> io::Result<Self> {
+impl<R: Host, L: Ledgers> PoolLine<R, L> {
+    fn new(rt: R, pool: &ZeroPool<R, L>) -> io::Result<Self> {
         Ok(PoolLine {
             pool: pool.clone()?,
             task: MockTask::new(&rt)?,
@@ -274,10 +251,10 @@ impl<R: Host, G: Ledger, N: Ledger, O: Ledger> PoolLine<R, G, N, O> {
     }
 }
 
-impl<R: Host, G: Ledger, N: Ledger, O: Ledger> Line for PoolLine<R, G, N, O> {
-    type Waiter = ZeroGet<R, G, N, O>;
+impl<R: Host, L: Ledgers> Line for PoolLine<R, L> {
+    type Waiter = ZeroGet<R, L>;
 
-    fn join(&mut self) -> io::Result<ZeroGet<R, G, N, O>> {
+    fn join(&mut self) -> io::Result<ZeroGet<R, L>> {
         let mut get = self.pool.get();
         if self.task.poll(&mut get).is_pending() {
             return Ok(get);
@@ -285,7 +262,7 @@ impl<R: Host, G: Ledger, N: Ledger, O: Ledger> Line for PoolLine<R, G, N, O> {
         Err(io::Error::other("a get did not wait"))
     }
 
-    fn leave(&mut self, get: ZeroGet<R, G, N, O>) {
+    fn leave(&mut self, get: ZeroGet<R, L>) {
         drop(get);
     }
 

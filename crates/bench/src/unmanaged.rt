@@ -6,7 +6,7 @@ use crate::host::Host;
 use crate::line::Line;
 use crate::table::Table;
 use crate::work::{SharedWork, Work};
-use crate::zeros::NoTime;
+use deadpool::NoTime;
 use deadpool::unmanaged::{Get, Pool};
 use futures::Future;
 use futures::executor::block_on;

@@ -20,9 +20,9 @@ pub mod ScriptsMinIdle
 -- How the fields of a trial are seen as the machine. No contract of another crate cites them.
 pub mod TrialFields
 pub mod Image
--- What a user of the shared pools cites: that ledgers open, what gets and objects hold, the hooks of a pool, and the
+-- What a user of the shared pools cites: the names of ledgers, what gets and objects hold, the hooks of a pool, and the
 -- answers of managers and hooks.
-pub use Rattle.deadpool_shared.specs.Opens
+pub use Rattle.deadpool_shared.specs.Names
 pub use Rattle.deadpool_desk.specs.declared.desk.Holding
 pub use Rattle.deadpool_managed.specs.HookLists
 pub use Rattle.deadpool_managed.specs.Answers

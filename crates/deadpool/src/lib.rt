@@ -6,4 +6,5 @@ pub mod managed;
 pub mod replay;
 pub mod unmanaged;
 
-pub use deadpool_parts::{Clock, Moment, Runtime, Status, gate};
+pub use deadpool_gate::gate;
+pub use deadpool_parts::{Clock, Moment, NoTime, Runtime, Status};

@@ -5,5 +5,6 @@ mod moves;
 mod trial;
 pub mod unmanaged;
 
+pub use deadpool_journal::{Journal, Journaled};
 pub use moves::{Move, Reply};
 pub use trial::Trial;

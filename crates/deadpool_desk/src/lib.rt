@@ -13,8 +13,9 @@ mod settled;
 mod slot;
 mod state;
 
+pub use deadpool_gate::gate;
 pub use deadpool_parts::config::QueueMode;
-pub use deadpool_parts::{HandleReply, Moment, Status, StepReply, gate};
+pub use deadpool_parts::{HandleReply, Moment, Status, StepReply};
 pub use desk::{
     AgainReply, AskReply, BackReply, CreatedReply, Desk, EnterReply, Held, Holding, Serving,
     TakeReply,

@@ -151,6 +151,7 @@ impl<T: Drop> Desk<T> for Core<T> {
 
     ghost upgrades = { Upgrades };
 
+    #[inline(always)]
     fn enter(&mut self, wait: bool) -> EnterReply<Slot<T>> {
         self.state.enter(wait)
     }

@@ -152,6 +152,7 @@ impl<T: Drop> PoolState<T> {
     }
 
     // The next idle object leaves the ring.
+    #[inline(always)]
     fn take_idle(&mut self) -> Option<Slot<T>>
         ensures slot { result ≡ next_idle self.old.desk.mode self.old.desk.idle }
         ensures others { self.new.desk ≡ record self.old.desk { idle = other_idle self.old.desk.mode self.old.desk.idle } }
@@ -164,6 +165,7 @@ impl<T: Drop> PoolState<T> {
     }
 
     // Serves a get whose place is in no count.
+    #[inline(always)]
     fn serve(&mut self, allowance: Option<usize>) -> Serving<Slot<T>>
         requires { places self.old.desk + 1 ≤ self.old.desk.reserve }
         ensures served { Serves self.old.desk allowance result self.new.desk }
@@ -190,6 +192,7 @@ impl<T: Drop> PoolState<T> {
         }
     }
 
+    #[inline(always)]
     pub fn enter(&mut self, wait: bool) -> EnterReply<Slot<T>>
         ensures { Enters self.old wait result self.new }
     {

@@ -32,6 +32,13 @@ impl Model for Ticket {
 }
 
 impl Ticket {
+    /// The ticket with this number, whether or not a waiter has it.
+    pub fn from_number(number: usize) -> Self
+        ensures { result ≡ number }
+    {
+        Ticket { number }
+    }
+
     /// Its number. Numbers of waiters that are listed are small: a gate gives those of waiters that have left again.
     pub fn number(self) -> usize
         ensures { result ≡ self }

@@ -175,6 +175,7 @@ impl<T: Drop> Desk<T> for Journaled<T> {
 
     ghost upgrades = { UpgradesNoted };
 
+    #[inline(always)]
     fn enter(&mut self, wait: bool) -> EnterReply<Slot<T>> {
         let reply = self.core.enter(wait);
         self.log.add_enter(wait, &reply);
@@ -275,13 +276,13 @@ impl<T: Drop> Desk<T> for Journaled<T> {
 
     fn clone_handle(&mut self) -> HandleReply {
         let reply = self.core.clone_handle();
-        self.log.add(Entry::CloneHandle(reply));
+        self.log.add_clone_handle(reply);
         reply
     }
 
     fn drop_handle(&mut self) -> HandleReply {
         let reply = self.core.drop_handle();
-        self.log.add(Entry::DropHandle(reply));
+        self.log.add_drop_handle(reply);
         reply
     }
 

@@ -6,7 +6,7 @@ ghost use Rattle.deadpool_journal.specs.declared.entry.Entry.TheVariants as entr
 
 use crate::{Entry, by_number};
 use deadpool_desk::gate::Ticket;
-use deadpool_desk::{AgainReply, AskReply, BackReply, EnterReply, Slot};
+use deadpool_desk::{AgainReply, AskReply, BackReply, EnterReply, HandleReply, Slot};
 use deadpool_parts::tables::append;
 use std::alloc::{AllocError, Global};
 use std::marker::Model;
@@ -51,6 +51,17 @@ impl Log {
         if self.is_full {
             return;
         }
+        self.note(entry);
+    }
+
+    #[cold]
+    #[inline(never)]
+    fn note(&mut self, entry: Entry)
+        ensures { self.new ≡ noted entry self.old }
+    {
+        if self.is_full {
+            return;
+        }
         if self.entries.len() == self.most {
             self.is_full = true;
             return;
@@ -65,6 +76,14 @@ impl Log {
         if self.is_full {
             return;
         }
+        self.note_enter(wait, reply);
+    }
+
+    #[cold]
+    #[inline(never)]
+    fn note_enter<T>(&mut self, wait: bool, reply: &EnterReply<Slot<T>>)
+        ensures { self.new ≡ noted (entry.Enter wait (numbered_enter reply.now)) self.old }
+    {
         self.add(Entry::Enter(wait, by_number::entering(reply)));
     }
 
@@ -95,7 +114,51 @@ impl Log {
         if self.is_full {
             return;
         }
+        self.note_back(number, reply);
+    }
+
+    #[cold]
+    #[inline(never)]
+    fn note_back<T>(&mut self, number: usize, reply: &BackReply<Slot<T>>)
+        ensures { self.new ≡ noted (entry.Back number (numbered_back reply.now)) self.old }
+    {
         self.add(Entry::Back(number, by_number::coming_back(reply)));
+    }
+
+    /// One entry more, of a handle that is counted.
+    pub fn add_clone_handle(&mut self, reply: HandleReply)
+        ensures { self.new ≡ noted (entry.CloneHandle reply) self.old }
+    {
+        if self.is_full {
+            return;
+        }
+        self.note_clone_handle(reply);
+    }
+
+    #[cold]
+    #[inline(never)]
+    fn note_clone_handle(&mut self, reply: HandleReply)
+        ensures { self.new ≡ noted (entry.CloneHandle reply) self.old }
+    {
+        self.add(Entry::CloneHandle(reply));
+    }
+
+    /// One entry more, of a handle that is given back.
+    pub fn add_drop_handle(&mut self, reply: HandleReply)
+        ensures { self.new ≡ noted (entry.DropHandle reply) self.old }
+    {
+        if self.is_full {
+            return;
+        }
+        self.note_drop_handle(reply);
+    }
+
+    #[cold]
+    #[inline(never)]
+    fn note_drop_handle(&mut self, reply: HandleReply)
+        ensures { self.new ≡ noted (entry.DropHandle reply) self.old }
+    {
+        self.add(Entry::DropHandle(reply));
     }
 
     /// Whether there is room for one entry more.

@@ -1,6 +1,5 @@
 //! A counted handle of what is shared.
 ghost use Rattle.std.specs.Prelude.{◌≡◌, ℕ, IfOk};
-ghost use Rattle.std.specs.Arc.{arc_value};
 
 use futures::task::Source;
 use std::alloc::{AllocError, Global};
@@ -23,44 +22,39 @@ pub trait Counted {
     fn drop_handle(&self);
 }
 
-/// A counted handle of what is shared. Dropping it gives it back, before it lets go of what is shared. Contracts see what is
-/// shared.
-pub struct Handle<S: Counted + Drop> {
-    shared: Arc<S, Global>,
+/// One owner of what is shared, which counts for no handle. Contracts see what is shared.
+#[derive(Drop)]
+pub struct Home<S: Drop> {
+    // In a box, so that an owner that lets go moves no more than a pointer.
+    shared: Arc<Box<S, Global>, Global>,
 }
 
-impl<S: Counted + Drop> Model for Handle<S> {
+impl<S: Drop> Model for Home<S> {
     ghost use Rattle.std.specs.Arc.{arc_value};
 
     ghost Value = { S };
 
-    ghost view = { λ h. arc_value h.shared };
+    ghost view = { λ h. (arc_value h.shared).value };
 }
 
-impl<S: Counted + Drop> Handle<S> {
-    /// The first handle, which was counted when what is shared was made.
+impl<S: Drop> Home<S> {
+    /// The first owner.
     pub fn new(alloc: Global, shared: S) -> Result<Self, AllocError>
-        ensures { IfOk result (λ handle. handle ≡ shared) }
+        ensures { IfOk result (λ home. home ≡ shared) }
     {
-        Ok(Handle {
+        let shared = Box::new(alloc, shared)?;
+        Ok(Home {
             shared: Arc::new(alloc, shared)?,
         })
     }
 
-    /// A handle that its maker has counted already, in a step of its own.
-    pub fn counted(shared: Arc<S, Global>) -> Self
-        ensures { result ≡ arc_value shared }
-    {
-        Handle { shared }
-    }
-
-    /// One handle more. If there is no memory for it, none was counted.
+    /// One owner more.
     pub fn clone(&self) -> Result<Self, AllocError>
-        ensures { IfOk result (λ handle. handle ≡ self.now) }
+        ensures { IfOk result (λ home. home ≡ self.now) }
     {
-        let shared = Arc::try_clone(&self.shared)?;
-        shared.clone_handle();
-        Ok(Handle { shared })
+        Ok(Home {
+            shared: Arc::try_clone(&self.shared)?,
+        })
     }
 
     /// What is shared.
@@ -69,18 +63,64 @@ impl<S: Counted + Drop> Handle<S> {
     {
         &self.shared
     }
+}
+
+/// A counted handle of what is shared. Dropping it gives it back, before it lets go of what is shared. Contracts see what is
+/// shared.
+pub struct Handle<S: Counted + Drop> {
+    home: Home<S>,
+}
+
+impl<S: Counted + Drop> Model for Handle<S> {
+    ghost Value = { S };
+
+    ghost view = { λ h. h.home };
+}
+
+impl<S: Counted + Drop> Handle<S> {
+    /// The first handle, which was counted when what is shared was made.
+    pub fn new(alloc: Global, shared: S) -> Result<Self, AllocError>
+        ensures { IfOk result (λ handle. handle ≡ shared) }
+    {
+        Ok(Handle {
+            home: Home::new(alloc, shared)?,
+        })
+    }
+
+    /// A handle that its maker has counted already, in a step of its own.
+    pub fn counted(home: Home<S>) -> Self
+        ensures { result ≡ home }
+    {
+        Handle { home }
+    }
+
+    /// One handle more. If there is no memory for it, none was counted.
+    pub fn clone(&self) -> Result<Self, AllocError>
+        ensures { IfOk result (λ handle. handle ≡ self.now) }
+    {
+        let home = self.home.clone()?;
+        home.shared().clone_handle();
+        Ok(Handle { home })
+    }
+
+    /// What is shared.
+    pub fn shared(&self) -> &S
+        ensures { result.now ≡ self.now }
+    {
+        self.home.shared()
+    }
 
     /// What is shared, for one that counts for no handle.
-    pub fn uncounted(&self) -> Result<Arc<S, Global>, AllocError>
-        ensures { IfOk result (λ shared. arc_value shared ≡ self.now) }
+    pub fn uncounted(&self) -> Result<Home<S>, AllocError>
+        ensures { IfOk result (λ home. home ≡ self.now) }
     {
-        Arc::try_clone(&self.shared)
+        self.home.clone()
     }
 }
 
 impl<S: Counted + Drop> Drop for Handle<S> {
     fn drop(self) {
-        let Self { shared } = self;
-        shared.drop_handle();
+        let Self { home } = self;
+        home.shared().drop_handle();
     }
 }

@@ -8,8 +8,8 @@ mod lock;
 mod request;
 mod wakers;
 
-pub use handle::{Counted, Handle};
+pub use handle::{Counted, Handle, Home};
 pub use listener::{Listener, wake_at};
-pub use lock::{StepLock, Wakes};
+pub use lock::{Step, StepLock, Wakes};
 pub use request::{Request, RequestFuture};
 pub use wakers::Wakers;

@@ -37,11 +37,17 @@ impl Listener {
     }
 }
 
-/// Has the clock wake the task at a deadline, if there is one.
-pub fn wake_at<C: Clock>(clock: &C, deadline: Option<Moment>, cx: &mut Context<'_>)
+/// Has the clock wake the task at a deadline, if there is one; otherwise takes the alarm of an earlier deadline back.
+pub fn wake_at<C: Clock>(
+    clock: &C,
+    deadline: Option<Moment>,
+    alarm: &mut Option<C::Alarm>,
+    cx: &mut Context<'_>,
+)
     ensures { Keeps cx.old cx.new }
 {
-    if let Some(at) = deadline {
-        clock.wake_at(at, cx);
+    match deadline {
+        Some(at) => clock.wake_at(at, alarm, cx),
+        None => *alarm = None,
     }
 }

@@ -23,6 +23,20 @@ pub struct StepLock<L: Wakes, R: Wait> {
     source: Source,
 }
 
+/// The lock of a step that is under way. It cannot be dropped: `StepLock::end` alone takes it, so that no step leaves out to
+/// tell those that are due.
+pub struct Step<'a, L: Wakes> {
+    kept: MutexGuard<'a, L>,
+}
+
+impl<'a, L: Wakes> Step<'a, L> {
+    /// What the lock keeps.
+    #[inline]
+    pub fn kept(&mut self) -> &mut L {
+        &mut self.kept
+    }
+}
+
 impl<L: Wakes, R: Wait> StepLock<L, R> {
     /// A lock that is free.
     pub fn new(kept: L, rt: R) -> Self {
@@ -40,14 +54,32 @@ impl<L: Wakes, R: Wait> StepLock<L, R> {
         &self.source
     }
 
-    /// Takes the lock, for one step or for a look. No code of a user's may run before it is given back.
-    pub fn begin(&self) -> MutexGuard<'_, L> {
+    /// Takes the lock for one step. No code of a user's may run before it is given back.
+    #[inline]
+    pub fn begin(&self) -> Step<'_, L> {
+        Step { kept: self.look() }
+    }
+
+    /// Takes the lock for a look, which leaves what it keeps as it is and so tells nobody.
+    #[inline]
+    pub fn look(&self) -> MutexGuard<'_, L> {
+        match self.kept.try_lock() {
+            Some(kept) => kept,
+            None => self.wait(),
+        }
+    }
+
+    #[cold]
+    #[inline(never)]
+    fn wait(&self) -> MutexGuard<'_, L> {
         self.kept.lock(&self.rt)
     }
 
     /// Gives the lock back after a step. If the step left a task due to be woken, the wakers of all that are due are called,
     /// one at a time and none of them under the lock.
-    pub fn end(&self, kept: MutexGuard<'_, L>) {
+    #[inline]
+    pub fn end(&self, step: Step<'_, L>) {
+        let Step { kept } = step;
         let is_due = kept.is_wake_due();
         drop(kept);
         if is_due {
@@ -55,9 +87,11 @@ impl<L: Wakes, R: Wait> StepLock<L, R> {
         }
     }
 
+    #[cold]
+    #[inline(never)]
     fn call_due(&self) {
         for _ in self.rt.forever() {
-            let mut kept = self.begin();
+            let mut kept = self.look();
             let waker = kept.take_wake();
             let is_due = kept.is_wake_due();
             drop(kept);

@@ -18,13 +18,15 @@ pub trait Request<S: Counted>: Drop {
     // Holds of each output that it may give.
     ghost gives: { Self.Output → Type 0 } = { λ _. ⊤ };
 
-    /// One poll. The task has registered before it. It comes back if it is pending; otherwise there is its output.
+    /// One poll, in a task that has registered with what is shared before. It comes back if it is pending; otherwise there is
+    /// its output.
     fn poll(
         self,
         shared: &S,
         listener: &mut Listener,
         cx: &mut Context<'_>,
     ) -> Result<Self, Self::Output>
+        requires registered { Hears cx.old (S.source_of shared.now) }
         ensures gives { IfErr result gives }
         ensures kept { Keeps cx.old cx.new };
 

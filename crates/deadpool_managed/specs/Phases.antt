@@ -79,6 +79,11 @@ IsPending phase.Unpolled = ⊥
 IsPending (phase.Served left) = ⊥
 IsPending _ = ⊤
 
+-- how far a get is, and the object that it prepares or gives
+pub record Working (V C R S : Type 0) : Type 0 where
+  pub phase : Phase C R S
+  pub slot : Option (Slot V)
+
 module _ {V E : Type 0} where
   -- what a step came to, with the object that it may give beside it
   abbrev pub turn_of : Came E → Option (Slot V) → Turn V E

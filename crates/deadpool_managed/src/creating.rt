@@ -20,9 +20,9 @@ use deadpool_desk::{CreatedReply, Desk};
 use deadpool_parts::deadline::{deadline_after, is_reached, lacks_runtime};
 use futures::task::{Context, Poll};
 
-impl<M: Manager + Drop, A: AsyncHook<M> + Drop> Work<M, A> {
+impl<M: Manager, A: AsyncHook<M>> Work<M, A> {
     // A creation begins. A timeout without a runtime ends the get, and nothing is called.
-    pub(crate) fn begin_creation<F: SyncHook<M> + Drop, D: Desk<M::Type>>(
+    pub(crate) fn begin_creation<F: SyncHook<M>, D: Desk<M::Type>>(
         &mut self,
         timeouts: &Timeouts,
         desk: &mut D,
@@ -51,7 +51,7 @@ impl<M: Manager + Drop, A: AsyncHook<M> + Drop> Work<M, A> {
     }
 
     // A creation that was begun goes on.
-    pub(crate) fn advance_creation<F: SyncHook<M> + Drop, D: Desk<M::Type>>(
+    pub(crate) fn advance_creation<F: SyncHook<M>, D: Desk<M::Type>>(
         &mut self,
         mut state: M::Creating,
         deadline: Option<Moment>,

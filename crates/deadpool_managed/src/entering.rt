@@ -16,9 +16,9 @@ use crate::{
 use deadpool_desk::{AgainReply, AskReply, Desk, EnterReply, Serving};
 use deadpool_parts::deadline::{cannot_wait, deadline_after, is_reached};
 
-impl<M: Manager + Drop, A: AsyncHook<M> + Drop> Work<M, A> {
+impl<M: Manager, A: AsyncHook<M>> Work<M, A> {
     // The first step of a get.
-    pub(crate) fn enter<F: SyncHook<M> + Drop, D: Desk<M::Type>>(
+    pub(crate) fn enter<F: SyncHook<M>, D: Desk<M::Type>>(
         &mut self,
         timeouts: &Timeouts,
         desk: &mut D,

@@ -61,10 +61,12 @@ impl<M: Manager, A: AsyncHook<M>> Model for GetState<M, A> {
 
     ghost Value = { Getting M.Type M.Creating M.Recycling A.State };
 
-    ghost view = { λ s. record { timeouts = s.timeouts; stage = s.progress } };
+    ghost use Rattle.deadpool_managed.specs.Phases.{stage_of};
+
+    ghost view = { λ s. record { timeouts = s.timeouts; stage = stage_of s.progress.phase s.progress.slot } };
 }
 
-impl<M: Manager + Drop, A: AsyncHook<M> + Drop> GetState<M, A> {
+impl<M: Manager, A: AsyncHook<M>> GetState<M, A> {
     /// A get that was not polled yet. Nothing happens before its first poll.
     pub fn new(timeouts: Timeouts) -> Self
         ensures { result ≡ record { timeouts = timeouts; stage = Unpolled } }
@@ -90,7 +92,7 @@ impl<M: Manager + Drop, A: AsyncHook<M> + Drop> GetState<M, A> {
     }
 
     /// One step of the get, with at most one step at the desk. A get that has ended stays pending.
-    pub fn advance<F: SyncHook<M> + Drop, D: Desk<M::Type>>(
+    pub fn advance<F: SyncHook<M>, D: Desk<M::Type>>(
         &mut self,
         desk: &mut D,
         environment: &Environment<M, F, A>,
@@ -110,7 +112,7 @@ impl<M: Manager + Drop, A: AsyncHook<M> + Drop> GetState<M, A> {
     }
 
     /// Advances up to the first that has nothing more to do at once. A poll of a get that has ended stays pending.
-    pub fn poll_over<F: SyncHook<M> + Drop, D: Desk<M::Type>>(
+    pub fn poll_over<F: SyncHook<M>, D: Desk<M::Type>>(
         &mut self,
         desk: &mut D,
         environment: &Environment<M, F, A>,
@@ -129,7 +131,7 @@ impl<M: Manager + Drop, A: AsyncHook<M> + Drop> GetState<M, A> {
     }
 
     /// Gives back what the get holds, in one step at the desk. An object that it prepares is given up and detached.
-    pub fn cancel<F: SyncHook<M> + Drop, D: Desk<M::Type>>(
+    pub fn cancel<F: SyncHook<M>, D: Desk<M::Type>>(
         self,
         desk: &mut D,
         environment: &Environment<M, F, A>,

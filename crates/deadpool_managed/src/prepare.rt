@@ -147,7 +147,7 @@ fn pass<M: Manager, F: SyncHook<M>, A: AsyncHook<M>>(
 }
 
 /// The hooks that see a new object, from the position on.
-fn check<M: Manager + Drop, F: SyncHook<M> + Drop, A: AsyncHook<M> + Drop>(
+fn check<M: Manager, F: SyncHook<M>, A: AsyncHook<M>>(
     slot: &mut Slot<M::Type>,
     position: Position<A::State>,
     environment: &Environment<M, F, A>,
@@ -168,7 +168,7 @@ fn check<M: Manager + Drop, F: SyncHook<M> + Drop, A: AsyncHook<M> + Drop>(
 }
 
 // The hooks after the recycling see the object, from the position on.
-fn approve<M: Manager + Drop, F: SyncHook<M> + Drop, A: AsyncHook<M> + Drop>(
+fn approve<M: Manager, F: SyncHook<M>, A: AsyncHook<M>>(
     slot: &mut Slot<M::Type>,
     position: Position<A::State>,
     environment: &Environment<M, F, A>,
@@ -192,7 +192,7 @@ fn approve<M: Manager + Drop, F: SyncHook<M> + Drop, A: AsyncHook<M> + Drop>(
 }
 
 // Goes on with a recycling. One that is pending at its deadline has expired.
-fn poll_recycling<M: Manager + Drop, F: SyncHook<M> + Drop, A: AsyncHook<M> + Drop>(
+fn poll_recycling<M: Manager, F: SyncHook<M>, A: AsyncHook<M>>(
     slot: &mut Slot<M::Type>,
     mut recycling: M::Recycling,
     deadline: Option<Moment>,
@@ -219,7 +219,7 @@ fn poll_recycling<M: Manager + Drop, F: SyncHook<M> + Drop, A: AsyncHook<M> + Dr
 }
 
 // Begins a recycling. A timeout without a runtime gives the object up, and nothing is called.
-fn begin_recycling<M: Manager + Drop, F: SyncHook<M> + Drop, A: AsyncHook<M> + Drop>(
+fn begin_recycling<M: Manager, F: SyncHook<M>, A: AsyncHook<M>>(
     slot: &mut Slot<M::Type>,
     timeout: Option<Duration>,
     environment: &Environment<M, F, A>,
@@ -239,7 +239,7 @@ fn begin_recycling<M: Manager + Drop, F: SyncHook<M> + Drop, A: AsyncHook<M> + D
 }
 
 /// Prepares an idle object, from where it had come.
-fn prepare<M: Manager + Drop, F: SyncHook<M> + Drop, A: AsyncHook<M> + Drop>(
+fn prepare<M: Manager, F: SyncHook<M>, A: AsyncHook<M>>(
     slot: &mut Slot<M::Type>,
     preparing: Preparing<M::Recycling, A::State>,
     timeout: Option<Duration>,
@@ -262,7 +262,7 @@ fn prepare<M: Manager + Drop, F: SyncHook<M> + Drop, A: AsyncHook<M> + Drop>(
 }
 
 // The hooks before the recycling see the object, from the position on.
-fn review<M: Manager + Drop, F: SyncHook<M> + Drop, A: AsyncHook<M> + Drop>(
+fn review<M: Manager, F: SyncHook<M>, A: AsyncHook<M>>(
     slot: &mut Slot<M::Type>,
     position: Position<A::State>,
     timeout: Option<Duration>,
@@ -283,7 +283,7 @@ fn review<M: Manager + Drop, F: SyncHook<M> + Drop, A: AsyncHook<M> + Drop>(
 }
 
 // The object in its place is prepared further.
-pub(crate) fn prepare_in<M: Manager + Drop, F: SyncHook<M> + Drop, A: AsyncHook<M> + Drop>(
+pub(crate) fn prepare_in<M: Manager, F: SyncHook<M>, A: AsyncHook<M>>(
     place: &mut Option<Slot<M::Type>>,
     preparing: Preparing<M::Recycling, A::State>,
     timeout: Option<Duration>,
@@ -303,7 +303,7 @@ pub(crate) fn prepare_in<M: Manager + Drop, F: SyncHook<M> + Drop, A: AsyncHook<
 }
 
 // The hooks see the new object in its place, from the position on.
-pub(crate) fn check_in<M: Manager + Drop, F: SyncHook<M> + Drop, A: AsyncHook<M> + Drop>(
+pub(crate) fn check_in<M: Manager, F: SyncHook<M>, A: AsyncHook<M>>(
     place: &mut Option<Slot<M::Type>>,
     position: Position<A::State>,
     environment: &Environment<M, F, A>,
@@ -321,7 +321,7 @@ pub(crate) fn check_in<M: Manager + Drop, F: SyncHook<M> + Drop, A: AsyncHook<M>
 }
 
 // An object that was served now is prepared in its place.
-pub(crate) fn review_in<M: Manager + Drop, F: SyncHook<M> + Drop, A: AsyncHook<M> + Drop>(
+pub(crate) fn review_in<M: Manager, F: SyncHook<M>, A: AsyncHook<M>>(
     place: &mut Option<Slot<M::Type>>,
     timeout: Option<Duration>,
     environment: &Environment<M, F, A>,

@@ -16,9 +16,9 @@ use crate::{
 use deadpool_desk::Desk;
 use futures::task::Context;
 
-impl<M: Manager + Drop, A: AsyncHook<M> + Drop> Work<M, A> {
+impl<M: Manager, A: AsyncHook<M>> Work<M, A> {
     // An object that was served now is prepared, in its place.
-    pub(crate) fn recycle<F: SyncHook<M> + Drop, D: Desk<M::Type>>(
+    pub(crate) fn recycle<F: SyncHook<M>, D: Desk<M::Type>>(
         &mut self,
         left: usize,
         timeouts: &Timeouts,
@@ -49,7 +49,7 @@ impl<M: Manager + Drop, A: AsyncHook<M> + Drop> Work<M, A> {
     }
 
     // The idle object is prepared further, in its place.
-    pub(crate) fn advance_recycling<F: SyncHook<M> + Drop, D: Desk<M::Type>>(
+    pub(crate) fn advance_recycling<F: SyncHook<M>, D: Desk<M::Type>>(
         &mut self,
         preparing: Preparing<M::Recycling, A::State>,
         timeouts: &Timeouts,
@@ -87,7 +87,7 @@ impl<M: Manager + Drop, A: AsyncHook<M> + Drop> Work<M, A> {
     }
 
     // The object is given up, and the get keeps its place.
-    fn discard<F: SyncHook<M> + Drop, D: Desk<M::Type>>(
+    fn discard<F: SyncHook<M>, D: Desk<M::Type>>(
         &mut self,
         allowance: Option<usize>,
         desk: &mut D,
@@ -115,7 +115,7 @@ impl<M: Manager + Drop, A: AsyncHook<M> + Drop> Work<M, A> {
     }
 
     // The hooks see the new object further.
-    pub(crate) fn advance_checking<F: SyncHook<M> + Drop, D: Desk<M::Type>>(
+    pub(crate) fn advance_checking<F: SyncHook<M>, D: Desk<M::Type>>(
         &mut self,
         position: Position<A::State>,
         timeouts: &Timeouts,
@@ -146,7 +146,7 @@ impl<M: Manager + Drop, A: AsyncHook<M> + Drop> Work<M, A> {
     }
 
     // The new object is given up with its place.
-    fn refuse<F: SyncHook<M> + Drop, D: Desk<M::Type>>(
+    fn refuse<F: SyncHook<M>, D: Desk<M::Type>>(
         &mut self,
         cause: HookError<M::Error>,
         desk: &mut D,

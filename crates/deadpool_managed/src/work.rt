@@ -1,18 +1,22 @@
 //! A get at work: its phase, and the object that it prepares.
 //!
 //! The object stays in one place until it is given out. What is rare stands in functions of its own.
-ghost use Rattle.std.specs.Prelude.{◌≡◌, true, false};
+ghost use Rattle.std.specs.Prelude.{◌≡◌, true, false, None};
 ghost use Rattle.futures.specs.Task.{Keeps};
 ghost use Rattle.deadpool_managed.specs.Bounds.{lacks_allowance, Falls};
 ghost use Rattle.deadpool_managed.specs.Outside.{may};
-ghost use Rattle.deadpool_managed.specs.Get.{Made, Makes, AdvancesFrom, IfReadyObject, PollsOver};
-ghost use Rattle.deadpool_managed.specs.Held.{held_at, held_after};
-ghost use Rattle.deadpool_managed.specs.Phases.{IsPlaced, IsPending, stage_of, turn_of};
+ghost use Rattle.deadpool_managed.specs.Get.{Made, Makes, AdvancesFrom, IfReadyObject, PollsOver, CancelsFrom, deadline_of};
+ghost use Rattle.deadpool_managed.specs.Held.{is_going, held_at, held_after};
+ghost use Rattle.deadpool_desk.specs.declared.desk.Holding.{Holding};
+ghost use Rattle.deadpool_parts.specs.declared.replies.StepReply.{StepReply};
+ghost use Rattle.deadpool_managed.specs.Phases.{IsPlaced, IsPending, GivesUpIn, stage_of, turn_of};
 
 use crate::gate::Ticket;
 use crate::prepare::{Position, Preparing};
-use crate::{AsyncHook, Environment, Manager, Moment, PoolError, Slot, SyncHook, Timeouts, Turn};
-use deadpool_desk::Desk;
+use crate::{
+    AsyncHook, Environment, Manager, Moment, PoolError, Slot, StepReply, SyncHook, Timeouts, Turn,
+};
+use deadpool_desk::{Desk, Held};
 use deadpool_parts::deadline::is_reached;
 use futures::task::Context;
 use std::mem;
@@ -48,9 +52,9 @@ pub(crate) struct Work<M: Manager, A: AsyncHook<M>> {
     pub(crate) slot: Option<Slot<M::Type>>,
 }
 
-impl<M: Manager + Drop, A: AsyncHook<M> + Drop> Work<M, A> {
+impl<M: Manager, A: AsyncHook<M>> Work<M, A> {
     // One step.
-    pub(crate) fn step<F: SyncHook<M> + Drop, D: Desk<M::Type>>(
+    pub(crate) fn step<F: SyncHook<M>, D: Desk<M::Type>>(
         &mut self,
         timeouts: &Timeouts,
         desk: &mut D,
@@ -76,7 +80,7 @@ impl<M: Manager + Drop, A: AsyncHook<M> + Drop> Work<M, A> {
     }
 
     // Steps up to the first that has nothing more to do at once.
-    pub(crate) fn run<F: SyncHook<M> + Drop, D: Desk<M::Type>>(
+    pub(crate) fn run<F: SyncHook<M>, D: Desk<M::Type>>(
         &mut self,
         timeouts: &Timeouts,
         desk: &mut D,
@@ -120,7 +124,7 @@ impl<M: Manager + Drop, A: AsyncHook<M> + Drop> Work<M, A> {
     }
 
     // A step of a get that has taken nothing in this poll.
-    fn begin<F: SyncHook<M> + Drop, D: Desk<M::Type>>(
+    fn begin<F: SyncHook<M>, D: Desk<M::Type>>(
         &mut self,
         timeouts: &Timeouts,
         desk: &mut D,
@@ -146,7 +150,7 @@ impl<M: Manager + Drop, A: AsyncHook<M> + Drop> Work<M, A> {
     }
 
     // A step of one that may take so many more objects, or that creates.
-    fn go_on<F: SyncHook<M> + Drop, D: Desk<M::Type>>(
+    fn go_on<F: SyncHook<M>, D: Desk<M::Type>>(
         &mut self,
         timeouts: &Timeouts,
         desk: &mut D,
@@ -175,7 +179,7 @@ impl<M: Manager + Drop, A: AsyncHook<M> + Drop> Work<M, A> {
     }
 
     // A step of a get that was pending, or that creates.
-    fn step_rarely<F: SyncHook<M> + Drop, D: Desk<M::Type>>(
+    fn step_rarely<F: SyncHook<M>, D: Desk<M::Type>>(
         &mut self,
         timeouts: &Timeouts,
         desk: &mut D,
@@ -232,6 +236,69 @@ impl<M: Manager + Drop, A: AsyncHook<M> + Drop> Work<M, A> {
         }
     }
 
+    // A get that was not polled yet.
+    pub(crate) fn new() -> Self
+        ensures phase { result.phase ≡ Phase.Unpolled }
+        ensures slot { result.slot ≡ None }
+    {
+        Work {
+            phase: Phase::Unpolled,
+            slot: None,
+        }
+    }
+
+    // The deadline of the phase that the get is in.
+    pub(crate) fn deadline(&self) -> Option<Moment>
+        requires { IsPlaced M.is_ready self.now.phase self.now.slot }
+        ensures { result ≡ deadline_of (stage_of self.now.phase self.now.slot) }
+    {
+        match &self.phase {
+            Phase::Queued(_, deadline) => *deadline,
+            Phase::Creating(_, deadline) => *deadline,
+            Phase::Recycling(Preparing::Recycle(_, deadline)) => *deadline,
+            _ => None,
+        }
+    }
+
+    // Whether the get has a place and goes on at its next poll, with nothing to wait for.
+    pub(crate) fn is_going(&self) -> bool
+        requires { IsPlaced M.is_ready self.now.phase self.now.slot }
+        ensures { result ≡ is_going (stage_of self.now.phase self.now.slot) }
+    {
+        matches!(&self.phase, Phase::Going(_))
+    }
+
+    // Gives back what the get holds, in one step at the desk, and ends it. An object that it prepares is given up and
+    // detached.
+    pub(crate) fn cancel<F: SyncHook<M>, D: Desk<M::Type>>(
+        &mut self,
+        desk: &mut D,
+        environment: &Environment<M, F, A>,
+    )
+        requires placed { IsPlaced M.is_ready self.old.phase self.old.slot }
+        requires holds { D.holds desk.old (held_at (stage_of self.old.phase self.old.slot)) }
+        ensures cancelled { (made : Made M.Type) × (Makes D.Desk desk.old made desk.new × CancelsFrom (may M.Manager F.SyncHook A.AsyncHook environment.now.manager) (stage_of self.old.phase self.old.slot) made) }
+        ensures holds { D.holds desk.new Holding.Nothing }
+        ensures finished { self.new.phase ≡ Phase.Finished }
+    {
+        match mem::replace(&mut self.phase, Phase::Finished) {
+            Phase::Unpolled => {}
+            Phase::Finished => {}
+            Phase::Queued(ticket, _) => {
+                desk.cancel(Held::Ticket(ticket));
+            }
+            Phase::Going(_) => {
+                desk.cancel(Held::Place);
+            }
+            Phase::Creating(_, _) => {
+                desk.cancel(Held::Creation);
+            }
+            Phase::Served(_) => give_up(self.slot.take(), desk, environment),
+            Phase::Recycling(_) => give_up(self.slot.take(), desk, environment),
+            Phase::Checking(_) => give_up(self.slot.take(), desk, environment),
+        }
+    }
+
     // What a step came to, with the object that it gives.
     pub(crate) fn turn(&mut self, came: Came<M::Error>) -> Turn<M::Type, M::Error>
         requires placed { IsPlaced M.is_ready self.old.phase self.old.slot }
@@ -259,5 +326,22 @@ impl<M: Manager + Drop, A: AsyncHook<M> + Drop> Work<M, A> {
     {
         self.phase = Phase::Finished;
         Came::Failed(cause)
+    }
+}
+
+// Gives back the place of an object under preparation, and the object up.
+fn give_up<M: Manager, F: SyncHook<M>, A: AsyncHook<M>, D: Desk<M::Type>>(
+    held: Option<Slot<M::Type>>,
+    desk: &mut D,
+    environment: &Environment<M, F, A>,
+)
+    requires { D.holds desk.old Holding.Object }
+    ensures given_up { (reply : StepReply) × (D.cancels desk.old Held.Object reply desk.new × GivesUpIn (may M.Manager F.SyncHook A.AsyncHook environment.now.manager) held reply) }
+    ensures holds { D.holds desk.new Holding.Nothing }
+{
+    if desk.cancel(Held::Object) == StepReply::Done {
+        if let Some(mut slot) = held {
+            environment.manager.detach(&mut slot.value);
+        }
     }
 }

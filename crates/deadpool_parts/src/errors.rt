@@ -154,7 +154,7 @@ pub enum PoolError<E> {
     NoRuntimeSpecified,
     /// A hook refused the new object.
     PostCreateHook(HookError<E>),
-    /// The get's entry in the queue found no memory.
+    /// The get's entry in the queue found no memory, or the handle that a future of a shared pool counts as.
     OutOfMemory,
     /// No object number is left.
     NumbersExhausted,

@@ -9,7 +9,6 @@ mod replies;
 mod status;
 pub mod tables;
 
-pub use deadpool_gate::gate;
-pub use moment::{Clock, Moment, Runtime};
+pub use moment::{Clock, Moment, NoTime, Runtime};
 pub use replies::{HandleReply, StepReply};
 pub use status::Status;

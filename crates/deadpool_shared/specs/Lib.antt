@@ -1,7 +1,7 @@
 -- The managed pool between threads and tasks. In the order in which it can be read.
 
--- What a user names to build a pool: that his three ledgers open, and what is built.
-pub mod Opens
+-- What a user names to build a pool: the names of its three ledgers, and what is built.
+pub mod Names
 pub mod Building
 -- What each get and object holds of the pool's three counts.
 pub mod Counts

@@ -7,8 +7,8 @@ ghost use Rattle.deadpool_parts.specs.Timeouts.{no_timeouts};
 ghost use Rattle.deadpool_desk.specs.DeskState.{new_core};
 ghost use Rattle.deadpool_managed.specs.HookLists.{CanCall};
 ghost use Rattle.deadpool_shared.specs.Building.{Building, lacks_any_runtime, no_hooks};
-ghost use Rattle.deadpool_shared.specs.Opens.{Opens};
 
+use crate::ledgers::{Blanks, Ledgers};
 use crate::locked::Locked;
 use crate::object::Object;
 use crate::pool::Pool;
@@ -22,12 +22,11 @@ use deadpool_managed::{
 use std::alloc::Global;
 use std::marker::Model;
 use std::sync::Wait;
-use std::sync::ledger::{Blank, Ledger};
 use std::time::Duration;
 
 /// A pool on one thread as its builder opens it: its state, what it lends to its gets, and what it keeps for them.
 #[derive(Drop)]
-pub struct OpenPool<M: Manager + Drop, F: SyncHook<M> + Drop, A: AsyncHook<M> + Drop, C: Drop> {
+pub struct OpenPool<M: Manager, F: SyncHook<M>, A: AsyncHook<M>, C: Drop> {
     pub core: Core<M::Type>,
     pub environment: Environment<M, F, A>,
     /// Those of a get that is started without its own.
@@ -38,7 +37,7 @@ pub struct OpenPool<M: Manager + Drop, F: SyncHook<M> + Drop, A: AsyncHook<M> + 
 
 /// What a pool is made of: its manager, its hooks, a clock, and how it is configured.
 #[derive(Drop)]
-pub struct PoolBuilder<M: Manager + Drop, F: SyncHook<M> + Drop, A: AsyncHook<M> + Drop, C: Drop> {
+pub struct PoolBuilder<M: Manager, F: SyncHook<M>, A: AsyncHook<M>, C: Drop> {
     alloc: Global,
     manager: M,
     hooks: Hooks<M, F, A>,
@@ -51,8 +50,7 @@ pub struct PoolBuilder<M: Manager + Drop, F: SyncHook<M> + Drop, A: AsyncHook<M>
     journal: usize,
 }
 
-impl<M: Manager + Drop, F: SyncHook<M> + Drop, A: AsyncHook<M> + Drop, C: Drop> Model
-    for PoolBuilder<M, F, A, C> {
+impl<M: Manager, F: SyncHook<M>, A: AsyncHook<M>, C: Drop> Model for PoolBuilder<M, F, A, C> {
     ghost use Rattle.deadpool_shared.specs.Building.{Building};
 
     ghost Value = { Building M F A C };
@@ -60,12 +58,7 @@ impl<M: Manager + Drop, F: SyncHook<M> + Drop, A: AsyncHook<M> + Drop, C: Drop> 
     ghost view = { λ b. record { manager = b.manager; hooks = b.hooks; clock = b.clock; max_size = b.max_size; timeouts = b.timeouts; queue_mode = b.queue_mode; min_idle = b.min_idle; runtime = b.runtime; journal = b.journal } };
 }
 
-impl<M: Manager + Drop, F: SyncHook<M> + Drop, A: AsyncHook<M> + Drop, C: Drop> PoolBuilder<
-    M,
-    F,
-    A,
-    C,
-> {
+impl<M: Manager, F: SyncHook<M>, A: AsyncHook<M>, C: Drop> PoolBuilder<M, F, A, C> {
     /// A pool of at most two objects, first in first out, with no hook, no timeout, no runtime, no object that has to
     /// stay idle, and no room in its journal. The machine is not asked how many processors it has.
     pub fn new(alloc: Global, manager: M, clock: C) -> Self
@@ -139,28 +132,22 @@ impl<M: Manager + Drop, F: SyncHook<M> + Drop, A: AsyncHook<M> + Drop, C: Drop> 
     /// Opens the pool for threads and tasks, with one handle; its first object gets the number 0. Each blank has `u64::MAX`
     /// parts, of which a get takes one. A timeout that is set, zero included, needs a runtime. If the pool is not opened,
     /// the builder is dropped with all that it has. The manager is asked for nothing.
-    pub fn build<R, G, N, O, W>(
+    pub fn build<R, L, W>(
         self,
-        going: Blank,
-        creations: Blank,
-        outside: Blank,
+        blanks: Blanks,
         rt: R,
-    ) -> Result<Pool<M, F, A, C, R, G, N, O, W>, BuildError>
+    ) -> Result<Pool<M, F, A, C, R, L, W>, BuildError>
     where
         M: Send + Sync,
         F: Send + Sync,
         A: Send + Sync,
         C: Clock + Send + Sync,
         R: Wait + Drop + Send + Sync,
-        G: Ledger,
-        N: Ledger,
-        O: Ledger,
+        L: Ledgers,
         M::Type: Send,
         M::Error: Send,
-        W: From<Object<M, F, A, C, R, G, N, O>>,
-        requires going { Opens G.Ledger going }
-        requires creations { Opens N.Ledger creations }
-        requires outside { Opens O.Ledger outside }
+        W: From<Object<M, F, A, C, R, L>>,
+        requires opens { blanks ≡ L.names }
         ensures refused { (result ≡ Err NoRuntimeSpecified) ↔ (lacks_any_runtime self.runtime self.timeouts ≡ true) }
         ensures environment { IfOk result (λ pool. pool.handle.environment ≡ record { manager = self.manager; hooks = self.hooks; runtime = self.runtime }) }
         ensures timeouts { IfOk result (λ pool. pool.handle.timeouts ≡ self.timeouts) }
@@ -191,7 +178,7 @@ impl<M: Manager + Drop, F: SyncHook<M> + Drop, A: AsyncHook<M> + Drop, C: Drop> 
             },
             timeouts,
             clock,
-            lock: StepLock::new(Locked::new(alloc, pool, going, creations, outside), rt),
+            lock: StepLock::new(Locked::new(alloc, pool, blanks), rt),
         };
         Ok(Pool::open(alloc, shared)?)
     }

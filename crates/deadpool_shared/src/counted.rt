@@ -12,6 +12,7 @@ use deadpool_managed::{
     TakeReply,
 };
 
+#[inline(always)]
 pub fn enter<T: Drop>(pool: &mut Journaled<T>, wait: bool) -> EnterReply<Slot<T>>
     ensures { counted pool.new ≡ shifted Holding.Nothing (held_if_entered result) (counted pool.old) }
 {

@@ -1,25 +1,23 @@
 //! A get, as a future.
-ghost use Rattle.std.specs.Prelude.{◌≡◌, ◌||◌, true, is_some, IfOk, IsSomeAnd};
+ghost use Rattle.std.specs.Prelude.{◌≡◌, ◌||◌, true, is_some, Err, IfOk, IfSome, IsSomeAnd};
 ghost use Rattle.std.specs.Option.{ForSome};
 ghost use Rattle.futures.specs.Poll.{IfReady, OnPending};
-ghost use Rattle.futures.specs.Task.{Keeps};
+ghost use Rattle.futures.specs.Task.{Hears, IsArmed, Keeps};
 ghost use Rattle.deadpool_managed.specs.Held.{held_at};
+ghost use Rattle.deadpool_managed.specs.Phases.{stage_of};
 ghost use Rattle.deadpool_desk.specs.declared.desk.Holding.{Holding};
 ghost use Rattle.deadpool_shared.specs.Counts.{counts, counts_of};
 
+use crate::ledgers::Ledgers;
 use crate::object::{Object, OutStake};
 use crate::seat::{Seat, Stake};
 use crate::shared::Shared;
 use deadpool_lock::{Handle, Listener, wake_at};
-use deadpool_managed::{
-    AsyncHook, Clock, Manager, PoolError, Progress, Slot, SyncHook, Timeouts, Turn,
-};
+use deadpool_managed::{AsyncHook, Came, Clock, Manager, PoolError, Progress, SyncHook, Timeouts};
 use futures::Future;
 use futures::task::{Context, Poll};
 use std::marker::PhantomData;
-use std::mem;
 use std::sync::Wait;
-use std::sync::ledger::Ledger;
 
 // Why a get could not begin.
 #[derive(Clone, Copy, Drop)]
@@ -45,91 +43,66 @@ impl Refusal {
 /// entry in the queue, and with `NumbersExhausted` if the pool has handed out all shares or all object numbers. After its
 /// end it stays pending.
 pub struct Get<
-    M: Manager + Drop,
-    F: SyncHook<M> + Drop,
-    A: AsyncHook<M> + Drop,
-    C: Clock + Drop,
+    M: Manager,
+    F: SyncHook<M>,
+    A: AsyncHook<M>,
+    C: Clock,
     R: Wait + Drop,
-    G: Ledger,
-    N: Ledger,
-    O: Ledger,
+    L: Ledgers,
     W,
 > {
     // None if the get could not begin.
-    handle: Option<Handle<Shared<M, F, A, C, R, G, N, O>>>,
+    handle: Option<Handle<Shared<M, F, A, C, R, L>>>,
     // What its stage holds. None once the get has ended; a poll takes it, and puts it back if the get is pending.
-    party: Option<Stake<M, F, A, C, R, G, N, O>>,
+    party: Option<Stake<M, F, A, C, R, L>>,
     progress: Progress<M, A>,
     // Those of its own, if it has any.
     timeouts: Option<Timeouts>,
     // Why it could not begin, until its first poll.
     refusal: Option<Refusal>,
+    // While it is pending with a deadline.
+    alarm: Option<C::Alarm>,
     listener: Listener,
     of: PhantomData<W>,
-    ghost backed: { ForSome party (λ stake. stake.shares ≡ counts_of (held_at progress)) },
+    ghost backed: { ForSome party (λ stake. stake.shares ≡ counts_of (held_at (stage_of progress.phase progress.slot))) },
 }
 
-impl<
-    M: Manager + Drop,
-    F: SyncHook<M> + Drop,
-    A: AsyncHook<M> + Drop,
-    C: Clock + Drop,
-    R: Wait + Drop,
-    G: Ledger,
-    N: Ledger,
-    O: Ledger,
+impl<M: Manager, F: SyncHook<M>, A: AsyncHook<M>, C: Clock, R: Wait + Drop, L: Ledgers, W> Get<
+    M,
+    F,
+    A,
+    C,
+    R,
+    L,
     W,
-> Get<M, F, A, C, R, G, N, O, W> {
+> {
     // A get that counts as a handle from now on, if memory and a part of each ledger are left. Without timeouts it has the
     // pool's.
-    pub(crate) fn new(
-        pool: &Handle<Shared<M, F, A, C, R, G, N, O>>,
-        timeouts: Option<Timeouts>,
-    ) -> Self {
-        let (Ok(handle), Ok(home)) = (pool.uncounted(), pool.uncounted()) else {
-            return Get::refused(Refusal::OutOfMemory);
-        };
-        let Some(shares) = home.begin() else {
-            return Get::refused(Refusal::NumbersExhausted);
+    pub(crate) fn new(pool: &Handle<Shared<M, F, A, C, R, L>>, timeouts: Option<Timeouts>) -> Self
+        ensures pool { IfSome result.handle (λ shared. shared ≡ pool.now) }
+        ensures timeouts { result.timeouts ≡ timeouts }
+    {
+        let (handle, party, refusal) = match begin(pool) {
+            Ok((handle, stake)) => (Some(handle), Some(stake), None),
+            Err(refusal) => (None, None, Some(refusal)),
         };
         Get {
-            handle: Some(Handle::counted(handle)),
-            party: Some(Stake { home, shares }),
+            handle,
+            party,
             progress: Progress::new(),
             timeouts,
-            refusal: None,
-            listener: Listener::new(),
-            of: PhantomData,
-        }
-    }
-
-    // A get that has no handle and ends with its first poll.
-    fn refused(refusal: Refusal) -> Self {
-        Get {
-            handle: None,
-            party: None,
-            progress: Progress::new(),
-            timeouts: None,
-            refusal: Some(refusal),
+            refusal,
+            alarm: None,
             listener: Listener::new(),
             of: PhantomData,
         }
     }
 }
 
-impl<
-    M: Manager + Drop,
-    F: SyncHook<M> + Drop,
-    A: AsyncHook<M> + Drop,
-    C: Clock + Drop,
-    R: Wait + Drop,
-    G: Ledger,
-    N: Ledger,
-    O: Ledger,
-    W,
-> Future for Get<M, F, A, C, R, G, N, O, W>
+impl<M: Manager, F: SyncHook<M>, A: AsyncHook<M>, C: Clock, R: Wait + Drop, L: Ledgers, W> Future
+    for Get<M, F, A, C, R, L, W>
 where
-    W: From<Object<M, F, A, C, R, G, N, O>>,
+    W: From<Object<M, F, A, C, R, L>>,
 {
     type Output = Result<W, PoolError<M::Error>>;
 
@@ -140,13 +113,7 @@ where
 
     fn poll(&mut self, cx: &mut Context<'_>) -> Poll<Self::Output> {
         let Some(handle) = &self.handle else {
-            return match self.refusal.take() {
-                Some(refusal) => Poll::Ready(Err(refusal.error())),
-                None => {
-                    self.listener.listen(None, cx);
-                    Poll::Pending
-                }
-            };
+            return poll_without(self.refusal.take(), &mut self.listener, cx);
         };
         let shared = handle.shared();
         let timeouts = self.timeouts.as_ref().unwrap_or(&shared.timeouts);
@@ -155,6 +122,7 @@ where
             &mut self.party,
             &mut self.progress,
             timeouts,
+            &mut self.alarm,
             &mut self.listener,
             shared,
             cx,
@@ -162,27 +130,48 @@ where
     }
 }
 
+// A poll of a get that could not begin.
+#[cold]
+#[inline(never)]
+fn poll_without<W, E>(
+    refusal: Option<Refusal>,
+    listener: &mut Listener,
+    cx: &mut Context<'_>,
+) -> Poll<Result<W, PoolError<E>>>
+    ensures gives { IfReady result (λ ended. (is_some refusal ≡ true) × IfOk ended (λ _. ⊥)) }
+    ensures armed { OnPending result (IsArmed cx.new) }
+    ensures kept { Keeps cx.old cx.new }
+{
+    match refusal {
+        Some(refusal) => Poll::Ready(Err(refusal.error())),
+        None => {
+            listener.listen(None, cx);
+            Poll::Pending
+        }
+    }
+}
+
 // One poll. Its object takes the stake, if there is one. A get that has ended stays pending.
 fn poll_party<
-    M: Manager + Drop,
-    F: SyncHook<M> + Drop,
-    A: AsyncHook<M> + Drop,
-    C: Clock + Drop,
+    M: Manager,
+    F: SyncHook<M>,
+    A: AsyncHook<M>,
+    C: Clock,
     R: Wait + Drop,
-    G: Ledger,
-    N: Ledger,
-    O: Ledger,
-    W: From<Object<M, F, A, C, R, G, N, O>>,
+    L: Ledgers,
+    W: From<Object<M, F, A, C, R, L>>,
 >(
-    party: &mut Option<Stake<M, F, A, C, R, G, N, O>>,
+    party: &mut Option<Stake<M, F, A, C, R, L>>,
     progress: &mut Progress<M, A>,
     timeouts: &Timeouts,
+    alarm: &mut Option<C::Alarm>,
     listener: &mut Listener,
-    shared: &Shared<M, F, A, C, R, G, N, O>,
+    shared: &Shared<M, F, A, C, R, L>,
     cx: &mut Context<'_>,
 ) -> Poll<Result<W, PoolError<M::Error>>>
-    requires backed { ForSome party.old (λ stake. stake.shares ≡ counts_of (held_at progress.old)) }
-    ensures backed { ForSome party.new (λ stake. stake.shares ≡ counts_of (held_at progress.new)) }
+    requires registered { Hears cx.old shared.now.lock.source.id }
+    requires backed { ForSome party.old (λ stake. stake.shares ≡ counts_of (held_at (stage_of progress.old.phase progress.old.slot))) }
+    ensures backed { ForSome party.new (λ stake. stake.shares ≡ counts_of (held_at (stage_of progress.new.phase progress.new.slot))) }
     ensures begun { IfReady result (λ _. is_some party.old ≡ true) }
     ensures stays { OnPending result (is_some party.new ≡ is_some party.old) }
     ensures gives { IfReady result (λ ended. IfOk ended (λ w. (o : _) × (M.is_ready o.slot.value × W.from_gives o w))) }
@@ -191,75 +180,74 @@ fn poll_party<
     let Some(Stake { home, shares }) = party.take() else {
         return Poll::Pending;
     };
-    let mut seat = Seat::new(shared, shares, mem::replace(listener, Listener::new()));
+    let mut seat = Seat::new(shared, shares, listener);
     let now = shared.clock.now();
-    let turn = progress.poll_over(timeouts, &mut seat, &shared.environment, now, cx);
-    let (shares, heard) = seat.into_parts();
-    *listener = heard;
-    let left = Stake { home, shares };
-    match turn {
-        Turn::Done(ended) => Poll::Ready(give(left, ended)),
-        Turn::More | Turn::Pending => {
-            *party = Some(left);
-            see_to_waking(&shared.clock, progress, cx);
+    let came = progress.run(timeouts, &mut seat, &shared.environment, now, cx);
+    let shares = seat.into_shares();
+    let stake = Stake { home, shares };
+    if matches!(&came, Came::Given | Came::Failed(_)) {
+        *alarm = None;
+    }
+    match came {
+        Came::Given => match progress.give() {
+            Some(slot) => {
+                let out = OutStake::new(stake);
+                Poll::Ready(Ok(W::from(Object { out, slot })))
+            }
+            None => {
+                *party = Some(stake);
+                Poll::Pending
+            }
+        },
+        Came::Failed(cause) => refuse(cause),
+        Came::More | Came::Pending => {
+            see_to_waking(&shared.clock, progress, alarm, cx);
+            *party = Some(stake);
             Poll::Pending
         }
     }
 }
 
-// What a get that has ended gives. Its stake goes with the object, if there is one.
-fn give<
-    M: Manager + Drop,
-    F: SyncHook<M> + Drop,
-    A: AsyncHook<M> + Drop,
-    C: Clock + Drop,
-    R: Wait + Drop,
-    G: Ledger,
-    N: Ledger,
-    O: Ledger,
-    W: From<Object<M, F, A, C, R, G, N, O>>,
->(
-    stake: Stake<M, F, A, C, R, G, N, O>,
-    ended: Result<Slot<M::Type>, PoolError<M::Error>>,
-) -> Result<W, PoolError<M::Error>>
-    requires held { IfOk ended (λ _. stake.shares ≡ counts_of Holding.Object) }
-    requires ready { IfOk ended (λ slot. M.is_ready slot.value) }
-    ensures { IfOk result (λ w. (o : _) × (M.is_ready o.slot.value × W.from_gives o w)) }
+// A get ends without an object.
+fn refuse<W, E>(cause: PoolError<E>) -> Poll<Result<W, PoolError<E>>>
+    ensures { result ≡ Poll.Ready (Err cause) }
 {
-    match ended {
-        Ok(slot) => {
-            let out = OutStake::new(stake);
-            Ok(W::from(Object { out, slot }))
-        }
-        Err(cause) => Err(cause),
-    }
+    Poll::Ready(Err(cause))
+}
+
+// What a new get has, if memory and a part of each ledger are left.
+fn begin<M: Manager, F: SyncHook<M>, A: AsyncHook<M>, C: Clock, R: Wait + Drop, L: Ledgers>(
+    pool: &Handle<Shared<M, F, A, C, R, L>>,
+) -> Result<(Handle<Shared<M, F, A, C, R, L>>, Stake<M, F, A, C, R, L>), Refusal>
+    ensures pool { IfOk result (λ begun. begun.0 ≡ pool.now) }
+    ensures shares { IfOk result (λ begun. begun.1.shares ≡ counts_of Holding.Nothing) }
+{
+    let (Ok(handle), Ok(home)) = (pool.uncounted(), pool.uncounted()) else {
+        return Err(Refusal::OutOfMemory);
+    };
+    let Some(shares) = home.shared().begin() else {
+        return Err(Refusal::NumbersExhausted);
+    };
+    Ok((Handle::counted(handle), Stake { home, shares }))
 }
 
 // Has a get that is pending woken at its deadline, and at once if it waits for nothing.
-fn see_to_waking<M: Manager + Drop, A: AsyncHook<M> + Drop, C: Clock>(
+fn see_to_waking<M: Manager, A: AsyncHook<M>, C: Clock>(
     clock: &C,
     progress: &Progress<M, A>,
+    alarm: &mut Option<C::Alarm>,
     cx: &mut Context<'_>,
 )
     ensures { Keeps cx.old cx.new }
 {
-    wake_at(clock, progress.deadline(), cx);
+    wake_at(clock, progress.deadline(), alarm, cx);
     if progress.is_going() {
         let _pending: Poll<()> = cx.yield_now();
     }
 }
 
-impl<
-    M: Manager + Drop,
-    F: SyncHook<M> + Drop,
-    A: AsyncHook<M> + Drop,
-    C: Clock + Drop,
-    R: Wait + Drop,
-    G: Ledger,
-    N: Ledger,
-    O: Ledger,
-    W,
-> Drop for Get<M, F, A, C, R, G, N, O, W> {
+impl<M: Manager, F: SyncHook<M>, A: AsyncHook<M>, C: Clock, R: Wait + Drop, L: Ledgers, W> Drop
+    for Get<M, F, A, C, R, L, W> {
     fn drop(self) {
         let Self {
             handle,
@@ -267,38 +255,29 @@ impl<
             progress,
             timeouts: _,
             refusal: _,
+            alarm: _,
             listener: _,
             of: _,
         } = self;
-        let Some(handle) = handle else {
-            return;
-        };
         if let Some(stake) = party {
-            leave(stake, progress, handle.shared());
+            leave(stake, progress);
         }
         drop(handle);
     }
 }
 
 // A get that has not ended gives back what it holds.
-fn leave<
-    M: Manager + Drop,
-    F: SyncHook<M> + Drop,
-    A: AsyncHook<M> + Drop,
-    C: Clock + Drop,
-    R: Wait + Drop,
-    G: Ledger,
-    N: Ledger,
-    O: Ledger,
->(
-    stake: Stake<M, F, A, C, R, G, N, O>,
+#[cold]
+#[inline(never)]
+fn leave<M: Manager, F: SyncHook<M>, A: AsyncHook<M>, C: Clock, R: Wait + Drop, L: Ledgers>(
+    stake: Stake<M, F, A, C, R, L>,
     mut progress: Progress<M, A>,
-    shared: &Shared<M, F, A, C, R, G, N, O>,
 )
-    requires { stake.shares ≡ counts_of (held_at progress) }
+    requires { stake.shares ≡ counts_of (held_at (stage_of progress.phase progress.slot)) }
 {
     let Stake { home, shares } = stake;
-    let mut seat = Seat::new(shared, shares, Listener::new());
+    let mut listener = Listener::new();
+    let shared = home.shared();
+    let mut seat = Seat::new(shared, shares, &mut listener);
     progress.cancel(&mut seat, &shared.environment);
-    drop(home);
 }

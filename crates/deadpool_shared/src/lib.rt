@@ -7,6 +7,7 @@
 mod builder;
 mod counted;
 mod get;
+mod ledgers;
 mod locked;
 mod object;
 mod pool;
@@ -17,6 +18,7 @@ mod shares;
 pub use builder::{OpenPool, PoolBuilder};
 pub use deadpool_journal::{Entry, Journal, by_number};
 pub use get::Get;
+pub use ledgers::{Blanks, Ledgers};
 pub use object::Object;
 pub use pool::{Pool, WeakPool};
 pub use seat::Seat;

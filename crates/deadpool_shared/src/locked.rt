@@ -4,10 +4,10 @@ ghost use Rattle.deadpool_desk.specs.Held.{held_if_entered, held_if_asked, held_
 ghost use Rattle.deadpool_desk.specs.Allowance.{IsWithinAllowance};
 ghost use Rattle.deadpool_desk.specs.declared.desk.Holding.{Holding};
 ghost use Rattle.deadpool_journal.specs.Copies.{HasSteps};
-ghost use Rattle.deadpool_shared.specs.Opens.{Opens};
 ghost use Rattle.deadpool_shared.specs.Counts.{counts, counts_of, counted, IsServed, IsTaken, HasShare};
 
 use crate::counted;
+use crate::ledgers::{Blanks, Ledgers};
 use crate::shares::{Books, Shares};
 use deadpool_journal::{Journal, Journaled};
 use deadpool_lock::{Wakers, Wakes};
@@ -18,40 +18,31 @@ use deadpool_managed::{
 };
 use futures::task::Waker;
 use std::alloc::{AllocError, Global};
-use std::sync::ledger::{Blank, Ledger};
 
 /// A pool's state with its journal, the books whose totals are its three counts, and the wakers of those in its queue.
 #[derive(Drop)]
-pub struct Locked<T, G: Ledger, N: Ledger, O: Ledger> {
+pub struct Locked<T, L: Ledgers> {
     pool: Journaled<T>,
-    books: Books<G, N, O>,
+    books: Books<L>,
     wakers: Wakers,
     ghost counted: { counted pool ≡ books },
 }
 
-impl<T: Drop, G: Ledger, N: Ledger, O: Ledger> Locked<T, G, N, O> {
+impl<T: Drop, L: Ledgers> Locked<T, L> {
     /// A state that nobody holds anything of, with all parts of three new ledgers.
-    pub fn new(
-        alloc: Global,
-        pool: Journaled<T>,
-        going: Blank,
-        creations: Blank,
-        outside: Blank,
-    ) -> Locked<T, G, N, O>
+    pub fn new(alloc: Global, pool: Journaled<T>, blanks: Blanks) -> Locked<T, L>
         requires empty { counted pool ≡ counts 0 0 0 }
-        requires going { Opens G.Ledger going }
-        requires creations { Opens N.Ledger creations }
-        requires outside { Opens O.Ledger outside }
+        requires opens { blanks ≡ L.names }
     {
         Locked {
             pool,
-            books: Books::new(going, creations, outside),
+            books: Books::new(blanks),
             wakers: Wakers::new(alloc),
         }
     }
 
     /// One handle more, for a new get, with its shares. If no part of the ledgers is left, nothing changes.
-    pub fn begin(&mut self) -> Option<Shares<G, N, O>>
+    pub fn begin(&mut self) -> Option<Shares<L>>
         ensures { IfSome result (λ shares. shares ≡ counts_of Holding.Nothing) }
     {
         let Locked { pool, books, .. } = self;
@@ -64,10 +55,26 @@ impl<T: Drop, G: Ledger, N: Ledger, O: Ledger> Locked<T, G, N, O> {
     /// step.
     pub fn enter(
         &mut self,
-        shares: &mut Shares<G, N, O>,
+        shares: &mut Shares<L>,
         waker: &mut Option<Waker>,
         wait: bool,
     ) -> EnterReply<Slot<T>>
+        requires { shares.old ≡ counts_of Holding.Nothing }
+        ensures { shares.new ≡ counts_of (held_if_entered result) }
+    {
+        let Locked { pool, books, .. } = self;
+        if wait && pool.would_queue() {
+            return self.join(shares, waker);
+        }
+        let reply = counted::enter(pool, wait);
+        books.shift(shares, Holding::Nothing, reply.holding());
+        reply
+    }
+
+    // A new get that has to join the queue.
+    #[cold]
+    #[inline(never)]
+    fn join(&mut self, shares: &mut Shares<L>, waker: &mut Option<Waker>) -> EnterReply<Slot<T>>
         requires { shares.old ≡ counts_of Holding.Nothing }
         ensures { shares.new ≡ counts_of (held_if_entered result) }
     {
@@ -77,13 +84,10 @@ impl<T: Drop, G: Ledger, N: Ledger, O: Ledger> Locked<T, G, N, O> {
             wakers,
             ..
         } = self;
-        let lacks_room = wait
-            && pool.would_queue()
-            && wakers.make_room(pool.next_ticket()).is_err();
-        if lacks_room {
+        if wakers.make_room(pool.next_ticket()).is_err() {
             return EnterReply::OutOfMemory;
         }
-        let reply = counted::enter(pool, wait);
+        let reply = counted::enter(pool, true);
         books.shift(shares, Holding::Nothing, reply.holding());
         if let EnterReply::Waiting(ticket) = &reply {
             wakers.exchange(*ticket, waker);
@@ -94,7 +98,7 @@ impl<T: Drop, G: Ledger, N: Ledger, O: Ledger> Locked<T, G, N, O> {
     /// A queued get. If it stays queued its waker is exchanged, otherwise the kept one is in `spare`.
     pub fn ask(
         &mut self,
-        shares: &mut Shares<G, N, O>,
+        shares: &mut Shares<L>,
         waker: &mut Option<Waker>,
         spare: &mut Option<Waker>,
         ticket: Ticket,
@@ -121,11 +125,7 @@ impl<T: Drop, G: Ledger, N: Ledger, O: Ledger> Locked<T, G, N, O> {
     }
 
     /// A get that holds a place goes on.
-    pub fn again(
-        &mut self,
-        shares: &mut Shares<G, N, O>,
-        allowance: Option<usize>,
-    ) -> AgainReply<Slot<T>>
+    pub fn again(&mut self, shares: &mut Shares<L>, allowance: Option<usize>) -> AgainReply<Slot<T>>
         requires { shares.old ≡ counts_of Holding.Place }
         ensures holds { shares.new ≡ counts_of (held_if_asked_again result) }
         ensures known { IsServed result }
@@ -139,7 +139,7 @@ impl<T: Drop, G: Ledger, N: Ledger, O: Ledger> Locked<T, G, N, O> {
     }
 
     /// An idle object under preparation is given up.
-    pub fn discard(&mut self, shares: &mut Shares<G, N, O>) -> StepReply
+    pub fn discard(&mut self, shares: &mut Shares<L>) -> StepReply
         requires { shares.old ≡ counts_of Holding.Object }
         ensures holds { shares.new ≡ counts_of Holding.Place }
         ensures known { result ≡ StepReply.Done }
@@ -152,7 +152,7 @@ impl<T: Drop, G: Ledger, N: Ledger, O: Ledger> Locked<T, G, N, O> {
     }
 
     /// A creation has ended well.
-    pub fn created(&mut self, shares: &mut Shares<G, N, O>) -> CreatedReply
+    pub fn created(&mut self, shares: &mut Shares<L>) -> CreatedReply
         requires { shares.old ≡ counts_of Holding.Creation }
         ensures holds { shares.new ≡ counts_of Holding.Object }
         ensures known { result ≢ CreatedReply.Unknown }
@@ -165,7 +165,7 @@ impl<T: Drop, G: Ledger, N: Ledger, O: Ledger> Locked<T, G, N, O> {
     }
 
     /// A creation has ended without an object.
-    pub fn failed(&mut self, shares: &mut Shares<G, N, O>) -> StepReply
+    pub fn failed(&mut self, shares: &mut Shares<L>) -> StepReply
         requires { shares.old ≡ counts_of Holding.Creation }
         ensures holds { shares.new ≡ counts_of Holding.Nothing }
         ensures known { result ≡ StepReply.Done }
@@ -178,7 +178,7 @@ impl<T: Drop, G: Ledger, N: Ledger, O: Ledger> Locked<T, G, N, O> {
     }
 
     /// A new object is given up.
-    pub fn refused(&mut self, shares: &mut Shares<G, N, O>) -> StepReply
+    pub fn refused(&mut self, shares: &mut Shares<L>) -> StepReply
         requires { shares.old ≡ counts_of Holding.Object }
         ensures holds { shares.new ≡ counts_of Holding.Nothing }
         ensures known { result ≡ StepReply.Done }
@@ -191,7 +191,7 @@ impl<T: Drop, G: Ledger, N: Ledger, O: Ledger> Locked<T, G, N, O> {
     }
 
     /// An object comes back.
-    pub fn back(&mut self, shares: &mut Shares<G, N, O>, slot: Slot<T>) -> BackReply<Slot<T>>
+    pub fn back(&mut self, shares: &mut Shares<L>, slot: Slot<T>) -> BackReply<Slot<T>>
         requires { shares.old ≡ counts_of Holding.Object }
         ensures holds { shares.new ≡ counts_of Holding.Nothing }
         ensures known { IsTaken result }
@@ -204,7 +204,7 @@ impl<T: Drop, G: Ledger, N: Ledger, O: Ledger> Locked<T, G, N, O> {
     }
 
     /// An object leaves for good.
-    pub fn take(&mut self, shares: &mut Shares<G, N, O>) -> TakeReply
+    pub fn take(&mut self, shares: &mut Shares<L>) -> TakeReply
         requires { shares.old ≡ counts_of Holding.Object }
         ensures holds { shares.new ≡ counts_of Holding.Nothing }
         ensures known { result ≢ TakeReply.Unknown }
@@ -219,7 +219,7 @@ impl<T: Drop, G: Ledger, N: Ledger, O: Ledger> Locked<T, G, N, O> {
     /// A get gives back what it holds. The waker that was kept for it is in `spare`.
     pub fn cancel(
         &mut self,
-        shares: &mut Shares<G, N, O>,
+        shares: &mut Shares<L>,
         spare: &mut Option<Waker>,
         held: Held,
     ) -> StepReply
@@ -297,7 +297,7 @@ impl<T: Drop, G: Ledger, N: Ledger, O: Ledger> Locked<T, G, N, O> {
 }
 
 // Neither is a step.
-impl<T: Drop, G: Ledger, N: Ledger, O: Ledger> Wakes for Locked<T, G, N, O> {
+impl<T: Drop, L: Ledgers> Wakes for Locked<T, L> {
     fn is_wake_due(&self) -> bool {
         self.pool.is_wake_due()
     }

@@ -1,8 +1,10 @@
 //! An object that is out.
-ghost use Rattle.std.specs.Prelude.{◌≡◌};
+ghost use Rattle.std.specs.Prelude.{◌≡◌, IfOk, IfSome};
+ghost use Rattle.deadpool_managed.specs.Answers.{LeavesOrKeeps};
 ghost use Rattle.deadpool_desk.specs.declared.desk.Holding.{Holding};
 ghost use Rattle.deadpool_shared.specs.Counts.{counts, counts_of};
 
+use crate::ledgers::Ledgers;
 use crate::pool::Pool;
 use crate::seat::{Seat, Stake};
 use deadpool_lock::Listener;
@@ -12,35 +14,30 @@ use deadpool_managed::{
 use std::alloc::AllocError;
 use std::ops::{Deref, DerefMut};
 use std::sync::Wait;
-use std::sync::ledger::Ledger;
 
 // What an object has that has not gone back.
 #[derive(Drop)]
 pub(crate) struct OutStake<
-    M: Manager + Drop,
-    F: SyncHook<M> + Drop,
-    A: AsyncHook<M> + Drop,
-    C: Clock + Drop,
+    M: Manager,
+    F: SyncHook<M>,
+    A: AsyncHook<M>,
+    C: Clock,
     R: Wait + Drop,
-    G: Ledger,
-    N: Ledger,
-    O: Ledger,
+    L: Ledgers,
 > {
-    pub(crate) stake: Stake<M, F, A, C, R, G, N, O>,
+    pub(crate) stake: Stake<M, F, A, C, R, L>,
     ghost is_out: { stake.shares ≡ counts_of Holding.Object },
 }
 
-impl<
-    M: Manager + Drop,
-    F: SyncHook<M> + Drop,
-    A: AsyncHook<M> + Drop,
-    C: Clock + Drop,
-    R: Wait + Drop,
-    G: Ledger,
-    N: Ledger,
-    O: Ledger,
-> OutStake<M, F, A, C, R, G, N, O> {
-    pub(crate) fn new(stake: Stake<M, F, A, C, R, G, N, O>) -> Self
+impl<M: Manager, F: SyncHook<M>, A: AsyncHook<M>, C: Clock, R: Wait + Drop, L: Ledgers> OutStake<
+    M,
+    F,
+    A,
+    C,
+    R,
+    L,
+> {
+    pub(crate) fn new(stake: Stake<M, F, A, C, R, L>) -> Self
         requires { stake.shares ≡ counts_of Holding.Object }
     {
         OutStake { stake }
@@ -50,43 +47,42 @@ impl<
 /// An object of a pool, with its value. When it is dropped it goes back to the pool: it is idle from then on, or given up
 /// and detached if the pool has too many objects, or dropped if the pool has no handle left.
 pub struct Object<
-    M: Manager + Drop,
-    F: SyncHook<M> + Drop,
-    A: AsyncHook<M> + Drop,
-    C: Clock + Drop,
+    M: Manager,
+    F: SyncHook<M>,
+    A: AsyncHook<M>,
+    C: Clock,
     R: Wait + Drop,
-    G: Ledger,
-    N: Ledger,
-    O: Ledger,
+    L: Ledgers,
 > {
-    pub(crate) out: OutStake<M, F, A, C, R, G, N, O>,
+    pub(crate) out: OutStake<M, F, A, C, R, L>,
     pub(crate) slot: Slot<M::Type>,
 }
 
-impl<
-    M: Manager + Drop,
-    F: SyncHook<M> + Drop,
-    A: AsyncHook<M> + Drop,
-    C: Clock + Drop,
-    R: Wait + Drop,
-    G: Ledger,
-    N: Ledger,
-    O: Ledger,
-> Object<M, F, A, C, R, G, N, O> {
+impl<M: Manager, F: SyncHook<M>, A: AsyncHook<M>, C: Clock, R: Wait + Drop, L: Ledgers> Object<
+    M,
+    F,
+    A,
+    C,
+    R,
+    L,
+> {
     /// Takes the value out of the pool for good: the pool has one object less. The manager is told of it first, if the
     /// pool has a handle left.
-    pub fn take(this: Self) -> M::Type {
+    pub fn take(this: Self) -> M::Type
+        ensures { LeavesOrKeeps (M.may_detach this.out.stake.home.environment.manager) this.slot.value result }
+    {
         let Self { out, slot } = this;
         let OutStake { stake } = out;
         let Stake { home, shares } = stake;
-        let mut seat = Seat::new(&home, shares, Listener::new());
+        let mut listener = Listener::new();
+        let mut seat = Seat::new(home.shared(), shares, &mut listener);
         let Slot {
             number: _,
             mut value,
             metrics: _,
         } = slot;
         if let TakeReply::Taken { detach: true } = seat.leave() {
-            home.environment.manager.detach(&mut value);
+            home.shared().environment.manager.detach(&mut value);
         }
         value
     }
@@ -107,42 +103,29 @@ impl<
 
     /// One more handle of its pool, if the pool has a handle left. `AllocError` says that there was no memory for it, and
     /// none is counted then.
-    pub fn pool(this: &Self) -> Result<Option<Pool<M, F, A, C, R, G, N, O>>, AllocError> {
+    pub fn pool(this: &Self) -> Result<Option<Pool<M, F, A, C, R, L>>, AllocError>
+        ensures { IfOk result (λ pool. IfSome pool (λ some. some.handle ≡ this.now.out.stake.home)) }
+    {
         Pool::upgrade(&this.out.stake.home)
     }
 }
 
-impl<
-    M: Manager + Drop,
-    F: SyncHook<M> + Drop,
-    A: AsyncHook<M> + Drop,
-    C: Clock + Drop,
-    R: Wait + Drop,
-    G: Ledger,
-    N: Ledger,
-    O: Ledger,
-> Drop for Object<M, F, A, C, R, G, N, O> {
+impl<M: Manager, F: SyncHook<M>, A: AsyncHook<M>, C: Clock, R: Wait + Drop, L: Ledgers> Drop
+    for Object<M, F, A, C, R, L> {
     fn drop(self) {
         let Self { out, slot } = self;
         let OutStake { stake } = out;
         let Stake { home, shares } = stake;
-        let mut seat = Seat::new(&home, shares, Listener::new());
+        let mut listener = Listener::new();
+        let mut seat = Seat::new(home.shared(), shares, &mut listener);
         if let BackReply::Detach(mut slot) = seat.return_slot(slot) {
-            home.environment.manager.detach(&mut slot.value);
+            home.shared().environment.manager.detach(&mut slot.value);
         }
     }
 }
 
-impl<
-    M: Manager + Drop,
-    F: SyncHook<M> + Drop,
-    A: AsyncHook<M> + Drop,
-    C: Clock + Drop,
-    R: Wait + Drop,
-    G: Ledger,
-    N: Ledger,
-    O: Ledger,
-> Deref for Object<M, F, A, C, R, G, N, O> {
+impl<M: Manager, F: SyncHook<M>, A: AsyncHook<M>, C: Clock, R: Wait + Drop, L: Ledgers> Deref
+    for Object<M, F, A, C, R, L> {
     type Target = M::Type;
 
     ghost deref_gives = { λ o x. x ≡ o.slot.value };
@@ -152,23 +135,15 @@ impl<
     }
 }
 
-impl<
-    M: Manager + Drop,
-    F: SyncHook<M> + Drop,
-    A: AsyncHook<M> + Drop,
-    C: Clock + Drop,
-    R: Wait + Drop,
-    G: Ledger,
-    N: Ledger,
-    O: Ledger,
-> DerefMut for Object<M, F, A, C, R, G, N, O> {
+impl<M: Manager, F: SyncHook<M>, A: AsyncHook<M>, C: Clock, R: Wait + Drop, L: Ledgers> DerefMut
+    for Object<M, F, A, C, R, L> {
     ghost use Rattle.std.specs.Borrow.{Lends, sem};
     ghost use Rattle.deadpool_shared.specs.contracts.object.Object.{the_row};
 
     ghost deref_mut_gives = { λ o x. x ≡ o.slot.value };
 
     fn deref_mut(&mut self) -> &mut M::Type
-        ensures* writes_back { sem 𝓛 (Lends (the_row M.row F.row A.row C.row R.row G.row N.row O.row M.Type.row M.Error.row M.Creating.row M.Recycling.row A.State.row M.Manager F.SyncHook A.AsyncHook G.Ledger N.Ledger O.Ledger) M.Type.row self.entry result (λ w. record self.old { slot = record self.old.slot { value = w } })) }
+        ensures* writes_back { sem 𝓛 (Lends (the_row M.row F.row A.row C.row R.row L.row M.Type.row M.Error.row M.Creating.row M.Recycling.row A.State.row C.Alarm.row M.Manager F.SyncHook A.AsyncHook L.Ledgers) M.Type.row self.entry result (λ w. record self.old { slot = record self.old.slot { value = w } })) }
         ensures shows { result.now ≡ self.old.slot.value }
     {
         let slot = &mut self.slot;

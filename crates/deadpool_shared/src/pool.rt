@@ -1,20 +1,20 @@
 //! The handles of a pool.
-ghost use Rattle.std.specs.Prelude.{◌≡◌, IfOk};
+ghost use Rattle.std.specs.Prelude.{◌≡◌, Some, None, IfOk, IfSome};
 ghost use Rattle.deadpool_journal.specs.Copies.{HasSteps};
 
 use crate::builder::PoolBuilder;
 use crate::get::Get;
+use crate::ledgers::Ledgers;
 use crate::object::Object;
 use crate::shared::Shared;
 use deadpool_journal::Journal;
-use deadpool_lock::Handle;
+use deadpool_lock::{Handle, Home};
 use deadpool_managed::{
     AsyncHook, Clock, Manager, Metrics, RetainResult, Retainer, Status, SyncHook, Timeouts,
 };
 use std::alloc::{AllocError, Global};
 use std::marker::PhantomData;
-use std::sync::ledger::Ledger;
-use std::sync::{Arc, Wait};
+use std::sync::Wait;
 
 /// A handle of a pool, which the pool counts: the last one, gets included, takes the idle objects with it. They are dropped
 /// with the lock taken, so such a drop must not use the pool. Objects that are out stay.
@@ -22,34 +22,30 @@ use std::sync::{Arc, Wait};
 /// What a get gives is a `W`, which is made from the object.
 #[derive(Drop)]
 pub struct Pool<
-    M: Manager + Drop,
-    F: SyncHook<M> + Drop,
-    A: AsyncHook<M> + Drop,
-    C: Clock + Drop,
+    M: Manager,
+    F: SyncHook<M>,
+    A: AsyncHook<M>,
+    C: Clock,
     R: Wait + Drop,
-    G: Ledger,
-    N: Ledger,
-    O: Ledger,
-    W = Object<M, F, A, C, R, G, N, O>,
+    L: Ledgers,
+    W = Object<M, F, A, C, R, L>,
 > {
-    handle: Handle<Shared<M, F, A, C, R, G, N, O>>,
+    handle: Handle<Shared<M, F, A, C, R, L>>,
     of: PhantomData<W>,
 }
 
 /// A handle of a pool that is not counted.
 #[derive(Drop)]
 pub struct WeakPool<
-    M: Manager + Drop,
-    F: SyncHook<M> + Drop,
-    A: AsyncHook<M> + Drop,
-    C: Clock + Drop,
+    M: Manager,
+    F: SyncHook<M>,
+    A: AsyncHook<M>,
+    C: Clock,
     R: Wait + Drop,
-    G: Ledger,
-    N: Ledger,
-    O: Ledger,
-    W = Object<M, F, A, C, R, G, N, O>,
+    L: Ledgers,
+    W = Object<M, F, A, C, R, L>,
 > {
-    shared: Arc<Shared<M, F, A, C, R, G, N, O>, Global>,
+    home: Home<Shared<M, F, A, C, R, L>>,
     of: PhantomData<W>,
 }
 
@@ -73,27 +69,22 @@ impl<M: Manager, P: FnMut(&M::Type, Metrics) -> bool + Drop> Retainer<M::Type>
     }
 }
 
-impl<
-    M: Manager + Drop,
-    F: SyncHook<M> + Drop,
-    A: AsyncHook<M> + Drop,
-    C: Clock + Drop,
-    R: Wait + Drop,
-    G: Ledger,
-    N: Ledger,
-    O: Ledger,
+impl<M: Manager, F: SyncHook<M>, A: AsyncHook<M>, C: Clock, R: Wait + Drop, L: Ledgers, W> Pool<
+    M,
+    F,
+    A,
+    C,
+    R,
+    L,
     W,
-> Pool<M, F, A, C, R, G, N, O, W> {
+> {
     /// What a pool is made of, with this manager and clock. The rest is as `PoolBuilder::new` says.
     pub fn builder(alloc: Global, manager: M, clock: C) -> PoolBuilder<M, F, A, C> {
         PoolBuilder::new(alloc, manager, clock)
     }
 
     // The first handle of what is shared.
-    pub(crate) fn open(
-        alloc: Global,
-        shared: Shared<M, F, A, C, R, G, N, O>,
-    ) -> Result<Self, AllocError>
+    pub(crate) fn open(alloc: Global, shared: Shared<M, F, A, C, R, L>) -> Result<Self, AllocError>
         ensures { IfOk result (λ pool. pool.handle ≡ shared) }
     {
         Ok(Pool {
@@ -103,13 +94,13 @@ impl<
     }
 
     // One handle more, if one is left.
-    pub(crate) fn upgrade(
-        shared: &Arc<Shared<M, F, A, C, R, G, N, O>, Global>,
-    ) -> Result<Option<Self>, AllocError> {
-        let shared = Arc::try_clone(shared)?;
-        if shared.upgrade() {
+    pub(crate) fn upgrade(home: &Home<Shared<M, F, A, C, R, L>>) -> Result<Option<Self>, AllocError>
+        ensures { IfOk result (λ pool. IfSome pool (λ some. some.handle ≡ home.now)) }
+    {
+        let home = home.clone()?;
+        if home.shared().upgrade() {
             return Ok(Some(Pool {
-                handle: Handle::counted(shared),
+                handle: Handle::counted(home),
                 of: PhantomData,
             }));
         }
@@ -117,12 +108,18 @@ impl<
     }
 
     /// A get with the timeouts of the pool. It is a handle of the pool from now on.
-    pub fn get(&self) -> Get<M, F, A, C, R, G, N, O, W> {
+    pub fn get(&self) -> Get<M, F, A, C, R, L, W>
+        ensures pool { IfSome result.handle (λ shared. shared ≡ self.now.handle) }
+        ensures timeouts { result.timeouts ≡ None }
+    {
         Get::new(&self.handle, None)
     }
 
     /// A get with timeouts of its own. It is a handle of the pool from now on.
-    pub fn timeout_get(&self, timeouts: &Timeouts) -> Get<M, F, A, C, R, G, N, O, W> {
+    pub fn timeout_get(&self, timeouts: &Timeouts) -> Get<M, F, A, C, R, L, W>
+        ensures pool { IfSome result.handle (λ shared. shared ≡ self.now.handle) }
+        ensures timeouts { result.timeouts ≡ Some timeouts.now }
+    {
         Get::new(&self.handle, Some(*timeouts))
     }
 
@@ -189,15 +186,19 @@ impl<
     }
 
     /// A handle that is not counted. `AllocError` says that there was no memory for it.
-    pub fn weak(&self) -> Result<WeakPool<M, F, A, C, R, G, N, O, W>, AllocError> {
+    pub fn weak(&self) -> Result<WeakPool<M, F, A, C, R, L, W>, AllocError>
+        ensures { IfOk result (λ weak. weak.home ≡ self.now.handle) }
+    {
         Ok(WeakPool {
-            shared: self.handle.uncounted()?,
+            home: self.handle.uncounted()?,
             of: PhantomData,
         })
     }
 
     /// One handle more. `AllocError` says that there was no memory for it, and none is counted then.
-    pub fn clone(&self) -> Result<Self, AllocError> {
+    pub fn clone(&self) -> Result<Self, AllocError>
+        ensures { IfOk result (λ pool. pool.handle ≡ self.now.handle) }
+    {
         Ok(Pool {
             handle: self.handle.clone()?,
             of: PhantomData,
@@ -205,20 +206,20 @@ impl<
     }
 }
 
-impl<
-    M: Manager + Drop,
-    F: SyncHook<M> + Drop,
-    A: AsyncHook<M> + Drop,
-    C: Clock + Drop,
-    R: Wait + Drop,
-    G: Ledger,
-    N: Ledger,
-    O: Ledger,
+impl<M: Manager, F: SyncHook<M>, A: AsyncHook<M>, C: Clock, R: Wait + Drop, L: Ledgers, W> WeakPool<
+    M,
+    F,
+    A,
+    C,
+    R,
+    L,
     W,
-> WeakPool<M, F, A, C, R, G, N, O, W> {
+> {
     /// One handle more, if the pool has one left. `AllocError` says that there was no memory for it, and none is counted
     /// then.
-    pub fn upgrade(&self) -> Result<Option<Pool<M, F, A, C, R, G, N, O, W>>, AllocError> {
-        Pool::upgrade(&self.shared)
+    pub fn upgrade(&self) -> Result<Option<Pool<M, F, A, C, R, L, W>>, AllocError>
+        ensures { IfOk result (λ pool. IfSome pool (λ some. some.handle ≡ self.now.home)) }
+    {
+        Pool::upgrade(&self.home)
     }
 }

@@ -8,33 +8,31 @@ ghost use Rattle.deadpool_desk.specs.declared.desk.TakeReply.{TakeReply};
 ghost use Rattle.deadpool_parts.specs.declared.replies.StepReply.{StepReply};
 ghost use Rattle.deadpool_shared.specs.Counts.{counts, counts_of, IsServed, IsTaken, HasShare};
 
+use crate::ledgers::Ledgers;
 use crate::shared::Shared;
 use crate::shares::Shares;
-use deadpool_lock::Listener;
+use deadpool_lock::{Home, Listener};
 use deadpool_managed::gate::Ticket;
 use deadpool_managed::{
     AgainReply, AskReply, AsyncHook, BackReply, Clock, CreatedReply, Desk, EnterReply, HandleReply,
     Held, Manager, RetainResult, Retainer, Slot, Status, StepReply, SyncHook, TakeReply,
 };
-use std::alloc::{AllocError, Global};
+use std::alloc::AllocError;
 use std::marker::Model;
-use std::sync::ledger::Ledger;
-use std::sync::{Arc, Wait};
+use std::sync::Wait;
 
 /// What one get or object has of a pool: the pool, and its shares.
 #[derive(Drop)]
 pub(crate) struct Stake<
-    M: Manager + Drop,
-    F: SyncHook<M> + Drop,
-    A: AsyncHook<M> + Drop,
-    C: Clock + Drop,
+    M: Manager,
+    F: SyncHook<M>,
+    A: AsyncHook<M>,
+    C: Clock,
     R: Wait + Drop,
-    G: Ledger,
-    N: Ledger,
-    O: Ledger,
+    L: Ledgers,
 > {
-    pub(crate) home: Arc<Shared<M, F, A, C, R, G, N, O>, Global>,
-    pub(crate) shares: Shares<G, N, O>,
+    pub(crate) home: Home<Shared<M, F, A, C, R, L>>,
+    pub(crate) shares: Shares<L>,
 }
 
 /// The lock of a pool, which is lent it, with the shares of one get or object, and what the get hears by. Each step is one
@@ -45,31 +43,20 @@ pub(crate) struct Stake<
 #[derive(Drop)]
 pub struct Seat<
     'a,
-    M: Manager + Drop,
-    F: SyncHook<M> + Drop,
-    A: AsyncHook<M> + Drop,
-    C: Clock + Drop,
+    M: Manager,
+    F: SyncHook<M>,
+    A: AsyncHook<M>,
+    C: Clock,
     R: Wait + Drop,
-    G: Ledger,
-    N: Ledger,
-    O: Ledger,
+    L: Ledgers,
 > {
-    shared: &'a Shared<M, F, A, C, R, G, N, O>,
-    shares: Shares<G, N, O>,
-    listener: Listener,
+    shared: &'a Shared<M, F, A, C, R, L>,
+    shares: Shares<L>,
+    listener: &'a mut Listener,
 }
 
-impl<
-    'a,
-    M: Manager + Drop,
-    F: SyncHook<M> + Drop,
-    A: AsyncHook<M> + Drop,
-    C: Clock + Drop,
-    R: Wait + Drop,
-    G: Ledger,
-    N: Ledger,
-    O: Ledger,
-> Model for Seat<'a, M, F, A, C, R, G, N, O> {
+impl<'a, M: Manager, F: SyncHook<M>, A: AsyncHook<M>, C: Clock, R: Wait + Drop, L: Ledgers> Model
+    for Seat<'a, M, F, A, C, R, L> {
     ghost use Rattle.deadpool_shared.specs.Counts.{Counts};
 
     ghost Value = { Counts };
@@ -77,17 +64,9 @@ impl<
     ghost view = { λ s. s.shares };
 }
 
-impl<
-    'a,
-    M: Manager + Drop,
-    F: SyncHook<M> + Drop,
-    A: AsyncHook<M> + Drop,
-    C: Clock + Drop,
-    R: Wait + Drop,
-    G: Ledger,
-    N: Ledger,
-    O: Ledger,
-> Desk<M::Type> for Seat<'a, M, F, A, C, R, G, N, O> {
+impl<'a, M: Manager, F: SyncHook<M>, A: AsyncHook<M>, C: Clock, R: Wait + Drop, L: Ledgers> Desk<
+    M::Type,
+> for Seat<'a, M, F, A, C, R, L> {
     ghost holds = { λ seat holding. seat ≡ counts_of holding };
 
     ghost enters = { λ _ _ _ _. ⊤ };
@@ -125,59 +104,61 @@ impl<
     ghost upgrades = { λ _ _ _. ⊤ };
 
     fn enter(&mut self, wait: bool) -> EnterReply<Slot<M::Type>> {
-        let mut locked = self.shared.lock.begin();
-        let reply = locked.enter(&mut self.shares, self.listener.waker(), wait);
-        self.shared.lock.end(locked);
+        let mut step = self.shared.lock.begin();
+        let reply = step
+            .kept()
+            .enter(&mut self.shares, self.listener.waker(), wait);
+        self.shared.lock.end(step);
         reply
     }
 
     fn ask(&mut self, ticket: Ticket, expired: bool) -> AskReply<Slot<M::Type>> {
         let mut spare = None;
-        let mut locked = self.shared.lock.begin();
-        let reply = locked.ask(
+        let mut step = self.shared.lock.begin();
+        let reply = step.kept().ask(
             &mut self.shares,
             self.listener.waker(),
             &mut spare,
             ticket,
             expired,
         );
-        self.shared.lock.end(locked);
+        self.shared.lock.end(step);
         drop(spare);
         reply
     }
 
     fn again(&mut self, allowance: Option<usize>) -> AgainReply<Slot<M::Type>> {
-        let mut locked = self.shared.lock.begin();
-        let reply = locked.again(&mut self.shares, allowance);
-        self.shared.lock.end(locked);
+        let mut step = self.shared.lock.begin();
+        let reply = step.kept().again(&mut self.shares, allowance);
+        self.shared.lock.end(step);
         reply
     }
 
     fn discard(&mut self) -> StepReply {
-        let mut locked = self.shared.lock.begin();
-        let reply = locked.discard(&mut self.shares);
-        self.shared.lock.end(locked);
+        let mut step = self.shared.lock.begin();
+        let reply = step.kept().discard(&mut self.shares);
+        self.shared.lock.end(step);
         reply
     }
 
     fn created(&mut self) -> CreatedReply {
-        let mut locked = self.shared.lock.begin();
-        let reply = locked.created(&mut self.shares);
-        self.shared.lock.end(locked);
+        let mut step = self.shared.lock.begin();
+        let reply = step.kept().created(&mut self.shares);
+        self.shared.lock.end(step);
         reply
     }
 
     fn failed(&mut self) -> StepReply {
-        let mut locked = self.shared.lock.begin();
-        let reply = locked.failed(&mut self.shares);
-        self.shared.lock.end(locked);
+        let mut step = self.shared.lock.begin();
+        let reply = step.kept().failed(&mut self.shares);
+        self.shared.lock.end(step);
         reply
     }
 
     fn refused(&mut self) -> StepReply {
-        let mut locked = self.shared.lock.begin();
-        let reply = locked.refused(&mut self.shares);
-        self.shared.lock.end(locked);
+        let mut step = self.shared.lock.begin();
+        let reply = step.kept().refused(&mut self.shares);
+        self.shared.lock.end(step);
         reply
     }
 
@@ -186,17 +167,17 @@ impl<
         ensures taken_back { IsTaken result }
         ensures holds { self.new ≡ counts_of Holding.Nothing }
     {
-        let mut locked = self.shared.lock.begin();
-        let reply = locked.back(&mut self.shares, slot);
-        self.shared.lock.end(locked);
+        let mut step = self.shared.lock.begin();
+        let reply = step.kept().back(&mut self.shares, slot);
+        self.shared.lock.end(step);
         reply
     }
 
     fn cancel(&mut self, held: Held) -> StepReply {
         let mut spare = None;
-        let mut locked = self.shared.lock.begin();
-        let reply = locked.cancel(&mut self.shares, &mut spare, held);
-        self.shared.lock.end(locked);
+        let mut step = self.shared.lock.begin();
+        let reply = step.kept().cancel(&mut self.shares, &mut spare, held);
+        self.shared.lock.end(step);
         drop(spare);
         reply
     }
@@ -206,9 +187,9 @@ impl<
     }
 
     fn take(&mut self) -> TakeReply {
-        let mut locked = self.shared.lock.begin();
-        let reply = locked.take(&mut self.shares);
-        self.shared.lock.end(locked);
+        let mut step = self.shared.lock.begin();
+        let reply = step.kept().take(&mut self.shares);
+        self.shared.lock.end(step);
         reply
     }
 
@@ -228,11 +209,17 @@ impl<
     }
 
     fn clone_handle(&mut self) -> HandleReply {
-        self.shared.lock.begin().clone_handle()
+        let mut step = self.shared.lock.begin();
+        let reply = step.kept().clone_handle();
+        self.shared.lock.end(step);
+        reply
     }
 
     fn drop_handle(&mut self) -> HandleReply {
-        self.shared.lock.begin().drop_handle()
+        let mut step = self.shared.lock.begin();
+        let reply = step.kept().drop_handle();
+        self.shared.lock.end(step);
+        reply
     }
 
     fn upgrade(&mut self) -> bool {
@@ -240,22 +227,20 @@ impl<
     }
 }
 
-impl<
+impl<'a, M: Manager, F: SyncHook<M>, A: AsyncHook<M>, C: Clock, R: Wait + Drop, L: Ledgers> Seat<
     'a,
-    M: Manager + Drop,
-    F: SyncHook<M> + Drop,
-    A: AsyncHook<M> + Drop,
-    C: Clock + Drop,
-    R: Wait + Drop,
-    G: Ledger,
-    N: Ledger,
-    O: Ledger,
-> Seat<'a, M, F, A, C, R, G, N, O> {
+    M,
+    F,
+    A,
+    C,
+    R,
+    L,
+> {
     // A seat with the shares of one get or object.
     pub(crate) fn new(
-        shared: &'a Shared<M, F, A, C, R, G, N, O>,
-        shares: Shares<G, N, O>,
-        listener: Listener,
+        shared: &'a Shared<M, F, A, C, R, L>,
+        shares: Shares<L>,
+        listener: &'a mut Listener,
     ) -> Self
         ensures { result ≡ shares }
     {
@@ -267,15 +252,15 @@ impl<
     }
 
     // What is left with the seat's holder.
-    pub(crate) fn into_parts(self) -> (Shares<G, N, O>, Listener)
-        ensures { result.0 ≡ self.entry }
+    pub(crate) fn into_shares(self) -> Shares<L>
+        ensures { result ≡ self.entry }
     {
         let Seat {
             shared: _,
             shares,
-            listener,
+            listener: _,
         } = self;
-        (shares, listener)
+        shares
     }
 
     /// Gives an object back. The pool knows it, and the seat has nothing afterwards.

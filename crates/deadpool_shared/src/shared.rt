@@ -4,6 +4,7 @@ ghost use Rattle.deadpool_desk.specs.declared.desk.Holding.{Holding};
 ghost use Rattle.deadpool_journal.specs.Copies.{HasSteps};
 ghost use Rattle.deadpool_shared.specs.Counts.{counts, counts_of};
 
+use crate::ledgers::Ledgers;
 use crate::locked::Locked;
 use crate::shares::Shares;
 use deadpool_journal::Journal;
@@ -14,72 +15,73 @@ use deadpool_managed::{
 use futures::task::Source;
 use std::alloc::AllocError;
 use std::sync::Wait;
-use std::sync::ledger::Ledger;
 
 /// What the handles of a pool share: what its gets are lent, and the lock.
 #[derive(Drop)]
 pub struct Shared<
-    M: Manager + Drop,
-    F: SyncHook<M> + Drop,
-    A: AsyncHook<M> + Drop,
-    C: Clock + Drop,
+    M: Manager,
+    F: SyncHook<M>,
+    A: AsyncHook<M>,
+    C: Clock,
     R: Wait + Drop,
-    G: Ledger,
-    N: Ledger,
-    O: Ledger,
+    L: Ledgers,
 > {
     pub environment: Environment<M, F, A>,
     /// Those of a get that is started without its own.
     pub timeouts: Timeouts,
     pub clock: C,
-    pub lock: StepLock<Locked<M::Type, G, N, O>, R>,
+    pub lock: StepLock<Locked<M::Type, L>, R>,
 }
 
-impl<
-    M: Manager + Drop,
-    F: SyncHook<M> + Drop,
-    A: AsyncHook<M> + Drop,
-    C: Clock + Drop,
-    R: Wait + Drop,
-    G: Ledger,
-    N: Ledger,
-    O: Ledger,
-> Shared<M, F, A, C, R, G, N, O> {
+impl<M: Manager, F: SyncHook<M>, A: AsyncHook<M>, C: Clock, R: Wait + Drop, L: Ledgers> Shared<
+    M,
+    F,
+    A,
+    C,
+    R,
+    L,
+> {
     /// One handle more, for a new get, with its shares, if a part of each ledger is left.
-    pub fn begin(&self) -> Option<Shares<G, N, O>>
+    pub fn begin(&self) -> Option<Shares<L>>
         ensures { IfSome result (λ shares. shares ≡ counts_of Holding.Nothing) }
     {
-        self.lock.begin().begin()
+        let mut step = self.lock.begin();
+        let shares = step.kept().begin();
+        self.lock.end(step);
+        shares
     }
 
     pub fn upgrade(&self) -> bool {
-        self.lock.begin().upgrade()
+        let mut step = self.lock.begin();
+        let is_counted = step.kept().upgrade();
+        self.lock.end(step);
+        is_counted
     }
 
     pub fn status(&self) -> Status {
-        self.lock.begin().status()
+        self.lock.look().status()
     }
 
     pub fn is_closed(&self) -> bool {
-        self.lock.begin().is_closed()
+        self.lock.look().is_closed()
     }
 
     pub fn journal(&self) -> Result<Journal, AllocError>
         ensures { IfOk result HasSteps }
     {
-        self.lock.begin().journal()
+        self.lock.look().journal()
     }
 
     pub fn close(&self) {
-        let mut locked = self.lock.begin();
-        locked.close();
-        self.lock.end(locked);
+        let mut step = self.lock.begin();
+        step.kept().close();
+        self.lock.end(step);
     }
 
     pub fn resize(&self, limit: usize) -> Result<(), AllocError> {
-        let mut locked = self.lock.begin();
-        let resized = locked.resize(limit);
-        self.lock.end(locked);
+        let mut step = self.lock.begin();
+        let resized = step.kept().resize(limit);
+        self.lock.end(step);
         resized
     }
 
@@ -90,23 +92,15 @@ impl<
         requires { K.can_call retainer.old }
         ensures { K.can_call retainer.new }
     {
-        let mut locked = self.lock.begin();
-        let retained = locked.retain(retainer);
-        self.lock.end(locked);
+        let mut step = self.lock.begin();
+        let retained = step.kept().retain(retainer);
+        self.lock.end(step);
         retained
     }
 }
 
-impl<
-    M: Manager + Drop,
-    F: SyncHook<M> + Drop,
-    A: AsyncHook<M> + Drop,
-    C: Clock + Drop,
-    R: Wait + Drop,
-    G: Ledger,
-    N: Ledger,
-    O: Ledger,
-> Counted for Shared<M, F, A, C, R, G, N, O> {
+impl<M: Manager, F: SyncHook<M>, A: AsyncHook<M>, C: Clock, R: Wait + Drop, L: Ledgers> Counted
+    for Shared<M, F, A, C, R, L> {
     ghost source_of = { λ shared. shared.lock.source.id };
 
     fn source(&self) -> &Source {
@@ -114,10 +108,14 @@ impl<
     }
 
     fn clone_handle(&self) {
-        self.lock.begin().clone_handle();
+        let mut step = self.lock.begin();
+        step.kept().clone_handle();
+        self.lock.end(step);
     }
 
     fn drop_handle(&self) {
-        self.lock.begin().drop_handle();
+        let mut step = self.lock.begin();
+        step.kept().drop_handle();
+        self.lock.end(step);
     }
 }

@@ -1,22 +1,22 @@
 //! What is known of the three counts of a pool: three ledgers.
 ghost use Rattle.std.specs.Prelude.{◌≡◌, ◌≤◌, ◌<◌, IfSome};
-ghost use Rattle.deadpool_shared.specs.Opens.{Opens};
 ghost use Rattle.deadpool_shared.specs.Counts.{counts, counts_of, shifted};
 ghost use Rattle.deadpool_desk.specs.declared.desk.Holding.{Holding};
 
+use crate::ledgers::{Blanks, Creations, Going, Ledgers, Outside};
 use deadpool_managed::Holding;
 use std::marker::Model;
-use std::sync::ledger::{Blank, Book, Ledger, Share};
+use std::sync::ledger::{Book, Share};
 
 /// What one holder has of the three counts. It takes no bytes.
 #[derive(Drop)]
-pub struct Shares<G: Ledger, N: Ledger, O: Ledger> {
-    going: Share<G>,
-    creations: Share<N>,
-    outside: Share<O>,
+pub struct Shares<L: Ledgers> {
+    going: Share<Going<L>>,
+    creations: Share<Creations<L>>,
+    outside: Share<Outside<L>>,
 }
 
-impl<G: Ledger, N: Ledger, O: Ledger> Model for Shares<G, N, O> {
+impl<L: Ledgers> Model for Shares<L> {
     ghost use Rattle.std.specs.Prelude.{◌≡◌};
     ghost use Rattle.deadpool_shared.specs.Counts.{Counts, counts};
 
@@ -29,17 +29,17 @@ impl<G: Ledger, N: Ledger, O: Ledger> Model for Shares<G, N, O> {
 
 /// The totals of all shares, and the parts that nobody has. Each ledger has `u64::MAX` parts.
 #[derive(Drop)]
-pub struct Books<G: Ledger, N: Ledger, O: Ledger> {
-    going: Book<G>,
-    creations: Book<N>,
-    outside: Book<O>,
+pub struct Books<L: Ledgers> {
+    going: Book<Going<L>>,
+    creations: Book<Creations<L>>,
+    outside: Book<Outside<L>>,
     left: u64,
-    going_left: Share<G>,
-    creations_left: Share<N>,
-    outside_left: Share<O>,
+    going_left: Share<Going<L>>,
+    creations_left: Share<Creations<L>>,
+    outside_left: Share<Outside<L>>,
 }
 
-impl<G: Ledger, N: Ledger, O: Ledger> Model for Books<G, N, O> {
+impl<L: Ledgers> Model for Books<L> {
     ghost use Rattle.std.specs.Prelude.{◌≡◌};
     ghost use Rattle.deadpool_shared.specs.Counts.{Counts, counts};
 
@@ -62,17 +62,16 @@ fn amounts(holding: Holding) -> (u64, u64, u64)
     }
 }
 
-impl<G: Ledger, N: Ledger, O: Ledger> Books<G, N, O> {
+impl<L: Ledgers> Books<L> {
     /// Three new ledgers, of which nobody has a share.
-    pub fn new(going: Blank, creations: Blank, outside: Blank) -> Self
-        requires going { Opens G.Ledger going }
-        requires creations { Opens N.Ledger creations }
-        requires outside { Opens O.Ledger outside }
+    pub fn new(blanks: Blanks) -> Self
+        requires opens { blanks ≡ L.names }
         ensures { result ≡ counts 0 0 0 }
     {
-        let (going, going_left) = going.open::<G>();
-        let (creations, creations_left) = creations.open::<N>();
-        let (outside, outside_left) = outside.open::<O>();
+        let (going, creations, outside) = blanks.into_parts();
+        let (going, going_left) = going.open::<Going<L>>();
+        let (creations, creations_left) = creations.open::<Creations<L>>();
+        let (outside, outside_left) = outside.open::<Outside<L>>();
         Books {
             going,
             creations,
@@ -85,7 +84,7 @@ impl<G: Ledger, N: Ledger, O: Ledger> Books<G, N, O> {
     }
 
     /// Shares for one holder that has nothing yet, if a part of each ledger is left.
-    pub fn hand_out(&mut self) -> Option<Shares<G, N, O>>
+    pub fn hand_out(&mut self) -> Option<Shares<L>>
         ensures shares { IfSome result (λ shares. shares ≡ counts_of Holding.Nothing) }
         ensures same { self.new ≡ self.old }
     {
@@ -104,7 +103,7 @@ impl<G: Ledger, N: Ledger, O: Ledger> Books<G, N, O> {
     }
 
     /// No holder has more than the totals.
-    pub fn audit(&mut self, shares: &mut Shares<G, N, O>)
+    pub fn audit(&mut self, shares: &mut Shares<L>)
         ensures totals { self.new ≡ self.old }
         ensures shares { shares.new ≡ shares.old }
         ensures going { shares.old.going ≤ self.old.going }
@@ -117,7 +116,7 @@ impl<G: Ledger, N: Ledger, O: Ledger> Books<G, N, O> {
     }
 
     /// A holder has something else from now on.
-    pub fn shift(&mut self, shares: &mut Shares<G, N, O>, old: Holding, new: Holding)
+    pub fn shift(&mut self, shares: &mut Shares<L>, old: Holding, new: Holding)
         requires { shares.old ≡ counts_of old }
         ensures totals { self.new ≡ shifted old new self.old }
         ensures shares { shares.new ≡ counts_of new }

@@ -8,47 +8,35 @@ ghost use Rattle.deadpool_sqlite.specs.Settled.{IsSettled};
 use crate::manager::SqliteManager;
 use crate::source::Source;
 use deadpool::Clock;
-use deadpool::managed::{Get, NoHook, Object, Pool, PoolError};
+use deadpool::managed::{Get, Ledgers, NoHook, Object, Pool, PoolError};
 use futures::Future;
 use futures::task::{Context, Poll};
 use sqlite::Error;
 use std::sync::Wait;
-use std::sync::ledger::Ledger;
 
 /// A pool of connections that has no hooks.
-pub type SqlitePool<B, C, R, G, N, O> = Pool<SqliteManager<B>, NoHook, NoHook, C, R, G, N, O>;
+pub type SqlitePool<B, C, R, L> = Pool<SqliteManager<B>, NoHook, NoHook, C, R, L>;
 
 /// A connection out of such a pool. It goes back when it is dropped, with whatever is open on it.
-pub type PooledConnection<B, C, R, G, N, O> = Object<
-    SqliteManager<B>,
-    NoHook,
-    NoHook,
-    C,
-    R,
-    G,
-    N,
-    O,
->;
+pub type PooledConnection<B, C, R, L> = Object<SqliteManager<B>, NoHook, NoHook, C, R, L>;
 
 /// A get for such a connection.
-pub type GetConnection<B, C, R, G, N, O> = Get<
+pub type GetConnection<B, C, R, L> = Get<
     SqliteManager<B>,
     NoHook,
     NoHook,
     C,
     R,
-    G,
-    N,
-    O,
-    PooledConnection<B, C, R, G, N, O>,
+    L,
+    PooledConnection<B, C, R, L>,
 >;
 
 /// Polls a get. The connection that it hands out has no transaction open, and so, while its store is open, it shows what
 /// was committed.
-pub fn poll_connection<B: Source, C: Clock + Drop, R: Wait + Drop, G: Ledger, N: Ledger, O: Ledger>(
-    get: &mut GetConnection<B, C, R, G, N, O>,
+pub fn poll_connection<B: Source, C: Clock, R: Wait + Drop, L: Ledgers>(
+    get: &mut GetConnection<B, C, R, L>,
     cx: &mut Context<'_>,
-) -> Poll<Result<PooledConnection<B, C, R, G, N, O>, PoolError<Error>>>
+) -> Poll<Result<PooledConnection<B, C, R, L>, PoolError<Error>>>
     ensures settled { IfReadyOk result (λ object. IsSettled (state B.Storage.Store object.slot.value)) }
     ensures armed { OnPending result (IsArmed cx.new) }
     ensures kept { Keeps cx.old cx.new }

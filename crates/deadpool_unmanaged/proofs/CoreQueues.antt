@@ -1,9 +1,10 @@
 -- What the steps of a gate do to the queue that its waiters are.
 use Rattle.std.proofs.Common.{◌≡◌, ℕ, ◌+◌, ◌<◌, ◌≤◌, Bool, not, List, [], ◌∷◌, ◌++◌, length, min, cond, take, drop, refl, ◌∙◌, arith, true, false, Option, None, zero, suc, ◌-◌, length-append}
 use Rattle.std.specs.List.{slice_get}
+use Rattle.std.proofs.lemmas.List.{append-nil}
 use Rattle.deadpool_gate.specs.Gate.{Waiter, Line, arrived, without_waiter, granted_tickets, waiting_tickets, untold_tickets, grant_count, IsApart}
 use Rattle.deadpool_gate.specs.Numbers.{has_number}
-use Rattle.deadpool_gate.specs.Queue.{joined, without, served}
+use Rattle.deadpool_gate.specs.Queue.{Queue, joined, without, served}
 use Rattle.deadpool_gate.specs.Waking.{still_untold}
 use Rattle.deadpool_gate.proofs.GateAnswers.{grant_count-length}
 use Rattle.deadpool_gate.proofs.GateTickets.{granted_tickets-arrived, waiting_tickets-arrived, untold_tickets-arrived, granted_tickets-without_waiter, waiting_tickets-without_waiter, untold_tickets-without_waiter, length-both_tickets}
@@ -48,6 +49,25 @@ queue-served : (c : Bool) (room n : ℕ) (ws after : List Waiter) → n ≡ gran
 queue-served c room n ws after count granted waiting =
     let as_many : n ≡ cond (not c) (min (length (waiting_tickets ws)) room) 0 = count ∙ grant_count-length c room ws in
     rw (granted, waiting, as_many) refl
+
+-- with nobody waiting, nobody is served
+nobody_waits : (xs : List ℕ) → length xs ≡ 0 → xs ≡ []
+nobody_waits [] none = refl
+nobody_waits (x ∷ xs) none = cc
+
+none_served : (is_open : Bool) (room : ℕ) → cond is_open (min 0 room) 0 ≡ 0
+none_served true room = omega arith
+none_served false room = refl
+
+served-quiet : (q : Queue) (is_open : Bool) (room : ℕ) → length q.waiting ≡ 0 → q ≡ served is_open room q
+served-quiet q is_open room none =
+    rw (nobody_waits q.waiting none, none_served is_open room, append-nil q.granted) refl
+
+pub state_of-quiet : {T : Type 0} (core : Inside T) → length (waiting_tickets core.gets.waiters) ≡ 0 → length (waiting_tickets core.adds.waiters) ≡ 0
+    → state_of core ≡ settled (state_of core)
+state_of-quiet core gets adds =
+    let d = state_of core in
+    rw (← served-quiet d.gets d.is_open (free_objects d) gets, ← served-quiet d.adds d.is_open (free_room d) adds) refl
 
 module _ {T : Type 0} (core : Inside T) where
   -- both lines were served

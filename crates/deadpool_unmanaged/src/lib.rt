@@ -12,8 +12,9 @@ mod steps;
 
 pub use add::{AddStage, AddState};
 pub use config::PoolConfig;
+pub use deadpool_gate::gate;
 pub use deadpool_parts::errors::ConfigError;
-pub use deadpool_parts::{Clock, HandleReply, Moment, Runtime, Status, StepReply, gate};
+pub use deadpool_parts::{Clock, HandleReply, Moment, NoTime, Runtime, Status, StepReply};
 pub use error::PoolError;
 pub use get::{GetStage, GetState};
 pub use settled::Core;

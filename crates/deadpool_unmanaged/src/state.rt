@@ -142,10 +142,12 @@ impl<T: Drop> PoolState<T> {
     fn settle(&mut self)
         ensures { self.new.pool ≡ settled self.old.pool }
     {
-        let objects = self.free_objects();
-        let room = self.free_room();
-        self.gets.settle(objects);
-        self.adds.settle(room);
+        if self.gets.waiting() > 0 || self.adds.waiting() > 0 {
+            let objects = self.free_objects();
+            let room = self.free_room();
+            self.gets.settle(objects);
+            self.adds.settle(room);
+        }
     }
 
     // The next object goes out.

@@ -5,20 +5,21 @@ ghost use Rattle.futures.specs.Task.{Keeps};
 
 use crate::object::Object;
 use crate::shared::Shared;
-use deadpool_lock::{Listener, Request, wake_at};
+use deadpool_lock::{Home, Listener, Request, wake_at};
 use deadpool_unmanaged::{AddState, Clock, GetState, PoolError};
 use futures::task::{Context, Poll};
-use std::alloc::Global;
-use std::sync::{Arc, Wait};
+use std::sync::Wait;
 
 /// A get that has not ended, with the pool's state for its object.
 #[derive(Drop)]
-pub struct Getting<T: Drop, C: Clock + Drop, R: Wait + Drop> {
+pub struct Getting<T: Drop, C: Clock, R: Wait + Drop> {
     pub(crate) state: GetState,
-    pub(crate) home: Arc<Shared<T, C, R>, Global>,
+    pub(crate) home: Home<Shared<T, C, R>>,
+    // While it waits with a deadline.
+    pub(crate) alarm: Option<C::Alarm>,
 }
 
-impl<T: Drop, C: Clock + Drop, R: Wait + Drop> Getting<T, C, R> {
+impl<T: Drop, C: Clock, R: Wait + Drop> Getting<T, C, R> {
     // One poll, which comes back if it is pending.
     fn ask(
         self,
@@ -30,32 +31,42 @@ impl<T: Drop, C: Clock + Drop, R: Wait + Drop> Getting<T, C, R> {
         ensures home { IfErr result (λ got. IfOk got (λ object. object.home ≡ self.home)) }
         ensures waits { IfOk result (λ get. get.home ≡ self.home) }
     {
-        let Getting { mut state, home } = self;
+        let Getting {
+            mut state,
+            home,
+            mut alarm,
+        } = self;
         let now = shared.clock.now();
-        let mut locked = shared.lock.begin();
-        let (polled, spare) = locked.poll_get(&mut state, shared.runtime, now, listener.waker());
-        shared.lock.end(locked);
+        let mut step = shared.lock.begin();
+        let (polled, spare) = step
+            .kept()
+            .poll_get(&mut state, shared.runtime, now, listener.waker());
+        shared.lock.end(step);
         drop(spare);
         match polled {
             Poll::Ready(Ok(value)) => Err(Ok(Object { home, value })),
             Poll::Ready(Err(cause)) => Err(Err(cause)),
             Poll::Pending => {
-                wake_at(&shared.clock, state.deadline(), cx);
-                Ok(Getting { state, home })
+                wake_at(&shared.clock, state.deadline(), &mut alarm, cx);
+                Ok(Getting { state, home, alarm })
             }
         }
     }
 
     fn give_up(self, shared: &Shared<T, C, R>) {
-        let Getting { state, home: _ } = self;
-        let mut locked = shared.lock.begin();
-        let spare = locked.cancel_get(state);
-        shared.lock.end(locked);
+        let Getting {
+            state,
+            home: _,
+            alarm: _,
+        } = self;
+        let mut step = shared.lock.begin();
+        let spare = step.kept().cancel_get(state);
+        shared.lock.end(step);
         drop(spare);
     }
 }
 
-impl<T: Drop, C: Clock + Drop, R: Wait + Drop> Request<Shared<T, C, R>> for Getting<T, C, R> {
+impl<T: Drop, C: Clock, R: Wait + Drop> Request<Shared<T, C, R>> for Getting<T, C, R> {
     type Output = Result<Object<T, C, R>, PoolError>;
 
     type Refusal = ();
@@ -80,11 +91,11 @@ impl<T: Drop, C: Clock + Drop, R: Wait + Drop> Request<Shared<T, C, R>> for Gett
 
 /// A removal that has not ended: a get whose object leaves for good.
 #[derive(Drop)]
-pub struct Removing<T: Drop, C: Clock + Drop, R: Wait + Drop> {
+pub struct Removing<T: Drop, C: Clock, R: Wait + Drop> {
     pub(crate) get: Getting<T, C, R>,
 }
 
-impl<T: Drop, C: Clock + Drop, R: Wait + Drop> Request<Shared<T, C, R>> for Removing<T, C, R> {
+impl<T: Drop, C: Clock, R: Wait + Drop> Request<Shared<T, C, R>> for Removing<T, C, R> {
     type Output = Result<T, PoolError>;
 
     type Refusal = ();
@@ -121,7 +132,7 @@ pub struct Adding<T: Drop> {
 
 impl<T: Drop> Adding<T> {
     // One poll, which comes back if it is pending. What is refused is the add's own object.
-    fn ask<C: Clock + Drop, R: Wait + Drop>(
+    fn ask<C: Clock, R: Wait + Drop>(
         self,
         shared: &Shared<T, C, R>,
         listener: &mut Listener,
@@ -129,9 +140,9 @@ impl<T: Drop> Adding<T> {
         ensures { IfErr result (λ added. IfErr added (λ refused. held_by self.state ≡ Some refused.0)) }
     {
         let Adding { mut state } = self;
-        let mut locked = shared.lock.begin();
-        let (polled, spare) = locked.poll_add(&mut state, listener.waker());
-        shared.lock.end(locked);
+        let mut step = shared.lock.begin();
+        let (polled, spare) = step.kept().poll_add(&mut state, listener.waker());
+        shared.lock.end(step);
         drop(spare);
         match polled {
             Poll::Ready(added) => Err(added),
@@ -140,7 +151,7 @@ impl<T: Drop> Adding<T> {
     }
 }
 
-impl<T: Drop, C: Clock + Drop, R: Wait + Drop> Request<Shared<T, C, R>> for Adding<T> {
+impl<T: Drop, C: Clock, R: Wait + Drop> Request<Shared<T, C, R>> for Adding<T> {
     type Output = Result<(), (T, PoolError)>;
 
     type Refusal = T;
@@ -156,9 +167,9 @@ impl<T: Drop, C: Clock + Drop, R: Wait + Drop> Request<Shared<T, C, R>> for Addi
 
     fn cancel(self, shared: &Shared<T, C, R>) {
         let Adding { state } = self;
-        let mut locked = shared.lock.begin();
-        let (value, spare) = locked.cancel_add(state);
-        shared.lock.end(locked);
+        let mut step = shared.lock.begin();
+        let (value, spare) = step.kept().cancel_add(state);
+        shared.lock.end(step);
         drop(spare);
         drop(value);
     }

@@ -1,6 +1,5 @@
 //! The handles of a pool.
 ghost use Rattle.std.specs.Prelude.{◌≡◌, ◌⊎◌, Some, IsSome, IfSome, IfOk};
-ghost use Rattle.std.specs.Arc.{arc_value};
 ghost use Rattle.deadpool_unmanaged.specs.declared.add.AddStage.TheVariants as AddStage;
 ghost use Rattle.deadpool_unmanaged.specs.declared.get.GetStage.TheVariants as GetStage;
 
@@ -27,11 +26,11 @@ pub type Add<T, C, R> = RequestFuture<Adding<T>, Shared<T, C, R>>;
 ///
 /// `C` tells the time, and with `R` the lock is taken.
 #[derive(Drop)]
-pub struct Pool<T: Drop, C: Clock + Drop, R: Wait + Drop> {
+pub struct Pool<T: Drop, C: Clock, R: Wait + Drop> {
     inner: Handle<Shared<T, C, R>>,
 }
 
-impl<T: Drop + Send, C: Clock + Drop + Send + Sync, R: Wait + Drop + Send + Sync> Pool<T, C, R> {
+impl<T: Drop + Send, C: Clock + Send + Sync, R: Wait + Drop + Send + Sync> Pool<T, C, R> {
     /// An open pool with nothing in it and room for `max_size` objects, whose gets wait without an end.
     pub fn new(alloc: Global, max_size: usize, clock: C, rt: R) -> Result<Self, AllocError> {
         Pool::from_config(alloc, &PoolConfig::new(max_size), clock, rt)
@@ -97,7 +96,7 @@ impl<T: Drop + Send, C: Clock + Drop + Send + Sync, R: Wait + Drop + Send + Sync
     }
 }
 
-impl<T: Drop, C: Clock + Drop, R: Wait + Drop> Pool<T, C, R> {
+impl<T: Drop, C: Clock, R: Wait + Drop> Pool<T, C, R> {
     /// A get that waits as long as the configuration says.
     pub fn get(&self) -> Get<T, C, R>
         ensures asks { IfSome result.request (λ get. get.state ≡ GetStage.Unpolled self.now.inner.timeout) }
@@ -125,7 +124,7 @@ impl<T: Drop, C: Clock + Drop, R: Wait + Drop> Pool<T, C, R> {
         let Ok(home) = self.inner.uncounted() else {
             return Err(PoolError::OutOfMemory);
         };
-        let value = home.try_get()?;
+        let value = home.shared().try_get()?;
         Ok(Object { home, value })
     }
 
@@ -208,11 +207,15 @@ impl<T: Drop, C: Clock + Drop, R: Wait + Drop> Pool<T, C, R> {
     ) -> Result<(Handle<Shared<T, C, R>>, Getting<T, C, R>), AllocError>
         ensures handle { IfOk result (λ r. r.0 ≡ self.now.inner) }
         ensures state { IfOk result (λ r. r.1.state ≡ GetStage.Unpolled timeout) }
-        ensures home { IfOk result (λ r. arc_value r.1.home ≡ self.now.inner) }
+        ensures home { IfOk result (λ r. r.1.home ≡ self.now.inner) }
     {
         let home = self.inner.uncounted()?;
         let handle = self.inner.clone()?;
-        let state = GetState::new(timeout);
-        Ok((handle, Getting { state, home }))
+        let getting = Getting {
+            state: GetState::new(timeout),
+            home,
+            alarm: None,
+        };
+        Ok((handle, getting))
     }
 }

@@ -11,14 +11,14 @@ use std::time::Duration;
 
 /// What the handles of a pool share. Each of its steps is one section of the lock.
 #[derive(Drop)]
-pub struct Shared<T: Drop, C: Clock + Drop, R: Wait + Drop> {
+pub struct Shared<T: Drop, C: Clock, R: Wait + Drop> {
     pub timeout: Option<Duration>,
     pub runtime: Option<Runtime>,
     pub clock: C,
     pub lock: StepLock<Locked<T>, R>,
 }
 
-impl<T: Drop, C: Clock + Drop, R: Wait + Drop> Shared<T, C, R> {
+impl<T: Drop, C: Clock, R: Wait + Drop> Shared<T, C, R> {
     /// A pool of this state. The limit of the configuration is not looked at.
     pub fn new(alloc: Global, core: Core<T>, config: &PoolConfig, clock: C, rt: R) -> Self
         ensures timeout { result.timeout ≡ config.now.timeout }
@@ -34,51 +34,51 @@ impl<T: Drop, C: Clock + Drop, R: Wait + Drop> Shared<T, C, R> {
     }
 
     pub fn try_get(&self) -> Result<T, PoolError> {
-        let mut locked = self.lock.begin();
-        let got = locked.try_get();
-        self.lock.end(locked);
+        let mut step = self.lock.begin();
+        let got = step.kept().try_get();
+        self.lock.end(step);
         got
     }
 
     pub fn try_add(&self, value: T) -> Result<(), (T, PoolError)> {
-        let mut locked = self.lock.begin();
-        let added = locked.try_add(value);
-        self.lock.end(locked);
+        let mut step = self.lock.begin();
+        let added = step.kept().try_add(value);
+        self.lock.end(step);
         added
     }
 
     /// An object comes back. If the pool has no use for it, it is dropped with the lock given back.
     pub fn back(&self, value: T) {
-        let mut locked = self.lock.begin();
-        let reply = locked.back(value);
-        self.lock.end(locked);
+        let mut step = self.lock.begin();
+        let reply = step.kept().back(value);
+        self.lock.end(step);
         drop(reply);
     }
 
     /// An object leaves for good.
     pub fn leave(&self) -> TakeReply {
-        let mut locked = self.lock.begin();
-        let reply = locked.take();
-        self.lock.end(locked);
+        let mut step = self.lock.begin();
+        let reply = step.kept().take();
+        self.lock.end(step);
         reply
     }
 
     pub fn close(&self) {
-        let mut locked = self.lock.begin();
-        locked.close();
-        self.lock.end(locked);
+        let mut step = self.lock.begin();
+        step.kept().close();
+        self.lock.end(step);
     }
 
     pub fn status(&self) -> Status {
-        self.lock.begin().status()
+        self.lock.look().status()
     }
 
     pub fn is_closed(&self) -> bool {
-        self.lock.begin().is_closed()
+        self.lock.look().is_closed()
     }
 }
 
-impl<T: Drop, C: Clock + Drop, R: Wait + Drop> Counted for Shared<T, C, R> {
+impl<T: Drop, C: Clock, R: Wait + Drop> Counted for Shared<T, C, R> {
     ghost source_of = { λ shared. shared.lock.source.id };
 
     fn source(&self) -> &Source {
@@ -86,12 +86,14 @@ impl<T: Drop, C: Clock + Drop, R: Wait + Drop> Counted for Shared<T, C, R> {
     }
 
     fn clone_handle(&self) {
-        self.lock.begin().clone_handle();
+        let mut step = self.lock.begin();
+        step.kept().clone_handle();
+        self.lock.end(step);
     }
 
     fn drop_handle(&self) {
-        let mut locked = self.lock.begin();
-        locked.drop_handle();
-        self.lock.end(locked);
+        let mut step = self.lock.begin();
+        step.kept().drop_handle();
+        self.lock.end(step);
     }
 }

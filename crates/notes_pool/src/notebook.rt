@@ -1,14 +1,12 @@
 //! A pool into whose objects notes are written, whatever they are.
 use crate::fault::Fault;
 use crate::writers::Writer;
-use deadpool::managed::{Manager, NoHook, Pool};
-use deadpool::{Clock, Moment};
+use deadpool::NoTime;
+use deadpool::managed::{Ledgers, Manager, NoHook, Pool};
 use futures::executor::block_on;
-use futures::task::Context;
 use sqlite::Error;
 use std::random::RandomSource;
 use std::sync::Wait;
-use std::sync::ledger::Ledger;
 
 const NOTES: i64 = 25;
 
@@ -25,30 +23,16 @@ pub trait Notebook: Manager {
     fn made(&self) -> usize;
 }
 
-/// Stands still: no timeout is set, so nobody is to be woken by it.
-#[derive(Drop)]
-pub struct NoTime;
-
-impl Clock for NoTime {
-    fn now(&self) -> Moment {
-        Moment(0)
-    }
-
-    fn wake_at(&self, _at: Moment, _cx: &mut Context<'_>) {}
-}
-
 /// A pool of such objects.
-pub type NotesPool<M, R, G, N, O> = Pool<M, NoHook, NoHook, NoTime, R, G, N, O>;
+pub type NotesPool<M, R, L> = Pool<M, NoHook, NoHook, NoTime, R, L>;
 
-impl<M, R, G, N, O> Writer for Pool<M, NoHook, NoHook, NoTime, R, G, N, O>
+impl<M, R, L> Writer for Pool<M, NoHook, NoHook, NoTime, R, L>
 where
     M: Notebook + Drop + Send + Sync + 'static,
     M::Type: Send,
     M::Error: Send,
     R: Wait + Drop + Send + Sync + 'static,
-    G: Ledger + Send + Sync + 'static,
-    N: Ledger + Send + Sync + 'static,
-    O: Ledger + Send + Sync + 'static,
+    L: Ledgers + Send + Sync + 'static,
 {
     fn again(&self) -> Result<Self, Fault> {
         Ok(self.clone()?)

@@ -1,20 +1,20 @@
 //! Has the notes written, and says what is found at the end.
-ghost use Rattle.deadpool.specs.Opens.{Opens};
+
+ghost use Rattle.std.specs.Prelude.{◌≡◌};
 
 use crate::fault::Fault;
-use crate::notebook::{NoTime, Notebook, NotesPool};
+use crate::notebook::{Notebook, NotesPool};
 use crate::source::Counting;
 use crate::table::{SCHEMA, rows_and_sum};
 use crate::writers::{Host, run_all};
-use deadpool::Status;
-use deadpool::managed::PoolBuilder;
+use deadpool::managed::{Blanks, Ledgers, PoolBuilder};
+use deadpool::{NoTime, Status};
 use deadpool_sqlite::{RecyclingMethod, Source, SqliteManager};
 use futures::executor::block_on;
 use sqlite::Error;
 use std::marker::Brand;
 use std::random::RandomSource;
 use std::sync::Wait;
-use std::sync::ledger::{Blank, Ledger};
 
 /// What is found at the end.
 #[derive(Drop)]
@@ -38,12 +38,8 @@ where
         batch: String::from_str(rt.alloc(), SCHEMA)?,
         method: RecyclingMethod::Verified,
     };
-    let going = Blank::new(u64::MAX);
-    let creations = Blank::new(u64::MAX);
-    let outside = Blank::new(u64::MAX);
-    let found = written::<SqliteManager<Counting<B>>, R, Brand, Brand, Brand>(
-        rt, manager, going, creations, outside,
-    )?;
+    let blanks = Blanks::new();
+    let found = written::<SqliteManager<Counting<B>>, R, Brand>(rt, manager, blanks)?;
     let by_itself = found_alone(alone)?;
     told(&rt, &found, by_itself)
 }
@@ -69,13 +65,7 @@ fn told<R: AllocGlobal>(rt: &R, found: &Found, by_itself: (i64, i64)) -> Result<
 }
 
 // Has the threads write by a pool of one object, and looks by the same pool.
-fn written<M, R, G, N, O>(
-    rt: R,
-    manager: M,
-    going: Blank,
-    creations: Blank,
-    outside: Blank,
-) -> Result<Found, Fault>
+fn written<M, R, L>(rt: R, manager: M, blanks: Blanks) -> Result<Found, Fault>
 where
     M: Notebook + Drop + Send + Sync + 'static,
     M::Type: Send + 'static,
@@ -83,16 +73,12 @@ where
     M::Creating: Send + 'static,
     M::Recycling: Send + 'static,
     R: Host,
-    G: Ledger + Send + Sync + 'static,
-    N: Ledger + Send + Sync + 'static,
-    O: Ledger + Send + Sync + 'static,
-    requires going { Opens G.Ledger going }
-    requires creations { Opens N.Ledger creations }
-    requires outside { Opens O.Ledger outside }
+    L: Ledgers + Send + Sync + 'static,
+    requires { blanks ≡ L.names }
 {
     let builder = PoolBuilder::new(rt.alloc(), manager, NoTime).max_size(1);
-    let built = builder.build(going, creations, outside, rt);
-    let pool: NotesPool<M, R, G, N, O> = built.map_err(|_| Fault::OutOfMemory)?;
+    let built = builder.build(blanks, rt);
+    let pool: NotesPool<M, R, L> = built.map_err(|_| Fault::OutOfMemory)?;
     run_all(rt, &pool)?;
     let (rows, sum) = shown(&rt, &pool)?;
     Ok(Found {
@@ -104,13 +90,11 @@ where
 }
 
 // What the next user sees.
-fn shown<M, R, G, N, O>(rt: &R, pool: &NotesPool<M, R, G, N, O>) -> Result<(i64, i64), Fault>
+fn shown<M, R, L>(rt: &R, pool: &NotesPool<M, R, L>) -> Result<(i64, i64), Fault>
 where
     M: Notebook + Drop,
     R: Wait + RandomSource + AllocGlobal + Drop,
-    G: Ledger,
-    N: Ledger,
-    O: Ledger,
+    L: Ledgers,
 {
     let Ok(Ok(mut object)) = block_on(rt, pool.get()) else {
         return Err(Fault::Refused);

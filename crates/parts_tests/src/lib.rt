@@ -1,4 +1,4 @@
-//! Tests of what both pools stand on.
+//! Tests of what stands under the shared pools.
 #![tactic(auto)]
 
 #[cfg(test)]

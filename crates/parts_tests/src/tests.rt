@@ -1,7 +1,13 @@
-//! What no clause says: printed texts, success if memory is there, and the gate beside one that searches.
+//! What no clause says of what stands under the shared pools: printed texts, success if memory is there, the gate beside one
+//! that searches, and journals of scripts and of single steps.
 mod both_gates;
 mod configuration;
+mod driver;
 mod errors;
 mod expected;
 mod gate;
+mod journaled;
+mod replay;
+mod scripts;
+mod texts;
 mod vector_gate;

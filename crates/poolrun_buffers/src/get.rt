@@ -6,37 +6,27 @@ ghost use Rattle.deadpool.specs.Answers.{IfReadyOk};
 
 use crate::manager::{BufferError, Buffers};
 use deadpool::Clock;
-use deadpool::managed::{Get, NoHook, Object, Pool, PoolError};
+use deadpool::managed::{Get, Ledgers, NoHook, Object, Pool, PoolError};
+use deadpool_threads::Plain;
 use futures::Future;
 use futures::task::{Context, Poll};
 use std::alloc::AllocError;
 use std::sync::Wait;
-use std::sync::ledger::Ledger;
 
 /// A pool of buffers that has no hooks.
-pub type BufferPool<C, R, G, N, O> = Pool<Buffers, NoHook, NoHook, C, R, G, N, O>;
+pub type BufferPool<C, R, L> = Pool<Plain<Buffers>, NoHook, NoHook, C, R, L>;
 
 /// A buffer out of such a pool. It goes back when it is dropped.
-pub type Buffer<C, R, G, N, O> = Object<Buffers, NoHook, NoHook, C, R, G, N, O>;
+pub type Buffer<C, R, L> = Object<Plain<Buffers>, NoHook, NoHook, C, R, L>;
 
 /// A get for such a buffer.
-pub type GetBuffer<C, R, G, N, O> = Get<
-    Buffers,
-    NoHook,
-    NoHook,
-    C,
-    R,
-    G,
-    N,
-    O,
-    Buffer<C, R, G, N, O>,
->;
+pub type GetBuffer<C, R, L> = Get<Plain<Buffers>, NoHook, NoHook, C, R, L, Buffer<C, R, L>>;
 
 /// Polls a get. The buffer that it hands out is empty, whatever was in it when it came back.
-pub fn poll_buffer<C: Clock + Drop, R: Wait + Drop, G: Ledger, N: Ledger, O: Ledger>(
-    get: &mut GetBuffer<C, R, G, N, O>,
+pub fn poll_buffer<C: Clock, R: Wait + Drop, L: Ledgers>(
+    get: &mut GetBuffer<C, R, L>,
     cx: &mut Context<'_>,
-) -> Poll<Result<Buffer<C, R, G, N, O>, PoolError<BufferError>>>
+) -> Poll<Result<Buffer<C, R, L>, PoolError<BufferError>>>
     ensures empty { IfReadyOk result (λ buffer. buffer.slot.value.items ≡ []) }
     ensures armed { OnPending result (IsArmed cx.new) }
     ensures kept { Keeps cx.old cx.new }
@@ -45,8 +35,8 @@ pub fn poll_buffer<C: Clock + Drop, R: Wait + Drop, G: Ledger, N: Ledger, O: Led
 }
 
 /// Puts a line into a buffer that was handed out, and says how many bytes are in it then.
-pub fn fill<C: Clock + Drop, R: Wait + Drop, G: Ledger, N: Ledger, O: Ledger>(
-    buffer: &mut Buffer<C, R, G, N, O>,
+pub fn fill<C: Clock, R: Wait + Drop, L: Ledgers>(
+    buffer: &mut Buffer<C, R, L>,
     line: &[u8],
 ) -> Result<usize, AllocError>
     requires empty { buffer.old.slot.value.items ≡ [] }

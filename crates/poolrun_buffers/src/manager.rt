@@ -2,8 +2,8 @@
 ghost use Rattle.std.specs.Prelude.{◌≡◌, [], Some, codes};
 ghost use Rattle.poolrun_buffers.specs.Answers.{EmptiesOrRefuses, MakesEmpty};
 
-use deadpool::managed::{Manager, Metrics, RecycleError, RecycleResult};
-use futures::task::{Context, Poll};
+use deadpool::managed::{Metrics, RecycleError, RecycleResult};
+use deadpool_threads::PlainManager;
 use std::alloc::Global;
 use std::fmt;
 
@@ -32,49 +32,29 @@ pub struct Buffers {
     pub most: usize,
 }
 
-impl Manager for Buffers {
+impl PlainManager for Buffers {
     type Type = Vec<u8>;
 
     type Error = BufferError;
 
-    type Creating = ();
-
-    type Recycling = ();
-
     ghost is_ready = { λ buffer. buffer.items ≡ [] };
 
-    ghost may_poll_create = { λ buffers _ answer _. MakesEmpty buffers.reserve answer };
+    ghost may_create = { λ buffers answer. MakesEmpty buffers.reserve answer };
 
-    ghost may_recycle = { λ _ buffer _ _ left. left ≡ buffer };
-
-    ghost may_poll_recycle = { λ buffers _ buffer _ answer _ left. EmptiesOrRefuses buffers.most buffer answer left };
+    ghost may_recycle = { λ buffers buffer _ answer left. EmptiesOrRefuses buffers.most buffer answer left };
 
     ghost may_detach = { λ _ buffer left. left ≡ buffer };
 
-    fn create(&self) -> () {}
-
-    fn poll_create(
-        &self,
-        _creating: &mut (),
-        _cx: &mut Context<'_>,
-    ) -> Poll<Result<Vec<u8>, BufferError>> {
+    fn create(&self) -> Result<Vec<u8>, BufferError> {
         let buffer = Vec::with_capacity(self.alloc, self.reserve);
-        Poll::Ready(buffer.map_err(|_| BufferError::OutOfMemory))
+        buffer.map_err(|_| BufferError::OutOfMemory)
     }
 
-    fn recycle(&self, _buffer: &mut Vec<u8>, _metrics: &Metrics) -> () {}
-
-    fn poll_recycle(
-        &self,
-        _recycling: &mut (),
-        buffer: &mut Vec<u8>,
-        _metrics: &Metrics,
-        _cx: &mut Context<'_>,
-    ) -> Poll<RecycleResult<BufferError>> {
+    fn recycle(&self, buffer: &mut Vec<u8>, _metrics: &Metrics) -> RecycleResult<BufferError> {
         if buffer.len() > self.most {
-            return Poll::Ready(Err(RecycleError::message("buffer too long")));
+            return Err(RecycleError::message("buffer too long"));
         }
         buffer.clear();
-        Poll::Ready(Ok(()))
+        Ok(())
     }
 }

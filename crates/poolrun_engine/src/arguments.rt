@@ -1,6 +1,6 @@
 //! The words that the program is started with.
 use crate::counting::Crowd;
-use crate::script::parse_number;
+use pool_scripts::parse_number;
 use std::env::Args;
 
 /// What the program is to do.

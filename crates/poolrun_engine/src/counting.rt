@@ -1,23 +1,13 @@
 //! Threads that count by the objects of one managed pool.
-ghost use Rattle.deadpool.specs.Opens.{Opens};
 
-mod counters;
-
-use crate::fault::Fault;
-use crate::lines::write_out;
-use crate::script::parse_number;
-use crate::texts::write_status;
-use counters::{CounterPool, NoTime, Zeros};
-use deadpool::managed::PoolBuilder;
-use futures::executor::block_on;
+use deadpool::NoTime;
+use deadpool::managed::{Ledgers, Metrics, NoHook, PoolBuilder, RecycleResult};
+use deadpool_threads::{Host, Plain, PlainManager, PlainPool, PoolUser, Waiter, lend_among};
+use pool_scripts::{Fault, parse_number, write_out, write_status};
+use std::alloc::AllocError;
 use std::env::Args;
 use std::io::Write;
-use std::marker::Brand;
-use std::random::RandomSource;
 use std::sync::Wait;
-use std::sync::ledger::{Blank, Ledger};
-use std::thread;
-use std::thread::{JoinHandle, Threads};
 
 const MOST_OBJECTS: usize = 3;
 
@@ -52,116 +42,89 @@ impl Crowd {
     }
 }
 
+/// Creates zeros, and recycles every number as it is.
+#[derive(Drop)]
+struct Zeros;
+
+impl PlainManager for Zeros {
+    type Type = u64;
+
+    type Error = ();
+
+    fn create(&self) -> Result<u64, ()> {
+        Ok(0)
+    }
+
+    fn recycle(&self, _number: &mut u64, _metrics: &Metrics) -> RecycleResult<()> {
+        Ok(())
+    }
+}
+
+type CounterPool<R, L> = PlainPool<Plain<Zeros>, R, L>;
+
 /// Has the threads count, and writes how the pool stands at the end, and what its objects have come to.
-pub fn count<R, W: Write>(rt: &R, crowd: Crowd, writer: &mut W) -> Result<(), Fault>
-where
-    R: Wait + Threads + RandomSource + AllocGlobal + Drop + Copy + Send + Sync + 'static,
-{
-    let going = Blank::new(u64::MAX);
-    let creations = Blank::new(u64::MAX);
-    let outside = Blank::new(u64::MAX);
-    let text = counted::<R, Brand, Brand, Brand>(*rt, crowd, going, creations, outside)?;
-    write_out(writer, text.as_str())
-}
-
-// The lines that are written at the end.
-fn counted<R, G, N, O>(
-    rt: R,
-    crowd: Crowd,
-    going: Blank,
-    creations: Blank,
-    outside: Blank,
-) -> Result<String, Fault>
-where
-    R: Wait + Threads + RandomSource + AllocGlobal + Drop + Copy + Send + Sync + 'static,
-    G: Ledger + Send + Sync + 'static,
-    N: Ledger + Send + Sync + 'static,
-    O: Ledger + Send + Sync + 'static,
-    requires going { Opens G.Ledger going }
-    requires creations { Opens N.Ledger creations }
-    requires outside { Opens O.Ledger outside }
-{
-    let builder = PoolBuilder::new(rt.alloc(), Zeros, NoTime).max_size(MOST_OBJECTS);
-    let built = builder.build(going, creations, outside, rt);
-    let pool: CounterPool<R, G, N, O> = built.map_err(|_| Fault::OutOfMemory)?;
-    run_all(rt, &pool, crowd)?;
-    let mut text = String::new(rt.alloc());
-    write_status(&mut text, pool.status())?;
-    let total = total_of(&pool)?;
-    write!(&mut text, "\ntotal {total}\n")?;
-    Ok(text)
-}
-
-// Runs the threads to their end. If one cannot be made, those before it still come to theirs.
-fn run_all<R, G, N, O>(rt: R, pool: &CounterPool<R, G, N, O>, crowd: Crowd) -> Result<(), Fault>
-where
-    R: Wait + Threads + RandomSource + AllocGlobal + Drop + Copy + Send + Sync + 'static,
-    G: Ledger + Send + Sync + 'static,
-    N: Ledger + Send + Sync + 'static,
-    O: Ledger + Send + Sync + 'static,
-{
-    let mut threads = Vec::new(rt.alloc());
-    let mut ending = Ok(());
-    for _thread in 0..crowd.threads {
-        ending = start(rt, pool, crowd.times, &mut threads);
-        if ending.is_err() {
-            break;
-        }
-    }
-    for thread in threads {
-        ending = ending.and(thread.join(&rt));
-    }
-    ending
-}
-
-type Running = JoinHandle<Result<(), Fault>>;
-
-// Starts one more thread.
-fn start<R, G, N, O>(
-    rt: R,
-    pool: &CounterPool<R, G, N, O>,
-    times: u64,
-    threads: &mut Vec<Running>,
-) -> Result<(), Fault>
-where
-    R: Wait + Threads + RandomSource + AllocGlobal + Drop + Copy + Send + Sync + 'static,
-    G: Ledger + Send + Sync + 'static,
-    N: Ledger + Send + Sync + 'static,
-    O: Ledger + Send + Sync + 'static,
-{
-    threads.reserve(1)?;
-    let pool = pool.clone()?;
-    let Ok(thread) = thread::spawn(&rt, move || add_ones(&rt, &pool, times)) else {
+pub fn count<R: Host, W: Write>(rt: &R, crowd: Crowd, writer: &mut W) -> Result<(), Fault> {
+    let builder = PoolBuilder::new(rt.alloc(), Plain(Zeros), NoTime).max_size(MOST_OBJECTS);
+    let workers = workers_of(rt, crowd)?;
+    let Ok((endings, text)) = lend_among(builder, *rt, workers, Telling) else {
         return Err(Fault::OutOfMemory);
     };
-    threads.push(thread).map_err(|_| Fault::OutOfMemory)
+    for ending in endings {
+        ending?;
+    }
+    write_out(writer, text?.as_str())
+}
+
+// One for each thread.
+fn workers_of<R: AllocGlobal>(rt: &R, crowd: Crowd) -> Result<Vec<AddingOnes>, AllocError> {
+    let mut workers = Vec::new(rt.alloc());
+    for _thread in 0..crowd.threads {
+        workers.push(AddingOnes { times: crowd.times })?;
+    }
+    Ok(workers)
 }
 
 // Gets an object so often, and adds one to it each time. A get is refused only if there is no memory for it.
-fn add_ones<R, G, N, O>(rt: &R, pool: &CounterPool<R, G, N, O>, times: u64) -> Result<(), Fault>
-where
-    R: Wait + RandomSource + AllocGlobal + Drop,
-    G: Ledger,
-    N: Ledger,
-    O: Ledger,
-{
-    for _time in 0..times {
-        let Ok(Ok(mut number)) = block_on(rt, pool.get()) else {
+#[derive(Drop)]
+struct AddingOnes {
+    times: u64,
+}
+
+impl<R: Host> PoolUser<Plain<Zeros>, NoHook, NoHook, NoTime, R> for AddingOnes {
+    type Output = Result<(), Fault>;
+
+    fn run<L: Ledgers>(self, rt: &R, pool: &CounterPool<R, L>) -> Result<(), Fault> {
+        let Ok(mut waiter) = Waiter::new(rt) else {
             return Err(Fault::OutOfMemory);
         };
-        *number = number.saturating_add(1);
+        for _time in 0..self.times {
+            let Ok(mut number) = waiter.get(rt, pool) else {
+                return Err(Fault::OutOfMemory);
+            };
+            *number = number.saturating_add(1);
+        }
+        Ok(())
     }
-    Ok(())
+}
+
+// Gives the lines that are written at the end.
+#[derive(Drop)]
+struct Telling;
+
+impl<R: Host> PoolUser<Plain<Zeros>, NoHook, NoHook, NoTime, R> for Telling {
+    type Output = Result<String, AllocError>;
+
+    fn run<L: Ledgers>(self, rt: &R, pool: &CounterPool<R, L>) -> Result<String, AllocError> {
+        let mut text = String::new(rt.alloc());
+        write_status(&mut text, pool.status())?;
+        let total = total_of(pool)?;
+        write!(&mut text, "\ntotal {total}\n")?;
+        Ok(text)
+    }
 }
 
 // The sum of the idle numbers, which leave the pool.
-fn total_of<R, G, N, O>(pool: &CounterPool<R, G, N, O>) -> Result<u64, Fault>
-where
-    R: Wait + Drop,
-    G: Ledger,
-    N: Ledger,
-    O: Ledger,
-{
+fn total_of<R: Wait + Drop, L: Ledgers>(pool: &CounterPool<R, L>) -> Result<u64, AllocError> {
     let mut total = 0u64;
     for number in pool.retain(|_number, _metrics| false)?.removed {
         total = total.saturating_add(number);

@@ -2,15 +2,12 @@
 use crate::arguments::Task;
 use crate::buffers::{builder_of, fill_buffers};
 use crate::counting::count;
-use crate::engine::play;
-use crate::fault::Fault;
+use deadpool_threads::Host;
+use pool_scripts::{Fault, play};
 use std::env;
 use std::io::{BufRead, Write};
 use std::process::ExitCode;
-use std::random::RandomSource;
 use std::rt::Env;
-use std::sync::Wait;
-use std::thread::Threads;
 
 /// Does what the arguments say. With none it plays the script that the reader gives, and writes the replies to the writer.
 /// With `threads N M` it reads nothing: in N threads, M times each, one is added to an object of a pool, and the writer
@@ -26,8 +23,7 @@ pub fn run<R, B: BufRead, W: Write, E: Write>(
     errors: &mut E,
 ) -> ExitCode
 where
-    R: Env + RandomSource + AllocGlobal,
-    R: Wait + Threads + Drop + Copy + Send + Sync + 'static,
+    R: Host + Env,
 {
     match obey(rt, reader, writer) {
         Ok(()) => ExitCode::SUCCESS,
@@ -43,8 +39,7 @@ where
 // Does what the arguments after the program's name say. With others than it knows, nothing is read.
 fn obey<R, B: BufRead, W: Write>(rt: &R, reader: &mut B, writer: &mut W) -> Result<(), Fault>
 where
-    R: Env + RandomSource + AllocGlobal,
-    R: Wait + Threads + Drop + Copy + Send + Sync + 'static,
+    R: Host + Env,
 {
     let mut arguments = env::args(rt).map_err(Fault::from_arguments)?;
     let _program = arguments.next();

@@ -1,4 +1,5 @@
 mod backend;
+mod bad_bytes;
 mod buffers;
 mod cancelled;
 mod configuration;
@@ -7,8 +8,10 @@ mod faults;
 mod first_path;
 mod limits;
 mod long;
+mod million;
 mod min_idle;
 mod own_steps;
+mod player;
 mod preparation;
 mod program;
 mod rare_replies;
@@ -16,8 +19,10 @@ mod refused;
 mod started;
 mod streams;
 mod timeouts;
+mod told;
 mod unmanaged;
 
+use pool_scripts::expect_script;
 use poolrun_engine::Fault;
 use std::alloc::{AllocError, Global};
 use std::fmt::Debug;
@@ -25,12 +30,12 @@ use std::random::RandomSource;
 use std::str;
 use std::test::Fail;
 
-/// A script by lines, each with its reply behind ` = `.
+/// A script by lines, each with its reply behind ` => `.
 pub type Lines = &'static str;
 
-// A line of a script and its reply.
-fn parts_of(line: &str) -> (&str, &str) {
-    line.split_once(" = ").unwrap_or((line, ""))
+/// A line of a script and its reply.
+pub fn parts_of(line: &str) -> (&str, &str) {
+    line.split_once(" => ").unwrap_or((line, ""))
 }
 
 /// The script's lines.
@@ -53,11 +58,11 @@ pub fn replies_of(alloc: Global, lines: &str) -> Result<String, AllocError> {
     Ok(text)
 }
 
-/// What a script writes, and how its run ends.
-pub fn play<R: RandomSource + AllocGlobal>(
-    rt: &R,
-    script: &[u8],
-) -> Result<(String, Result<(), Fault>), Fail> {
+/// What a run writes, and how it ends.
+pub type Run = (String, Result<(), Fault>);
+
+/// Plays a script.
+pub fn play<R: RandomSource + AllocGlobal>(rt: &R, script: &[u8]) -> Result<Run, Fail> {
     let mut reader = script;
     let mut written = Vec::new(rt.alloc());
     let ending = poolrun_engine::play(rt, &mut reader, &mut written);
@@ -107,12 +112,13 @@ pub fn comes_to<R: RandomSource + AllocGlobal, A: Debug + Drop>(
     agree(at, written.as_bytes(), ending, replies.as_bytes(), want)
 }
 
-/// Plays each script, and compares what it writes. The scripts are parted by empty lines, and the first line of each
-/// is its name.
+/// Plays each script twice: by the player, which says at which line another reply comes, and as the program does, through
+/// a reader and a writer. The scripts are parted by empty lines, and the first line of each is its name.
 pub fn replies_as_written<R: RandomSource + AllocGlobal>(
     rt: &R,
     scripts: &str,
 ) -> Result<(), Fail> {
+    expect_script(rt, scripts)?;
     for script in scripts.split("\n\n") {
         let (name, lines) = script.split_once('\n').unwrap_or((script, ""));
         has_its_replies(rt, name, lines)?;

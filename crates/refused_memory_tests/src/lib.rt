@@ -1,4 +1,4 @@
-//! Tests of pools, scripts and configurations that find no memory.
+//! Tests of pools at their worst.
 #![tactic(auto)]
 
 #[cfg(test)]

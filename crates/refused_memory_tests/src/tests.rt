@@ -1,11 +1,3 @@
-mod calls;
-mod configurations;
-mod managed_player;
-mod player;
-mod shared_pools;
-mod told;
-mod tracked;
-mod trials;
-mod unmanaged_player;
-mod unmanaged_shared_pools;
-mod words;
+//! Pools whose managers and hooks do their worst, and pools and configurations that find no memory.
+mod hostile;
+mod scarce;

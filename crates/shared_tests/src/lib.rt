@@ -1,4 +1,4 @@
-//! Tests of the shared managed pool on one thread.
+//! Tests of the shared managed pool, and the examples of the READMEs.
 #![tactic(auto)]
 
 #[cfg(test)]

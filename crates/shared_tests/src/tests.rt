@@ -1,12 +1,5 @@
-//! The shared managed pool, with one task a get.
-mod builds;
-mod calls;
-mod deadlines;
-mod handles;
-mod hooks;
-mod limits;
-mod outside;
-mod play;
-mod wakes;
-mod world;
-mod wrappers;
+//! The shared managed pool by steps, by scripts and between threads, and the examples of the READMEs.
+mod examples;
+mod replays;
+mod steps;
+mod threads;

@@ -1,26 +1,13 @@
 //! A pool of connections as the moves see it.
 use crate::question::{Question, ask};
 use crate::reply::Reply;
-use deadpool::managed::{Manager, NoHook, Object, ObjectId, Pool, PoolError};
-use deadpool::{Clock, Moment, Status};
+use deadpool::managed::{Ledgers, Manager, NoHook, Object, ObjectId, Pool, PoolError};
+use deadpool::{NoTime, Status};
 use deadpool_sqlite::{GetConnection, PooledConnection, Source, SqliteManager, poll_connection};
 use futures::task::{Context, Doorbell, Poll, Solo};
 use sqlite::Error;
 use std::random::RandomSource;
 use std::sync::Wait;
-use std::sync::ledger::Ledger;
-
-/// Nobody asks for the time, as no timeout is set.
-#[derive(Drop)]
-pub struct NoTime;
-
-impl Clock for NoTime {
-    fn now(&self) -> Moment {
-        Moment(0)
-    }
-
-    fn wake_at(&self, _at: Moment, _cx: &mut Context<'_>) {}
-}
 
 /// A pool of connections, whatever its source, its ledgers and its runtime. So a move is proved for any, and not for the
 /// whole pool.
@@ -46,20 +33,18 @@ pub trait Connections: Drop {
     fn take_and_close(out: Self::Out);
 }
 
-impl<B, R, G, N, O> Connections for Pool<SqliteManager<B>, NoHook, NoHook, NoTime, R, G, N, O>
+impl<B, R, L> Connections for Pool<SqliteManager<B>, NoHook, NoHook, NoTime, R, L>
 where
     B: Source,
     R: Wait + Drop,
-    G: Ledger,
-    N: Ledger,
-    O: Ledger,
+    L: Ledgers,
 {
-    type Out = PooledConnection<B, NoTime, R, G, N, O>;
+    type Out = PooledConnection<B, NoTime, R, L>;
 
     fn get<H: RandomSource + AllocGlobal>(
         &self,
         rt: &H,
-    ) -> Option<Poll<Result<PooledConnection<B, NoTime, R, G, N, O>, PoolError<Error>>>> {
+    ) -> Option<Poll<Result<PooledConnection<B, NoTime, R, L>, PoolError<Error>>>> {
         let Ok(task) = Solo::new(rt, Doorbell::spinning()) else {
             return None;
         };
@@ -71,25 +56,25 @@ where
         Pool::status(self)
     }
 
-    fn past(out: &PooledConnection<B, NoTime, R, G, N, O>) -> (ObjectId, usize) {
+    fn past(out: &PooledConnection<B, NoTime, R, L>) -> (ObjectId, usize) {
         past_of(out)
     }
 
-    fn answer(out: &mut PooledConnection<B, NoTime, R, G, N, O>, question: Question<'_>) -> Reply {
+    fn answer(out: &mut PooledConnection<B, NoTime, R, L>, question: Question<'_>) -> Reply {
         ask(out, question)
     }
 
     // A drop closes a connection, and gives the lock of its file back.
-    fn take_and_close(out: PooledConnection<B, NoTime, R, G, N, O>) {
+    fn take_and_close(out: PooledConnection<B, NoTime, R, L>) {
         drop(Object::take(out));
     }
 }
 
 // What comes of the first poll of a get.
-fn poll_once<B: Source, R: Wait + Drop, G: Ledger, N: Ledger, O: Ledger>(
+fn poll_once<B: Source, R: Wait + Drop, L: Ledgers>(
     task: &Solo,
-    get: &mut GetConnection<B, NoTime, R, G, N, O>,
-) -> Poll<Result<PooledConnection<B, NoTime, R, G, N, O>, PoolError<Error>>> {
+    get: &mut GetConnection<B, NoTime, R, L>,
+) -> Poll<Result<PooledConnection<B, NoTime, R, L>, PoolError<Error>>> {
     let mut cx = task.begin();
     let polled = poll_connection(get, &mut cx);
     cx.cancel();
@@ -97,15 +82,11 @@ fn poll_once<B: Source, R: Wait + Drop, G: Ledger, N: Ledger, O: Ledger>(
 }
 
 // The number of an object of any manager, and how often it was recycled.
-fn past_of<M, R, G, N, O>(
-    object: &Object<M, NoHook, NoHook, NoTime, R, G, N, O>,
-) -> (ObjectId, usize)
+fn past_of<M, R, L>(object: &Object<M, NoHook, NoHook, NoTime, R, L>) -> (ObjectId, usize)
 where
-    M: Manager + Drop,
+    M: Manager,
     R: Wait + Drop,
-    G: Ledger,
-    N: Ledger,
-    O: Ledger,
+    L: Ledgers,
 {
     (Object::id(object), Object::metrics(object).recycle_count)
 }

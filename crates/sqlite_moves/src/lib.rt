@@ -10,7 +10,7 @@ mod script;
 mod table;
 
 pub use change::Change;
-pub use connections::{Connections, NoTime};
+pub use connections::Connections;
 pub use moves::Move;
 pub use reply::Reply;
 pub use script::{PROMPT, parse};

@@ -1,18 +1,18 @@
 //! Builds a pool, and plays moves over it.
-ghost use Rattle.deadpool.specs.Opens.{Opens};
+
+ghost use Rattle.std.specs.Prelude.{◌≡◌};
 
 use crate::fault::Fault;
 use crate::run::{Run, make_moves};
-use deadpool::managed::{Manager, NoHook, Pool, PoolBuilder};
+use deadpool::NoTime;
+use deadpool::managed::{Blanks, Ledgers, Manager, NoHook, Pool, PoolBuilder};
 use deadpool_sqlite::{RecyclingMethod, Source, SqliteManager, SqlitePool};
-use sqlite_moves::NoTime;
 use std::alloc::AllocError;
 use std::env::Env;
 use std::fs::Files;
 use std::marker::Brand;
 use std::random::RandomSource;
 use std::sync::Wait;
-use std::sync::ledger::{Blank, Ledger};
 
 /// What a runtime of a run may do.
 pub trait Host: Wait + RandomSource + AllocGlobal + Env + Files + Drop + Copy + Send + Sync {}
@@ -51,101 +51,69 @@ pub fn play<B: Source + Send + Sync, R: Host>(
 where
     B::Storage: Send,
 {
-    let going = Blank::new(u64::MAX);
-    let creations = Blank::new(u64::MAX);
-    let outside = Blank::new(u64::MAX);
+    let blanks = Blanks::new();
     let mut played = String::new(rt.alloc());
-    over::<B, R, Brand, Brand, Brand>(
-        rt,
-        source,
-        other,
-        opened,
-        run,
-        &mut played,
-        going,
-        creations,
-        outside,
-    )?;
+    over::<B, R, Brand>(rt, source, other, opened, run, &mut played, blanks)?;
     Ok(played)
 }
 
 // Makes the moves over a new pool.
-fn over<B, R, G, N, O>(
+fn over<B, R, L>(
     rt: R,
     source: B,
     other: B,
     opened: Opened,
     run: &Run,
     played: &mut String,
-    going: Blank,
-    creations: Blank,
-    outside: Blank,
+    blanks: Blanks,
 ) -> Result<(), Fault>
 where
     B: Source + Send + Sync,
     B::Storage: Send,
     R: Host,
-    G: Ledger,
-    N: Ledger,
-    O: Ledger,
-    requires going { Opens G.Ledger going }
-    requires creations { Opens N.Ledger creations }
-    requires outside { Opens O.Ledger outside }
+    L: Ledgers,
+    requires { blanks ≡ L.names }
 {
     let alone = manager(&rt, other, opened)?;
-    let pool = open::<B, R, G, N, O>(rt, source, opened, going, creations, outside)?;
+    let pool = open::<B, R, L>(rt, source, opened, blanks)?;
     Ok(make_moves(&rt, pool, alone, run, played)?)
 }
 
 // Opens a pool over this source.
-fn open<B, R, G, N, O>(
+fn open<B, R, L>(
     rt: R,
     source: B,
     opened: Opened,
-    going: Blank,
-    creations: Blank,
-    outside: Blank,
-) -> Result<SqlitePool<B, NoTime, R, G, N, O>, Fault>
+    blanks: Blanks,
+) -> Result<SqlitePool<B, NoTime, R, L>, Fault>
 where
     B: Source + Send + Sync,
     B::Storage: Send,
     R: Host,
-    G: Ledger,
-    N: Ledger,
-    O: Ledger,
-    requires going { Opens G.Ledger going }
-    requires creations { Opens N.Ledger creations }
-    requires outside { Opens O.Ledger outside }
+    L: Ledgers,
+    requires { blanks ≡ L.names }
 {
     let manager = manager(&rt, source, opened)?;
-    build(rt, manager, opened.max_size, going, creations, outside)
+    build(rt, manager, opened.max_size, blanks)
 }
 
 // Builds a pool of any manager. A blank opens each of its ledgers.
-fn build<M, R, G, N, O>(
+fn build<M, R, L>(
     rt: R,
     manager: M,
     max_size: usize,
-    going: Blank,
-    creations: Blank,
-    outside: Blank,
-) -> Result<Pool<M, NoHook, NoHook, NoTime, R, G, N, O>, Fault>
+    blanks: Blanks,
+) -> Result<Pool<M, NoHook, NoHook, NoTime, R, L>, Fault>
 where
-    M: Manager + Drop + Send + Sync,
+    M: Manager + Send + Sync,
     M::Type: Send,
     M::Error: Send,
     M::Creating: Send,
     M::Recycling: Send,
     R: Host,
-    G: Ledger,
-    N: Ledger,
-    O: Ledger,
-    requires going { Opens G.Ledger going }
-    requires creations { Opens N.Ledger creations }
-    requires outside { Opens O.Ledger outside }
+    L: Ledgers,
+    requires { blanks ≡ L.names }
 {
     let builder = PoolBuilder::new(rt.alloc(), manager, NoTime).max_size(max_size);
-    builder
-        .build(going, creations, outside, rt)
-        .map_err(|_| Fault::OutOfMemory)
+    builder.build(blanks, rt).map_err(|_| Fault::OutOfMemory)
 }

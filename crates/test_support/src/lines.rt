@@ -1,8 +1,9 @@
 //! Scripts by lines, and what comes of a line that finds no memory.
 use std::alloc::{AllocError, Global};
 
-/// A script, of which one line stands below the other.
-pub type Script = &'static str;
+/// Scripts as a text: one line stands below the other, and empty lines part the scripts. One that begins with `#` is a
+/// comment.
+pub type Scripts = &'static str;
 
 /// The party that a line advances, polls or cancels.
 pub fn party_of(line: &str) -> Option<&str> {
@@ -18,11 +19,13 @@ pub fn is_cancel(line: &str) -> bool {
     line.starts_with("cancel ")
 }
 
-/// The lines of a script.
-pub fn lines_of(alloc: Global, script: Script) -> Result<Vec<&'static str>, AllocError> {
+/// The lines of a script, without its comments.
+pub fn lines_of(alloc: Global, script: &'static str) -> Result<Vec<&'static str>, AllocError> {
     let mut lines = Vec::new(alloc);
-    for line in script.split('\n') {
-        lines.push(line)?;
+    for line in script.lines() {
+        if !line.starts_with('#') {
+            lines.push(line)?;
+        }
     }
     Ok(lines)
 }

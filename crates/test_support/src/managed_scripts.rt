@@ -1,11 +1,10 @@
 //! Worked scripts over a managed pool.
-use crate::lines::Script;
+use crate::lines::Scripts;
 
-/// Each with its name.
-pub const SCRIPTS: [(&'static str, Script); 24] = [
-    (
-        "three gets and three returns",
-        "pool 16 fifo none 0
+/// Parted by empty lines. The first line of each is its name.
+pub const SCRIPTS: Scripts = "\
+# three gets and three returns
+pool 16 fifo none 0
 start
 poll 0 0
 start
@@ -14,11 +13,10 @@ start
 poll 2 0
 back 0
 back 1
-back 2",
-    ),
-    (
-        "takes",
-        "pool 2 fifo none 0
+back 2
+
+# takes
+pool 2 fifo none 0
 start
 poll 0 0
 start
@@ -30,11 +28,10 @@ poll 2 0
 start
 poll 3 0
 back 2
-back 3",
-    ),
-    (
-        "a shrink and a growth with objects out",
-        "pool 2 lifo none 0
+back 3
+
+# a shrink and a growth with objects out
+pool 2 lifo none 0
 start
 poll 0 0
 start 0 - -
@@ -47,11 +44,10 @@ poll 2 0
 put 2 9
 back 2
 back 0
-back 1",
-    ),
-    (
-        "a shrink under a get that has no object",
-        "pool 1 fifo none 0
+back 1
+
+# a shrink under a get that has no object
+pool 1 fifo none 0
 start
 poll 0 0
 resize 0
@@ -60,11 +56,10 @@ start 0 - -
 poll 1 0
 resize 5
 start 0 - -
-poll 2 0",
-    ),
-    (
-        "returns above the limit",
-        "pool 2 fifo none 0
+poll 2 0
+
+# returns above the limit
+pool 2 fifo none 0
 start
 poll 0 0
 start
@@ -72,30 +67,27 @@ poll 1 0
 resize 0
 resize 1
 back 0
-back 1",
-    ),
-    (
-        "a pool without a place",
-        "pool 0 fifo none 0
+back 1
+
+# a pool without a place
+pool 0 fifo none 0
 start
 poll 0 0
 resize 1
 poll 0 0
-back 0",
-    ),
-    (
-        "a growth after a shrink to nothing",
-        "pool 1 fifo none 0
+back 0
+
+# a growth after a shrink to nothing
+pool 1 fifo none 0
 start
 poll 0 0
 resize 2
 resize 0
 resize 5
-back 0",
-    ),
-    (
-        "a refused creation",
-        "pool 1 fifo none 0
+back 0
+
+# a refused creation
+pool 1 fifo none 0
 answer create pending refuse
 start
 poll 0 0
@@ -103,11 +95,10 @@ start
 poll 1 0
 poll 0 0
 poll 1 0
-back 0",
-    ),
-    (
-        "a cancelled get that was granted a place",
-        "pool 1 fifo none 0
+back 0
+
+# a cancelled get that was granted a place
+pool 1 fifo none 0
 start
 poll 0 0
 start
@@ -116,11 +107,10 @@ start
 poll 2 0
 back 0
 cancel 1
-poll 2 0",
-    ),
-    (
-        "a close",
-        "pool 1 fifo none 0
+poll 2 0
+
+# a close
+pool 1 fifo none 0
 start
 poll 0 0
 start
@@ -130,11 +120,10 @@ poll 1 0
 start
 poll 2 0
 back 0
-resize 16",
-    ),
-    (
-        "a hook that refuses what was recycled",
-        "pool 1 fifo none 0
+resize 16
+
+# a hook that refuses what was recycled
+pool 1 fifo none 0
 answer pre ok refuse ok refuse
 start
 poll 0 0
@@ -150,11 +139,10 @@ poll 3 0
 back 1
 start
 poll 4 0
-back 2",
-    ),
-    (
-        "idle objects that are given up in one poll",
-        "pool 3 fifo none 0
+back 2
+
+# idle objects that are given up in one poll
+pool 3 fifo none 0
 start
 poll 0 0
 start
@@ -167,11 +155,10 @@ answer recycle pending refuse refuse refuse
 start
 poll 3 0
 back 2
-poll 3 0",
-    ),
-    (
-        "a get that goes on after a close",
-        "pool 3 fifo none 0
+poll 3 0
+
+# a get that goes on after a close
+pool 3 fifo none 0
 start
 poll 0 0
 start
@@ -188,11 +175,10 @@ advance 3 0
 close
 poll 3 0
 back 3
-back 2",
-    ),
-    (
-        "a hook that refuses new objects",
-        "pool 3 fifo none 0
+back 2
+
+# a hook that refuses new objects
+pool 3 fifo none 0
 answer postcreate ok refuse ok refuse
 start
 poll 0 0
@@ -203,19 +189,17 @@ poll 2 0
 start
 poll 3 0
 start
-poll 4 0",
-    ),
-    (
-        "the last number",
-        "pool 2 fifo none 18446744073709551614
+poll 4 0
+
+# the last number
+pool 2 fifo none 18446744073709551614
 start
 poll 0 0
 start
-poll 1 0",
-    ),
-    (
-        "a retain",
-        "pool 4 lifo none 0
+poll 1 0
+
+# a retain
+pool 4 lifo none 0
 start
 poll 0 0
 start
@@ -233,18 +217,16 @@ start
 poll 4 0
 resize 1
 back 3
-retain",
-    ),
-    (
-        "timeouts of zero",
-        "pool 16 fifo clock 0
+retain
+
+# timeouts of zero
+pool 16 fifo clock 0
 answer create pending
 start 0 0 0
-poll 0 0",
-    ),
-    (
-        "timeouts without a runtime",
-        "pool 1 fifo none 0
+poll 0 0
+
+# timeouts without a runtime
+pool 1 fifo none 0
 start 5 - -
 poll 0 0
 start - 5 -
@@ -253,31 +235,28 @@ start - - 5
 poll 2 0
 back 0
 start - - 5
-poll 3 0",
-    ),
-    (
-        "a wait that ends",
-        "pool 1 fifo clock 0
+poll 3 0
+
+# a wait that ends
+pool 1 fifo clock 0
 start
 poll 0 0
 start 10 - -
 poll 1 0
 poll 1 9
-poll 1 10",
-    ),
-    (
-        "a place at the deadline",
-        "pool 1 fifo clock 0
+poll 1 10
+
+# a place at the deadline
+pool 1 fifo clock 0
 start
 poll 0 0
 start 10 - -
 poll 1 0
 back 0
-poll 1 10",
-    ),
-    (
-        "the last handle",
-        "pool 1 fifo none 0
+poll 1 10
+
+# the last handle
+pool 1 fifo none 0
 start
 poll 0 0
 clone
@@ -287,11 +266,10 @@ upgrade
 back 0
 start
 resize 2
-retain",
-    ),
-    (
-        "a growth that serves the earliest first",
-        "pool 2 fifo none 0
+retain
+
+# a growth that serves the earliest first
+pool 2 fifo none 0
 start
 poll 0 0
 start
@@ -305,11 +283,10 @@ resize 0
 resize 2
 poll 3 0
 poll 2 0
-poll 3 0",
-    ),
-    (
-        "a least number of idle objects",
-        "pool 4 fifo none 0 2
+poll 3 0
+
+# a least number of idle objects
+pool 4 fifo none 0 2
 start
 poll 0 0
 start
@@ -327,11 +304,10 @@ back 2
 back 3
 retain
 resize 1
-close",
-    ),
-    (
-        "nine that wait",
-        "pool 0 fifo none 0
+close
+
+# nine that wait
+pool 0 fifo none 0
 start
 start
 start
@@ -354,6 +330,5 @@ cancel 6
 resize 9
 poll 7 0
 poll 8 0
-poll 0 0",
-    ),
-];
+poll 0 0
+";

@@ -1,11 +1,10 @@
 //! Worked scripts over an unmanaged pool.
-use crate::lines::Script;
+use crate::lines::Scripts;
 
-/// Each with its name.
-pub const SCRIPTS: [(&'static str, Script); 6] = [
-    (
-        "adds that wait",
-        "unmanaged 2 none
+/// Parted by empty lines. The first line of each is its name.
+pub const SCRIPTS: Scripts = "\
+# adds that wait
+unmanaged 2 none
 tryadd 1
 tryadd 2
 tryadd 3
@@ -19,11 +18,10 @@ poll 1 0
 tryget
 take 3
 close
-poll 1 0",
-    ),
-    (
-        "a get that was granted an object",
-        "unmanaged 1 none
+poll 1 0
+
+# a get that was granted an object
+unmanaged 1 none
 get
 poll 0 0
 tryadd 7
@@ -31,19 +29,17 @@ tryget
 clone
 drop
 drop
-poll 0 0",
-    ),
-    (
-        "timeouts without a runtime",
-        "unmanaged 2 none
+poll 0 0
+
+# timeouts without a runtime
+unmanaged 2 none
 get 1000000
 poll 0 0
 get 0
-poll 1 0",
-    ),
-    (
-        "a wait that ends",
-        "unmanaged 2 clock
+poll 1 0
+
+# a wait that ends
+unmanaged 2 clock
 get 1000000
 poll 0 0
 poll 0 999999
@@ -51,11 +47,10 @@ poll 0 1000000
 tryadd 5
 get 1000000
 poll 1 0
-back 0",
-    ),
-    (
-        "gets and adds that wait",
-        "unmanaged 1 none
+back 0
+
+# gets and adds that wait
+unmanaged 1 none
 get
 get
 get
@@ -74,11 +69,10 @@ take 0
 poll 4 0
 poll 1 0
 back 1
-poll 0 0",
-    ),
-    (
-        "the last handle",
-        "unmanaged 1 none
+poll 0 0
+
+# the last handle
+unmanaged 1 none
 tryadd 1
 tryget
 add 2
@@ -87,6 +81,5 @@ drop
 upgrade
 back 0
 get
-tryadd 3",
-    ),
-];
+tryadd 3
+";

@@ -1,4 +1,4 @@
-//! Tests of the managed pool on one thread, by the moves of a trial.
+//! Tests of the managed pool on one thread.
 #![tactic(auto)]
 
 #[cfg(test)]

@@ -1,8 +1,21 @@
-//! Managed pools on one thread, by the moves of a trial.
+//! Managed pools on one thread, by scripts, by the moves of a trial, and by single steps.
+mod answering;
 mod calls;
+mod cores;
 mod crowds;
 mod desks;
+mod detaches;
+mod drops;
+mod drops_of_gets;
 mod gets;
-mod quiet;
+mod hooks;
+mod managers;
+mod metrics;
+mod object_ids;
+mod polls;
+mod retain;
 mod runs;
 mod timeouts;
+mod told;
+mod wakes;
+mod watched;

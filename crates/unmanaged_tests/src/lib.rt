@@ -1,4 +1,4 @@
-//! Tests of the unmanaged pool on one thread.
+//! Tests of the unmanaged pool.
 #![tactic(auto)]
 
 #[cfg(test)]

@@ -32,7 +32,7 @@ use std::marker::Model;
 /// A managed pool on one thread, with its parties and the objects that are out. The clock of its builder is kept and not
 /// asked: each move says its moment.
 #[derive(Drop)]
-pub struct Trial<M: Manager + Drop, F: SyncHook<M> + Drop, A: AsyncHook<M> + Drop, C: Drop> {
+pub struct Trial<M: Manager, F: SyncHook<M>, A: AsyncHook<M>, C: Drop> {
     core: Core<M::Type>,
     environment: Environment<M, F, A>,
     timeouts: Timeouts,
@@ -46,8 +46,7 @@ pub struct Trial<M: Manager + Drop, F: SyncHook<M> + Drop, A: AsyncHook<M> + Dro
     alloc: Global,
 }
 
-impl<M: Manager + Drop, F: SyncHook<M> + Drop, A: AsyncHook<M> + Drop, C: Drop> Model
-    for Trial<M, F, A, C> {
+impl<M: Manager, F: SyncHook<M>, A: AsyncHook<M>, C: Drop> Model for Trial<M, F, A, C> {
     ghost use Rattle.deadpool.specs.Replay.{Replay};
 
     ghost Value = { Replay M M.Type M.Creating M.Recycling A.State F A };
@@ -67,7 +66,7 @@ impl<M: Manager + Drop, F: SyncHook<M> + Drop, A: AsyncHook<M> + Drop, C: Drop> 
     } };
 }
 
-impl<M: Manager + Drop, F: SyncHook<M> + Drop, A: AsyncHook<M> + Drop, C: Drop> Trial<M, F, A, C> {
+impl<M: Manager, F: SyncHook<M>, A: AsyncHook<M>, C: Drop> Trial<M, F, A, C> {
     /// A new pool, with room for so many parties, whose first object gets this number. If it is not made, the builder
     /// is dropped with all that it has.
     pub fn new(
@@ -375,9 +374,9 @@ fn advance_get<M, F, A, D>(
     cx: &mut Context<'_>,
 ) -> Option<Turn<M::Type, M::Error>>
 where
-    M: Manager + Drop,
-    F: SyncHook<M> + Drop,
-    A: AsyncHook<M> + Drop,
+    M: Manager,
+    F: SyncHook<M>,
+    A: AsyncHook<M>,
     D: Desk<M::Type>,
     requires { (holding : Holding) → D.holds desk.old holding }
     ensures advanced { AdvancesGet D.Desk (may M.Manager F.SyncHook A.AsyncHook environment.now.manager) environment.now.runtime environment.now.hooks now get.old desk.old get.new desk.new result }
@@ -409,7 +408,7 @@ fn hand_out<T: Drop, E>(out: &mut Vec<Slot<T>>, turn: Turn<T, E>) -> Reply<T, E>
 }
 
 // Says what became of an object that came back. One that is given up is detached.
-fn after_back<M: Manager + Drop, F: SyncHook<M> + Drop, A: AsyncHook<M> + Drop>(
+fn after_back<M: Manager, F: SyncHook<M>, A: AsyncHook<M>>(
     environment: &Environment<M, F, A>,
     reply: BackReply<Slot<M::Type>>,
 ) -> Reply<M::Type, M::Error>
@@ -428,7 +427,7 @@ fn after_back<M: Manager + Drop, F: SyncHook<M> + Drop, A: AsyncHook<M> + Drop>(
 }
 
 // Gives the value of an object that has left the pool, detached if that is due.
-fn after_take<M: Manager + Drop, F: SyncHook<M> + Drop, A: AsyncHook<M> + Drop>(
+fn after_take<M: Manager, F: SyncHook<M>, A: AsyncHook<M>>(
     environment: &Environment<M, F, A>,
     slot: Slot<M::Type>,
     reply: TakeReply,

@@ -1,20 +1,15 @@
 //! Configurations as they are read, written and shown.
 use super::expected::expect;
-use deadpool_parts::config::{PoolConfig, QueueMode, Timeouts};
+use deadpool_parts::config::PoolConfig;
 use deadpool_parts::errors::ConfigError;
 use serde_json::Value;
 use std::alloc::{AllocError, Global};
 use std::test::Fail;
-use std::time::Duration;
 
 /// What the text's value reads as.
 fn read(alloc: Global, text: &str) -> Result<Result<PoolConfig, ConfigError>, Fail> {
     let value = Value::from_str(alloc, text)?;
     Ok(PoolConfig::from_json(&value))
-}
-
-fn reads(alloc: Global, text: &str, expected: Result<PoolConfig, ConfigError>) -> Result<(), Fail> {
-    expect(text, read(alloc, text)?, expected)
 }
 
 #[test]
@@ -28,100 +23,40 @@ fn sizes_by_processors(_rt: HostRuntime) -> Result<(), Fail> {
     )
 }
 
-#[test]
-fn names_the_first_fault(rt: HostRuntime) -> Result<(), Fail> {
-    for (text, fault) in [
-        ("[]", ConfigError::NotAnObject),
-        (r#"{"queue_mode":5}"#, ConfigError::MissingMaxSize),
-        (r#"{"max_size":-1}"#, ConfigError::BadNumber),
-        (r#"{"max_size":null}"#, ConfigError::BadNumber),
-        (
-            r#"{"max_size":1,"timeouts":null,"queue_mode":5}"#,
-            ConfigError::NotAnObject,
-        ),
-        (
-            r#"{"max_size":1,"timeouts":{"wait":{"secs":1,"nanos":0,"x":1}}}"#,
-            ConfigError::BadDuration,
-        ),
-        (
-            r#"{"max_size":1,"timeouts":{"wait":{"secs":1}}}"#,
-            ConfigError::BadDuration,
-        ),
-        (
-            r#"{"max_size":1,"timeouts":{"wait":{"secs":18446744073709551615,"nanos":1000000000}}}"#,
-            ConfigError::BadDuration,
-        ),
-        (
-            r#"{"max_size":1,"queue_mode":"lifo"}"#,
-            ConfigError::BadQueueMode,
-        ),
-        (
-            r#"{"max_size":1,"queue_mode":5,"min_idle":null}"#,
-            ConfigError::BadQueueMode,
-        ),
-    ] {
-        reads(rt.alloc(), text, Err(fault))?;
-    }
-    Ok(())
-}
+// Faults, of which each is the first in its text, and then configurations.
+const READ: &str = r#"[] => Err(NotAnObject)
+{"queue_mode":5} => Err(MissingMaxSize)
+{"max_size":-1} => Err(BadNumber)
+{"max_size":null} => Err(BadNumber)
+{"max_size":1,"timeouts":null,"queue_mode":5} => Err(NotAnObject)
+{"max_size":1,"timeouts":{"wait":{"secs":1,"nanos":0,"x":1}}} => Err(BadDuration)
+{"max_size":1,"timeouts":{"wait":{"secs":1}}} => Err(BadDuration)
+{"max_size":1,"timeouts":{"wait":{"secs":18446744073709551615,"nanos":1000000000}}} => Err(BadDuration)
+{"max_size":1,"queue_mode":"lifo"} => Err(BadQueueMode)
+{"max_size":1,"queue_mode":5,"min_idle":null} => Err(BadQueueMode)
+{"max_size":1,"min_idle":null} => Err(BadMinIdle)
+{"max_size":1,"min_idle":-1} => Err(BadMinIdle)
+{"max_size":1,"min_idle":1.5} => Err(BadMinIdle)
+{"max_size":1,"min_idle":1e0} => Err(BadMinIdle)
+{"max_size":1,"min_idle":"1"} => Err(BadMinIdle)
+{"max_size":1,"min_idle":18446744073709551616} => Err(BadMinIdle)
+{"max_size":1,"timeouts":{"wait":null},"note":[]} => Ok(PoolConfig { max_size: 1, timeouts: Timeouts { wait: None, create: None, recycle: None }, queue_mode: Fifo, min_idle: 0 })
+{"max_size":42,"queue_mode":"Lifo"} => Ok(PoolConfig { max_size: 42, timeouts: Timeouts { wait: None, create: None, recycle: None }, queue_mode: Lifo, min_idle: 0 })
+{"max_size":42,"timeouts":{"wait":{"secs":1,"nanos":0},"create":{"secs":2,"nanos":0},"recycle":{"secs":3,"nanos":0}}} => Ok(PoolConfig { max_size: 42, timeouts: Timeouts { wait: Some(1s), create: Some(2s), recycle: Some(3s) }, queue_mode: Fifo, min_idle: 0 })
+{"max_size":1,"timeouts":{"wait":{"secs":1,"nanos":1500000000}}} => Ok(PoolConfig { max_size: 1, timeouts: Timeouts { wait: Some(2.5s), create: None, recycle: None }, queue_mode: Fifo, min_idle: 0 })
+{"max_size":1,"min_idle":18446744073709551615} => Ok(PoolConfig { max_size: 1, timeouts: Timeouts { wait: None, create: None, recycle: None }, queue_mode: Fifo, min_idle: 18446744073709551615 })"#;
 
-#[test]
-fn refuses_a_bad_floor(rt: HostRuntime) -> Result<(), Fail> {
-    for text in [
-        r#"{"max_size":1,"min_idle":null}"#,
-        r#"{"max_size":1,"min_idle":-1}"#,
-        r#"{"max_size":1,"min_idle":1.5}"#,
-        r#"{"max_size":1,"min_idle":1e0}"#,
-        r#"{"max_size":1,"min_idle":"1"}"#,
-        r#"{"max_size":1,"min_idle":18446744073709551616}"#,
-    ] {
-        reads(rt.alloc(), text, Err(ConfigError::BadMinIdle))?;
-    }
-    Ok(())
+// What stands before the arrow reads as what stands behind it.
+fn reads(alloc: Global, line: &str) -> Result<(), Fail> {
+    let (text, expected) = line.split_once(" => ").unwrap_or((line, ""));
+    let found = format!(in alloc; "{:?}", read(alloc, text)?)?;
+    expect(line, found.as_str(), expected)
 }
 
 #[test]
 fn reads_configurations(rt: HostRuntime) -> Result<(), Fail> {
-    let second = Duration::from_secs(1);
-    for (text, config) in [
-        (
-            r#"{"max_size":1,"timeouts":{"wait":null},"note":[]}"#,
-            PoolConfig::new(1),
-        ),
-        (
-            r#"{"max_size":42,"queue_mode":"Lifo"}"#,
-            PoolConfig {
-                queue_mode: QueueMode::Lifo,
-                ..PoolConfig::new(42)
-            },
-        ),
-        (
-            r#"{"max_size":42,"timeouts":{"wait":{"secs":1,"nanos":0},"create":{"secs":2,"nanos":0},"recycle":{"secs":3,"nanos":0}}}"#,
-            PoolConfig {
-                timeouts: Timeouts {
-                    wait: Some(second),
-                    create: Some(second * 2),
-                    recycle: Some(second * 3),
-                },
-                ..PoolConfig::new(42)
-            },
-        ),
-        (
-            r#"{"max_size":1,"timeouts":{"wait":{"secs":1,"nanos":1500000000}}}"#,
-            PoolConfig {
-                timeouts: Timeouts::wait_millis(2500),
-                ..PoolConfig::new(1)
-            },
-        ),
-        (
-            r#"{"max_size":1,"min_idle":18446744073709551615}"#,
-            PoolConfig {
-                min_idle: usize::MAX,
-                ..PoolConfig::new(1)
-            },
-        ),
-    ] {
-        reads(rt.alloc(), text, Ok(config))?;
+    for line in READ.lines() {
+        reads(rt.alloc(), line)?;
     }
     Ok(())
 }

@@ -80,60 +80,57 @@ fn prints_errors_of_a_configured_pool(alloc: Global) -> Result<(), Fail> {
     )
 }
 
+// A line end belongs to a text, so a bar parts them.
+const OF_A_GET: &str = "Timeout occurred while waiting for a slot to become available|\
+Timeout occurred while creating a new object|\
+Timeout occurred while recycling an object|\
+Error occurred while creating a new object: refused|\
+`post_create` hook failed: refused\n|\
+`post_create` hook failed: odd\n|\
+Pool has been closed|\
+No runtime specified|\
+Out of memory|\
+Object numbers are exhausted";
+
 fn prints_errors_of_a_get(alloc: Global) -> Result<(), Fail> {
-    let texts = [
-        (
-            PoolError::Timeout(TimeoutType::Wait),
-            "Timeout occurred while waiting for a slot to become available",
-        ),
-        (
-            PoolError::Timeout(TimeoutType::Create),
-            "Timeout occurred while creating a new object",
-        ),
-        (
-            PoolError::Timeout(TimeoutType::Recycle),
-            "Timeout occurred while recycling an object",
-        ),
-        (
-            PoolError::Backend(Refused),
-            "Error occurred while creating a new object: refused",
-        ),
-        (
-            PoolError::PostCreateHook(HookError::Backend(Refused)),
-            "`post_create` hook failed: refused\n",
-        ),
-        (
-            PoolError::PostCreateHook(HookError::message("odd")),
-            "`post_create` hook failed: odd\n",
-        ),
-        (PoolError::Closed, "Pool has been closed"),
-        (PoolError::NoRuntimeSpecified, "No runtime specified"),
-        (PoolError::OutOfMemory, "Out of memory"),
-        (PoolError::NumbersExhausted, "Object numbers are exhausted"),
-    ];
-    for (error, text) in texts {
-        shows(alloc, error, text)?;
+    let mut texts = OF_A_GET.split('|');
+    for error in [
+        PoolError::Timeout(TimeoutType::Wait),
+        PoolError::Timeout(TimeoutType::Create),
+        PoolError::Timeout(TimeoutType::Recycle),
+        PoolError::Backend(Refused),
+        PoolError::PostCreateHook(HookError::Backend(Refused)),
+        PoolError::PostCreateHook(HookError::message("odd")),
+        PoolError::Closed,
+        PoolError::NoRuntimeSpecified,
+        PoolError::OutOfMemory,
+        PoolError::NumbersExhausted,
+    ] {
+        shows(alloc, error, texts.next().unwrap_or(""))?;
     }
     Ok(())
 }
 
+const OF_A_CONFIGURATION: &str = "Configuration is not an object
+max_size is missing
+max_size is not a whole number in range
+A timeout is not a duration
+queue_mode is not Fifo or Lifo
+min_idle is not a whole number in range
+Out of memory";
+
 fn prints_errors_of_a_configuration(alloc: Global) -> Result<(), Fail> {
-    for (error, text) in [
-        (ConfigError::NotAnObject, "Configuration is not an object"),
-        (ConfigError::MissingMaxSize, "max_size is missing"),
-        (
-            ConfigError::BadNumber,
-            "max_size is not a whole number in range",
-        ),
-        (ConfigError::BadDuration, "A timeout is not a duration"),
-        (ConfigError::BadQueueMode, "queue_mode is not Fifo or Lifo"),
-        (
-            ConfigError::BadMinIdle,
-            "min_idle is not a whole number in range",
-        ),
-        (ConfigError::OutOfMemory, "Out of memory"),
+    let mut texts = OF_A_CONFIGURATION.lines();
+    for fault in [
+        ConfigError::NotAnObject,
+        ConfigError::MissingMaxSize,
+        ConfigError::BadNumber,
+        ConfigError::BadDuration,
+        ConfigError::BadQueueMode,
+        ConfigError::BadMinIdle,
+        ConfigError::OutOfMemory,
     ] {
-        shows(alloc, error, text)?;
+        shows(alloc, fault, texts.next().unwrap_or(""))?;
     }
     Ok(())
 }

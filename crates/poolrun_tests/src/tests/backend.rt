@@ -1,34 +1,20 @@
 //! Buffers out of a pool of one, and the texts of what is refused.
 ghost use Rattle.std.specs.Prelude.{◌≡◌, []};
-ghost use Rattle.deadpool.specs.Opens.{Opens};
 
 use super::text_is;
-use deadpool::managed::{Manager, Metrics, Object, PoolBuilder};
-use deadpool::{Clock, Moment};
+use deadpool::managed::{Ledgers, Metrics, NoHook, Object, PoolBuilder};
+use deadpool::{Moment, NoTime};
+use deadpool_threads::{Plain, PlainManager, PoolUser, lend};
 use futures::task::{Context, Doorbell, Poll, Solo};
 use poolrun_buffers::{Buffer, BufferError, BufferPool, Buffers, GetBuffer, fill, poll_buffer};
 use std::alloc::AllocError;
-use std::marker::Brand;
 use std::random::RandomSource;
 use std::sync::Wait;
-use std::sync::ledger::{Blank, Ledger};
 use std::test::Fail;
 
-// Nobody asks for the time, as no timeout is set.
-#[derive(Drop)]
-struct NoTime;
-
-impl Clock for NoTime {
-    fn now(&self) -> Moment {
-        Moment(0)
-    }
-
-    fn wake_at(&self, _at: Moment, _cx: &mut Context<'_>) {}
-}
-
 // Puts a line into an empty buffer, and appends what came of it.
-fn write_filled<R: Wait + Drop, G: Ledger, N: Ledger, O: Ledger>(
-    buffer: &mut Buffer<NoTime, R, G, N, O>,
+fn write_filled<R: Wait + Drop, L: Ledgers>(
+    buffer: &mut Buffer<NoTime, R, L>,
     line: &[u8],
     text: &mut String,
 ) -> Result<(), AllocError>
@@ -41,9 +27,9 @@ fn write_filled<R: Wait + Drop, G: Ledger, N: Ledger, O: Ledger>(
 }
 
 // Polls a get once, puts the line into the buffer that it gives, and appends what came of it.
-fn put_line<R: Wait + Drop, G: Ledger, N: Ledger, O: Ledger>(
+fn put_line<R: Wait + Drop, L: Ledgers>(
     task: &Solo,
-    get: &mut GetBuffer<NoTime, R, G, N, O>,
+    get: &mut GetBuffer<NoTime, R, L>,
     line: &[u8],
     text: &mut String,
 ) -> Result<(), AllocError> {
@@ -58,40 +44,28 @@ fn put_line<R: Wait + Drop, G: Ledger, N: Ledger, O: Ledger>(
 }
 
 // Gets a buffer for each line, and lets it go back.
-fn put_each<R: Wait + RandomSource + AllocGlobal + Drop, G: Ledger, N: Ledger, O: Ledger>(
-    rt: &R,
-    pool: &BufferPool<NoTime, R, G, N, O>,
-    lines: &[&[u8]],
-) -> Result<String, Fail> {
-    let task = Solo::new(rt, Doorbell::spinning())?;
-    let mut text = String::new(rt.alloc());
-    for line in lines {
-        put_line(&task, &mut pool.get(), line, &mut text)?;
-    }
-    Ok(text)
+#[derive(Drop)]
+struct PutEach<'a> {
+    lines: &'a [&'a [u8]],
 }
 
-// Puts lines into the buffers of a pool of one.
-fn put_lines<R, G: Ledger, N: Ledger, O: Ledger>(
-    rt: R,
-    manager: Buffers,
-    lines: &[&[u8]],
-    going: Blank,
-    creations: Blank,
-    outside: Blank,
-) -> Result<String, Fail>
+impl<R> PoolUser<Plain<Buffers>, NoHook, NoHook, NoTime, R> for PutEach<'_>
 where
-    R: Wait + RandomSource + AllocGlobal + Drop + Copy + Send + Sync,
-    requires going { Opens G.Ledger going }
-    requires creations { Opens N.Ledger creations }
-    requires outside { Opens O.Ledger outside }
+    R: Wait + RandomSource + AllocGlobal + Drop,
 {
-    let builder = PoolBuilder::new(rt.alloc(), manager, NoTime).max_size(1);
-    let pool: BufferPool<NoTime, R, G, N, O> = builder.build(going, creations, outside, rt)?;
-    put_each(&rt, &pool, lines)
+    type Output = Result<String, Fail>;
+
+    fn run<L: Ledgers>(self, rt: &R, pool: &BufferPool<NoTime, R, L>) -> Result<String, Fail> {
+        let task = Solo::new(rt, Doorbell::spinning())?;
+        let mut text = String::new(rt.alloc());
+        for line in self.lines {
+            put_line(&task, &mut pool.get(), line, &mut text)?;
+        }
+        Ok(text)
+    }
 }
 
-// What comes of the lines at a manager with these numbers.
+// What comes of the lines at a pool of one whose manager has these numbers.
 fn comes_of<R>(rt: R, reserve: usize, most: usize, lines: &[&[u8]]) -> Result<String, Fail>
 where
     R: Wait + RandomSource + AllocGlobal + Drop + Copy + Send + Sync,
@@ -101,10 +75,8 @@ where
         reserve,
         most,
     };
-    let going = Blank::new(u64::MAX);
-    let creations = Blank::new(u64::MAX);
-    let outside = Blank::new(u64::MAX);
-    put_lines::<_, Brand, Brand, Brand>(rt, manager, lines, going, creations, outside)
+    let builder = PoolBuilder::new(rt.alloc(), Plain(manager), NoTime).max_size(1);
+    lend(builder, rt, PutEach { lines })?
 }
 
 const LINES: [&[u8]; 4] = [b"abcd", b"abcde", b"x", b""];
@@ -149,19 +121,15 @@ fn the_error_has_its_text(rt: HostRuntime) -> Result<(), Fail> {
 }
 
 // Why a manager of short buffers refuses this one.
-fn refusal<R: RandomSource + AllocGlobal>(rt: &R, buffer: &mut Vec<u8>) -> Result<String, Fail> {
+fn refusal<R: AllocGlobal>(rt: &R, buffer: &mut Vec<u8>) -> Result<String, Fail> {
     let manager = Buffers {
         alloc: rt.alloc(),
         reserve: 0,
         most: 1,
     };
-    let task = Solo::new(rt, Doorbell::spinning())?;
-    let mut cx = task.begin();
-    let polled = manager.poll_recycle(&mut (), buffer, &Metrics::new(Moment(0)), &mut cx);
-    cx.cancel();
-    match polled {
-        Poll::Ready(Err(cause)) => Ok(format!(in rt.alloc(); "{cause}")?),
-        _ => Err(Fail::new("not refused")),
+    match manager.recycle(buffer, &Metrics::new(Moment(0))) {
+        Err(cause) => Ok(format!(in rt.alloc(); "{cause}")?),
+        Ok(()) => Err(Fail::new("not refused")),
     }
 }
 

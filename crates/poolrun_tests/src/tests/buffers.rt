@@ -3,10 +3,12 @@ use super::streams::{
     FailingReader, FailingWriter, Listener, Speaker, first_bytes, first_lines, lines_in,
 };
 use super::{agree, count_is};
+use deadpool::NoTime;
 use deadpool::managed::PoolBuilder;
+use deadpool_threads::Plain;
 use poolrun_buffers::Buffers;
 use poolrun_engine::Fault;
-use poolrun_engine::buffers::{NoTime, builder_of, fill_buffers};
+use poolrun_engine::buffers::{builder_of, fill_buffers};
 use std::cell::Cell;
 use std::io::ErrorKind;
 use std::random::RandomSource;
@@ -181,7 +183,7 @@ fn no_memory_for_a_buffer(rt: HostRuntime) -> Result<(), Fail> {
         reserve: usize::MAX,
         most: 4,
     };
-    let builder = PoolBuilder::new(rt.alloc(), manager, NoTime).max_size(1);
+    let builder = PoolBuilder::new(rt.alloc(), Plain(manager), NoTime).max_size(1);
     let mut reader = LINES;
     let mut written = Vec::new(rt.alloc());
     let ending = fill_buffers(&rt, builder, &mut reader, &mut written);

@@ -49,39 +49,39 @@ fn long_lines_are_read_whole(rt: HostRuntime) -> Result<(), Fail> {
 
 // Scripts in which each N is to be one number.
 const MANAGED: Lines = "\
-pool N fifo clock N = ok
-start N N N = party 0
-poll 0 N = object 1 value 0
-put N N = ok
-back N = kept
-start = party 1
-advance N N = more
-poll N N = object 1 value 1
-cancel N = cancelled
-take N = taken 1
-resize N = ok
-retain N = retained 0 removed
-status = max 1 size 0 available 0 waiting 0
+pool N fifo clock N => ok
+start N N N => party 0
+poll 0 N => object 1 value 0
+put N N => ok
+back N => kept
+start => party 1
+advance N N => more
+poll N N => object 1 value 1
+cancel N => cancelled
+take N => taken 1
+resize N => ok
+retain N => retained 0 removed
+status => max 1 size 0 available 0 waiting 0
 ";
 
 const UNMANAGED: Lines = "\
-unmanaged N clock = ok
-add N = party 0
-get N = party 1
-poll N N = pending
-poll 0 N = added 0
-poll N N = object 0 value 1
-take N = no such
-take 0 = taken 1
-tryadd N = added 1
-tryget = object 1 value 1
-back N = kept
-cancel N = cancelled
+unmanaged N clock => ok
+add N => party 0
+get N => party 1
+poll N N => pending
+poll 0 N => added 0
+poll N N => object 0 value 1
+take N => no such
+take 0 => taken 1
+tryadd N => added 1
+tryget => object 1 value 1
+back N => kept
+cancel N => cancelled
 ";
 
-const CONFIGURED: Lines = r#"config none N {"max_size":1} = ok
-start = party 0
-poll 0 0 = object 1 value 0
+const CONFIGURED: Lines = r#"config none N {"max_size":1} => ok
+start => party 0
+poll 0 0 => object 1 value 0
 "#;
 
 fn digits_may_be_one<R: RandomSource + AllocGlobal>(rt: &R, lines: Lines) -> Result<(), Fail> {

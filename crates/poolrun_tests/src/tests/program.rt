@@ -12,8 +12,14 @@ use std::thread::Threads;
 const NAME: Arguments = &[b"poolrun"];
 
 // Scripts, what they write, what is said of their end, and the status.
-const SCRIPTS: [(&[u8], &[u8], &str, u8); 4] = [
+const SCRIPTS: [(&[u8], &[u8], &str, u8); 5] = [
     (b"pool 1 fifo none 0\nstart", b"ok\nparty 0\n", "", 0),
+    (
+        b"pool 1 fifo none 0\nstart\nstop\nstatus\n",
+        b"ok\nparty 0\n",
+        "line 3: not a move\n",
+        2,
+    ),
     (b"", b"", "", 0),
     (b"start\n", b"", "line 1: not a move\n", 2),
     (
@@ -49,7 +55,8 @@ fn text_and_status_say_how_a_script_ended(rt: HostRuntime) -> Result<(), Fail> {
     Ok(())
 }
 
-const ARGUMENTS: [Arguments; 5] = [
+const ARGUMENTS: [Arguments; 6] = [
+    &[b"poolrun", b"script"],
     &[b"poolrun", b"threads"],
     &[b"poolrun", b"script", b"more"],
     &[b"poolrun", b"poolrun"],

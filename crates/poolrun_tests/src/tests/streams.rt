@@ -9,36 +9,36 @@ use std::test::Fail;
 
 const SCRIPTS: [Lines; 3] = [
     "\
-pool 1 fifo none 0 = ok
-start = party 0
-poll 0 0 = object 0 value 0
-answer recycle add pending = ok
-status = max 1 size 1 available 0 waiting 0
-back 0 = kept
+pool 1 fifo none 0 => ok
+start => party 0
+poll 0 0 => object 0 value 0
+answer recycle add pending => ok
+status => max 1 size 1 available 0 waiting 0
+back 0 => kept
 ",
-    r#"config clock 7 {"max_size":2,"min_idle":1} = ok
-answer postcreate refuse = ok
-start 5 - - = party 0
-poll 0 0 = error `post_create` hook failed: refused
-poll 1 0 = no such
-resize 0 = ok
-start 5 - - = party 1
-advance 1 0 = pending
-close = ok
-advance 1 1 = error Pool has been closed
-retain 7 8 = retained 0 removed
+    r#"config clock 7 {"max_size":2,"min_idle":1} => ok
+answer postcreate refuse => ok
+start 5 - - => party 0
+poll 0 0 => error `post_create` hook failed: refused
+poll 1 0 => no such
+resize 0 => ok
+start 5 - - => party 1
+advance 1 0 => pending
+close => ok
+advance 1 1 => error Pool has been closed
+retain 7 8 => retained 0 removed
 "#,
     "\
-unmanaged 1 none = ok
-tryadd 18446744073709551615 = added 0
-add 2 = party 0
-poll 0 0 = pending
-tryget = object 0 value 18446744073709551615
-take 0 = taken 18446744073709551615
-poll 0 1 = added 1
-drop = ok
-upgrade = none
-status = no handle
+unmanaged 1 none => ok
+tryadd 18446744073709551615 => added 0
+add 2 => party 0
+poll 0 0 => pending
+tryget => object 0 value 18446744073709551615
+take 0 => taken 18446744073709551615
+poll 0 1 => added 1
+drop => ok
+upgrade => none
+status => no handle
 ",
 ];
 

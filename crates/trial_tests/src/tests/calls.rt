@@ -1,229 +1,226 @@
 //! Calls of a manager, which no contract counts.
-use deadpool::managed::{Hook, HookError, NoHook, PoolBuilder, PoolError, Timeouts};
-use deadpool::replay::Move;
-use std::alloc::Global;
-use std::random::RandomSource;
+use pool_scripts::expect_script;
 use std::test::Fail;
-use std::time::Duration;
-use test_support::answering::Answering;
-use test_support::bench::{Bench, stands};
-use test_support::expected::expect;
-use test_support::managers::{Calls, Counted};
 
-type Counting<'a> = Bench<Counted<'a>, NoHook, Answering>;
+const CREATIONS: &str = "\
+# a-creation-is-begun-once
+pool 2 fifo none 0 => ok
+answer create pending pending pending => ok
+start => party 0
+poll 0 0 => pending
+calls => create 1 recycle 0 poll 1 detach 0
+poll 0 0 => pending
+calls => create 1 recycle 0 poll 2 detach 0
+poll 0 0 => pending
+calls => create 1 recycle 0 poll 3 detach 0
+poll 0 0 => object 0 value 0
+calls => create 1 recycle 0 poll 4 detach 0
+start => party 1
+poll 1 0 => object 1 value 1
+calls => create 2 recycle 0 poll 5 detach 0
+# An idle object is handed out without a creation.
+back 0 => kept
+start => party 2
+poll 2 0 => object 0 value 0
+calls => create 2 recycle 1 poll 6 detach 0
 
-// A pool for two objects, without a runtime.
-fn bench<'a, R: RandomSource + AllocGlobal>(
-    rt: &R,
-    calls: &'a Calls,
-) -> Result<Counting<'a>, Fail> {
-    let builder = PoolBuilder::<_, NoHook, Answering, _>::new(rt.alloc(), Counted { calls }, ());
-    Bench::new(rt, builder.max_size(2))
-}
+# no-creation-without-the-runtime-that-it-needs
+pool 2 fifo none 0 => ok
+start 5 - - => party 0
+poll 0 0 => error No runtime specified
+calls => create 0 recycle 0 poll 0 detach 0
+status => max 2 size 0 available 0 waiting 0
+start - 5 - => party 1
+poll 1 0 => error No runtime specified
+calls => create 0 recycle 0 poll 0 detach 0
+status => max 2 size 0 available 0 waiting 0
+";
 
-// The same with a hook that is shown new objects.
-fn bench_with_hook<'a, R: RandomSource + AllocGlobal>(
-    rt: &R,
-    calls: &'a Calls,
-    hook: Answering,
-) -> Result<Counting<'a>, Fail> {
-    let builder = PoolBuilder::<_, NoHook, Answering, _>::new(rt.alloc(), Counted { calls }, ());
-    match builder.post_create(Hook::async_fn(hook)) {
-        Ok(builder) => Bench::new(rt, builder.max_size(2)),
-        Err(_) => Err(Fail::new("no memory for a hook")),
-    }
-}
+const DETACHES: &str = "\
+# what-is-given-up-is-detached-once
+pool 2 fifo none 0 => ok
+start => party 0
+poll 0 0 => object 0 value 0
+back 0 => kept
+# A recycling without the runtime that it needs: another object is created in the place of the first.
+start - - 5 => party 1
+poll 1 0 => object 1 value 1
+calls => create 2 recycle 0 poll 2 detach 1
+# A get that is cancelled with an idle object.
+back 1 => kept
+answer recycle pending => ok
+start => party 2
+poll 2 0 => pending
+cancel 2 => cancelled
+calls => create 2 recycle 1 poll 3 detach 2
+# One that is taken, and one that comes back above the limit.
+start => party 3
+poll 3 0 => object 2 value 2
+start => party 4
+poll 4 0 => object 3 value 3
+take 2 => taken 2
+calls => create 4 recycle 1 poll 5 detach 3
+resize 0 => ok
+back 3 => detached
+calls => create 4 recycle 1 poll 5 detach 4
+status => max 0 size 0 available 0 waiting 0
 
-fn a_while() -> Option<Duration> {
-    Some(Duration::from_nanos(5))
+# a-new-object-that-is-given-up-is-detached-once
+pool 2 fifo none 0 => ok
+answer postcreate refuse => ok
+start => party 0
+poll 0 0 => error `post_create` hook failed: refused
+calls => create 1 recycle 0 poll 1 detach 1
+
+# a-new-object-of-a-cancelled-get-is-detached-once
+pool 2 fifo none 0 => ok
+answer postcreate pending => ok
+start => party 0
+poll 0 0 => pending
+calls => create 1 recycle 0 poll 1 detach 0
+cancel 0 => cancelled
+calls => create 1 recycle 0 poll 1 detach 1
+
+# what-the-owner-gives-up
+pool 2 fifo none 0 => ok
+start => party 0
+poll 0 0 => object 0 value 0
+start => party 1
+poll 1 0 => object 1 value 1
+back 0 => kept
+back 1 => kept
+# Who is not retained is detached. A retain with nothing idle detaches nothing.
+retain => retained 0 removed 0 1
+calls => create 2 recycle 0 poll 2 detach 2
+retain => retained 0 removed
+calls => create 2 recycle 0 poll 2 detach 2
+# Who falls to a smaller limit is not.
+start => party 2
+poll 2 0 => object 2 value 2
+start => party 3
+poll 3 0 => object 3 value 3
+back 2 => kept
+resize 1 => ok
+status => max 1 size 1 available 0 waiting 0
+# Nor is one that comes back, or is taken, if no handle is left.
+resize 2 => ok
+start => party 4
+poll 4 0 => object 4 value 4
+drop => ok
+back 3 => dropped
+take 4 => taken 4
+calls => create 5 recycle 0 poll 5 detach 2
+";
+
+const RECYCLINGS: &str = "\
+# a-served-idle-object-is-recycled-once
+pool 1 fifo none 0 => ok
+start => party 0
+poll 0 0 => object 0 value 0
+calls => create 1 recycle 0 poll 1 detach 0
+back 0 => kept
+calls => create 1 recycle 0 poll 1 detach 0
+start => party 1
+poll 1 0 => object 0 value 0
+calls => create 1 recycle 1 poll 2 detach 0
+back 0 => kept
+calls => create 1 recycle 1 poll 2 detach 0
+start => party 2
+poll 2 0 => object 0 value 0
+calls => create 1 recycle 2 poll 3 detach 0
+back 0 => kept
+calls => create 1 recycle 2 poll 3 detach 0
+# A recycling that is pending is polled again, and not begun again.
+answer recycle pending pending => ok
+start => party 3
+poll 3 0 => pending
+poll 3 0 => pending
+calls => create 1 recycle 3 poll 5 detach 0
+poll 3 0 => object 0 value 0
+# A get that has ended asks nothing.
+poll 3 0 => pending
+calls => create 1 recycle 3 poll 6 detach 0
+";
+
+// Moves that ask nothing of a manager.
+const QUIET: &str = "\
+# a-new-pool-and-its-owner-ask-nothing
+pool 1 fifo none 0 => ok
+status => max 1 size 0 available 0 waiting 0
+calls => create 0 recycle 0 poll 0 detach 0
+start => party 0
+poll 0 0 => object 0 value 0
+start => party 1
+poll 1 0 => pending
+status => max 1 size 1 available 0 waiting 1
+calls => create 1 recycle 0 poll 1 detach 0
+put 0 7 => ok
+calls => create 1 recycle 0 poll 1 detach 0
+status => max 1 size 1 available 0 waiting 1
+calls => create 1 recycle 0 poll 1 detach 0
+clone => ok
+calls => create 1 recycle 0 poll 1 detach 0
+upgrade => ok
+calls => create 1 recycle 0 poll 1 detach 0
+drop => ok
+calls => create 1 recycle 0 poll 1 detach 0
+start => party 2
+calls => create 1 recycle 0 poll 1 detach 0
+cancel 1 => cancelled
+calls => create 1 recycle 0 poll 1 detach 0
+resize 2 => ok
+calls => create 1 recycle 0 poll 1 detach 0
+back 0 => kept
+calls => create 1 recycle 0 poll 1 detach 0
+status => max 2 size 1 available 1 waiting 0
+
+# idle-objects-go-unasked-at-a-resize
+pool 1 fifo none 0 => ok
+start => party 0
+poll 0 0 => object 0 value 0
+back 0 => kept
+retain 0 => retained 1 removed
+calls => create 1 recycle 0 poll 1 detach 0
+resize 0 => ok
+calls => create 1 recycle 0 poll 1 detach 0
+
+# idle-objects-go-unasked-at-a-close
+pool 1 fifo none 0 => ok
+start => party 0
+poll 0 0 => object 0 value 0
+back 0 => kept
+retain 0 => retained 1 removed
+calls => create 1 recycle 0 poll 1 detach 0
+close => ok
+calls => create 1 recycle 0 poll 1 detach 0
+
+# idle-objects-go-unasked-with-the-last-handle
+pool 1 fifo none 0 => ok
+start => party 0
+poll 0 0 => object 0 value 0
+back 0 => kept
+retain 0 => retained 1 removed
+calls => create 1 recycle 0 poll 1 detach 0
+drop => ok
+calls => create 1 recycle 0 poll 1 detach 0
+";
+
+#[test]
+fn creations_are_counted(rt: HostRuntime) -> Result<(), Fail> {
+    expect_script(&rt, CREATIONS)
 }
 
 #[test]
-fn a_creation_is_begun_once(rt: HostRuntime) -> Result<(), Fail> {
-    let calls = Calls::new();
-    let mut bench = bench(&rt, &calls)?;
-    begins_creations_once(&mut bench, &calls)
-}
-
-fn begins_creations_once(bench: &mut Counting<'_>, calls: &Calls) -> Result<(), Fail> {
-    creates_once_in_three_polls(bench, calls)?;
-    hands_out_without_a_creation(bench, calls)
-}
-
-fn creates_once_in_three_polls(bench: &mut Counting<'_>, calls: &Calls) -> Result<(), Fail> {
-    calls.answers.set(false);
-    let party = bench.start()?;
-    for _turn in 0..3 {
-        bench.stays_pending(party, 0)?;
-        calls.created_and_detached(1, 0)?;
-    }
-    calls.answers.set(true);
-    bench.gives(party, 0, 0)?;
-    calls.created_and_detached(1, 0)
-}
-
-fn hands_out_without_a_creation(bench: &mut Counting<'_>, calls: &Calls) -> Result<(), Fail> {
-    bench.hands_out(1)?;
-    calls.created_and_detached(2, 0)?;
-    // An idle object is handed out without a creation.
-    bench.keep(0)?;
-    bench.hands_out(0)?;
-    calls.created_and_detached(2, 0)
+fn detaches_are_counted(rt: HostRuntime) -> Result<(), Fail> {
+    expect_script(&rt, DETACHES)
 }
 
 #[test]
-fn no_creation_without_the_runtime_that_it_needs(rt: HostRuntime) -> Result<(), Fail> {
-    let calls = Calls::new();
-    let mut bench = bench(&rt, &calls)?;
-    wants_a_runtime_twice(&mut bench, &calls)
-}
-
-fn wants_a_runtime_twice(bench: &mut Counting<'_>, calls: &Calls) -> Result<(), Fail> {
-    let waits = Timeouts {
-        wait: a_while(),
-        ..Timeouts::new()
-    };
-    wants_a_runtime(bench, calls, waits)?;
-    let creates = Timeouts {
-        create: a_while(),
-        ..Timeouts::new()
-    };
-    wants_a_runtime(bench, calls, creates)
-}
-
-fn wants_a_runtime(
-    bench: &mut Counting<'_>,
-    calls: &Calls,
-    timeouts: Timeouts,
-) -> Result<(), Fail> {
-    let party = bench.start_with(timeouts)?;
-    bench.fails(party, 0, PoolError::NoRuntimeSpecified)?;
-    calls.created_and_detached(0, 0)?;
-    bench.stands_at(stands(2, 0, 0, 0))
+fn recyclings_are_counted(rt: HostRuntime) -> Result<(), Fail> {
+    expect_script(&rt, RECYCLINGS)
 }
 
 #[test]
-fn what_is_given_up_is_detached_once(rt: HostRuntime) -> Result<(), Fail> {
-    let calls = Calls::new();
-    let mut bench = bench(&rt, &calls)?;
-    gives_up_one_after_another(&mut bench, &calls)
-}
-
-fn gives_up_one_after_another(bench: &mut Counting<'_>, calls: &Calls) -> Result<(), Fail> {
-    gives_up_what_it_cannot_recycle(bench, calls)?;
-    gives_up_what_a_cancelled_get_has(bench, calls)?;
-    gives_up_what_is_taken_or_too_many(bench, calls)
-}
-
-// A recycling without the runtime that it needs: another object is created in the place of the first.
-fn gives_up_what_it_cannot_recycle(bench: &mut Counting<'_>, calls: &Calls) -> Result<(), Fail> {
-    bench.hands_out(0)?;
-    bench.keep(0)?;
-    let party = bench.start_with(Timeouts {
-        recycle: a_while(),
-        ..Timeouts::new()
-    })?;
-    bench.gives(party, 0, 1)?;
-    calls.created_and_detached(2, 1)
-}
-
-// A get that is cancelled with an idle object.
-fn gives_up_what_a_cancelled_get_has(bench: &mut Counting<'_>, calls: &Calls) -> Result<(), Fail> {
-    bench.keep(1)?;
-    calls.answers.set(false);
-    let party = bench.start()?;
-    bench.stays_pending(party, 0)?;
-    bench.cancel(party)?;
-    calls.answers.set(true);
-    calls.created_and_detached(2, 2)
-}
-
-// One that is taken, and one that comes back above the limit.
-fn gives_up_what_is_taken_or_too_many(bench: &mut Counting<'_>, calls: &Calls) -> Result<(), Fail> {
-    bench.hands_out(2)?;
-    bench.hands_out(3)?;
-    expect("the value", bench.take(2)?, 0)?;
-    calls.created_and_detached(4, 3)?;
-    bench.does(Move::Resize(0))?;
-    bench.detach(3)?;
-    calls.created_and_detached(4, 4)?;
-    bench.stands_at(stands(0, 0, 0, 0))
-}
-
-#[test]
-fn a_new_object_that_is_given_up_is_detached_once(rt: HostRuntime) -> Result<(), Fail> {
-    let calls = Calls::new();
-    let mut bench = bench_with_hook(&rt, &calls, Answering::Refuses)?;
-    gives_up_what_a_hook_refuses(&mut bench, &calls)
-}
-
-fn gives_up_what_a_hook_refuses(bench: &mut Counting<'_>, calls: &Calls) -> Result<(), Fail> {
-    bench.refuses(PoolError::PostCreateHook(HookError::message("refused")))?;
-    calls.created_and_detached(1, 1)
-}
-
-#[test]
-fn a_new_object_of_a_cancelled_get_is_detached_once(rt: HostRuntime) -> Result<(), Fail> {
-    let calls = Calls::new();
-    let mut bench = bench_with_hook(&rt, &calls, Answering::Stalls)?;
-    gives_up_what_a_hook_is_shown(&mut bench, &calls)
-}
-
-// A get that is cancelled while a hook is shown its new object.
-fn gives_up_what_a_hook_is_shown(bench: &mut Counting<'_>, calls: &Calls) -> Result<(), Fail> {
-    let party = bench.start()?;
-    bench.stays_pending(party, 0)?;
-    calls.created_and_detached(1, 0)?;
-    bench.cancel(party)?;
-    calls.created_and_detached(1, 1)
-}
-
-#[test]
-fn what_the_owner_gives_up(rt: HostRuntime) -> Result<(), Fail> {
-    let calls = Calls::new();
-    let mut bench = bench(&rt, &calls)?;
-    detaches_two_of_five(&mut bench, &calls, rt.alloc())
-}
-
-fn detaches_two_of_five(
-    bench: &mut Counting<'_>,
-    calls: &Calls,
-    alloc: Global,
-) -> Result<(), Fail> {
-    detaches_what_it_does_not_retain(bench, calls, alloc)?;
-    detaches_nothing_for_a_smaller_limit(bench)?;
-    detaches_nothing_without_a_handle(bench)?;
-    calls.created_and_detached(5, 2)
-}
-
-// Who is not retained is detached. A retain with nothing idle detaches nothing.
-fn detaches_what_it_does_not_retain(
-    bench: &mut Counting<'_>,
-    calls: &Calls,
-    alloc: Global,
-) -> Result<(), Fail> {
-    bench.idle(2)?;
-    for _turn in 0..2 {
-        bench.retains(Vec::new(alloc), 0)?;
-        calls.created_and_detached(2, 2)?;
-    }
-    Ok(())
-}
-
-// Who falls to a smaller limit is not.
-fn detaches_nothing_for_a_smaller_limit(bench: &mut Counting<'_>) -> Result<(), Fail> {
-    bench.hands_out(2)?;
-    bench.hands_out(3)?;
-    bench.keep(2)?;
-    bench.does(Move::Resize(1))?;
-    bench.stands_at(stands(1, 1, 0, 0))
-}
-
-// Nor is one that comes back, or is taken, if no handle is left.
-fn detaches_nothing_without_a_handle(bench: &mut Counting<'_>) -> Result<(), Fail> {
-    bench.does(Move::Resize(2))?;
-    bench.hands_out(4)?;
-    bench.does(Move::DropHandle)?;
-    bench.give_up(3)?;
-    expect("the value", bench.take(4)?, 0)
+fn quiet_moves_ask_nothing(rt: HostRuntime) -> Result<(), Fail> {
+    expect_script(&rt, QUIET)
 }

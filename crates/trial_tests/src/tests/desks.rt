@@ -1,9 +1,10 @@
 //! Gets over a desk, by the deadlines and the moments that they have.
 ghost use Rattle.deadpool.specs.Holding.{Holding};
 
+use super::cores::{created, keep};
+use super::managers::Counter;
 use deadpool::managed::{
-    BackReply, Core, CreatedReply, Desk, EnterReply, Environment, GetState, Hooks, Manager,
-    Metrics, NoHook, QueueMode, Serving, Slot, Timeouts, Turn,
+    Core, Desk, Environment, GetState, Hooks, Manager, NoHook, QueueMode, Slot, Timeouts, Turn,
 };
 use deadpool::{Moment, Runtime};
 use futures::task::Context;
@@ -11,14 +12,12 @@ use futures::test::MockTask;
 use std::random::RandomSource;
 use std::test::Fail;
 use std::time::Duration;
-use test_support::bench::stands;
-use test_support::expected::expect;
-use test_support::managers::Counter;
+use test_support::expected::{expect, stands};
 
 type Plain<M> = Environment<M, NoHook, NoHook>;
 
 // One poll over any desk: the object, or none if the get is pending.
-fn poll_over<M: Manager + Drop, D: Desk<M::Type>>(
+fn poll_over<M: Manager, D: Desk<M::Type>>(
     state: &mut GetState<M, NoHook>,
     desk: &mut D,
     environment: &Plain<M>,
@@ -50,7 +49,7 @@ impl Lender {
         Ok(Lender {
             core: Core::new(rt.alloc(), 1, QueueMode::Fifo, first, 0)?,
             environment: Environment {
-                manager: Counter::new(),
+                manager: Counter::starting_at(0),
                 hooks: Hooks::new(rt.alloc()),
                 runtime: Some(Runtime::Clock),
             },
@@ -87,35 +86,16 @@ impl Lender {
             None => Err(Fail::new("pending")),
         }
     }
-
-    // An object is created without a get.
-    fn created(&mut self, value: u64) -> Result<Slot<u64>, Fail> {
-        let (EnterReply::Served(Serving::Create), CreatedReply::Created(number)) = (
-            self.core.enter(false),
-            self.core.created(),
-        ) else {
-            return Err(Fail::new("no creation"));
-        };
-        Ok(Slot {
-            number,
-            value,
-            metrics: Metrics::new(Moment(0)),
-        })
-    }
-
-    fn keep(&mut self, slot: Slot<u64>) -> Result<(), Fail> {
-        match self.core.back(slot) {
-            BackReply::Kept => Ok(()),
-            _ => Err(Fail::new("not kept")),
-        }
-    }
 }
 
 // An object that was created at 0 has this number and value, and was recycled then, if at all.
 fn is(slot: &Slot<u64>, number: usize, value: u64, recycled: Option<Moment>) -> Result<(), Fail> {
-    expect("the object", (slot.number, slot.value), (number, value))?;
     let moments = (slot.metrics.created, slot.metrics.recycled);
-    expect("its moments", moments, (Moment(0), recycled))
+    expect(
+        "the object and its moments",
+        (slot.number, slot.value, moments),
+        (number, value, (Moment(0), recycled)),
+    )
 }
 
 #[test]
@@ -126,7 +106,7 @@ fn a_get_over_a_desk(rt: HostRuntime) -> Result<(), Fail> {
 fn gives_one_object_twice(lender: &mut Lender) -> Result<(), Fail> {
     let slot = lender.object(&mut GetState::new(Timeouts::new()), 0)?;
     is(&slot, 7, 0, None)?;
-    lender.keep(slot)?;
+    keep(&mut lender.core, slot)?;
     let slot = lender.object(&mut GetState::new(Timeouts::new()), 20)?;
     is(&slot, 7, 0, Some(Moment(20)))
 }
@@ -137,10 +117,10 @@ fn a_get_that_is_given_up_leaves_its_place_to_the_next(rt: HostRuntime) -> Resul
 }
 
 fn leaves_its_place_to_the_next(lender: &mut Lender) -> Result<(), Fail> {
-    let slot = lender.created(7)?;
+    let slot = created(&mut lender.core, 7, 0)?;
     let mut third = GetState::new(Timeouts::new());
     gives_the_first_up(lender, &mut third)?;
-    lender.keep(slot)?;
+    keep(&mut lender.core, slot)?;
     let slot = lender.object(&mut third, 20)?;
     is(&slot, 0, 7, Some(Moment(20)))?;
     expect("the status", lender.core.status(), stands(1, 1, 0, 0))

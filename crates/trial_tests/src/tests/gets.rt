@@ -1,105 +1,76 @@
 //! Gets that create, are refused and wait.
-use deadpool::managed::{NoHook, PoolBuilder, PoolError};
-use std::cell::Cell;
+use pool_scripts::expect_script;
 use std::test::Fail;
-use test_support::bench::{Bench, stands};
-use test_support::expected::expect;
-use test_support::managers::{Counter, Draining, Refused, Unreliable};
+
+const SCRIPTS: &str = "\
+# objects-are-created-and-kept
+pool 16 fifo none 0 => ok
+status => max 16 size 0 available 0 waiting 0
+start => party 0
+poll 0 0 => object 0 value 0
+status => max 16 size 1 available 0 waiting 0
+start => party 1
+poll 1 0 => object 1 value 1
+status => max 16 size 2 available 0 waiting 0
+start => party 2
+poll 2 0 => object 2 value 2
+status => max 16 size 3 available 0 waiting 0
+back 0 => kept
+status => max 16 size 3 available 1 waiting 0
+back 1 => kept
+status => max 16 size 3 available 2 waiting 0
+back 2 => kept
+status => max 16 size 3 available 3 waiting 0
+
+# a-refused-creation-is-given-to-the-caller
+pool 2 fifo none 0 => ok
+answer create refuse refuse => ok
+start => party 0
+poll 0 0 => error Error occurred while creating a new object: refused
+status => max 2 size 0 available 0 waiting 0
+start => party 1
+poll 1 0 => error Error occurred while creating a new object: refused
+status => max 2 size 0 available 0 waiting 0
+calls => create 2 recycle 0 poll 2 detach 0
+
+# objects-that-are-not-recycled-are-detached
+pool 2 fifo none 0 => ok
+start => party 0
+poll 0 0 => object 0 value 0
+start => party 1
+poll 1 0 => object 1 value 1
+back 0 => kept
+back 1 => kept
+status => max 2 size 2 available 2 waiting 0
+calls => create 2 recycle 0 poll 2 detach 0
+# Both are given up in one poll, and a third is created.
+answer recycle refuse refuse => ok
+start => party 2
+poll 2 0 => object 2 value 2
+status => max 2 size 1 available 0 waiting 0
+calls => create 3 recycle 2 poll 5 detach 2
+back 2 => kept
+status => max 2 size 1 available 1 waiting 0
+calls => create 3 recycle 2 poll 5 detach 2
+
+# a-refused-creation-gives-its-place-to-the-next
+pool 1 fifo none 0 => ok
+answer create pending refuse => ok
+start => party 0
+poll 0 0 => pending
+status => max 1 size 0 available 0 waiting 1
+start => party 1
+poll 1 0 => pending
+status => max 1 size 0 available 0 waiting 2
+poll 0 0 => error Error occurred while creating a new object: refused
+status => max 1 size 0 available 0 waiting 1
+poll 1 0 => object 0 value 0
+status => max 1 size 1 available 0 waiting 0
+back 0 => kept
+status => max 1 size 1 available 1 waiting 0
+";
 
 #[test]
-fn objects_are_created_and_kept(rt: HostRuntime) -> Result<(), Fail> {
-    let builder = PoolBuilder::<_, NoHook, NoHook, _>::new(rt.alloc(), Counter::new(), ());
-    let mut bench = Bench::new(&rt, builder.max_size(16))?;
-    creates_and_keeps(&mut bench)
-}
-
-fn creates_and_keeps(bench: &mut Bench<Counter, NoHook, NoHook>) -> Result<(), Fail> {
-    bench.stands_at(stands(16, 0, 0, 0))?;
-    for (number, size) in [(0, 1), (1, 2), (2, 3)] {
-        bench.hands_out(number)?;
-        bench.stands_at(stands(16, size, 0, 0))?;
-    }
-    for (number, available) in [(0, 1), (1, 2), (2, 3)] {
-        bench.keep(number)?;
-        bench.stands_at(stands(16, 3, available, 0))?;
-    }
-    Ok(())
-}
-
-#[test]
-fn a_refused_creation_is_given_to_the_caller(rt: HostRuntime) -> Result<(), Fail> {
-    let (recycled, detached) = (Cell::new(0), Cell::new(0));
-    let manager = Unreliable {
-        creates: false,
-        recycled: &recycled,
-        detached: &detached,
-    };
-    let builder = PoolBuilder::<_, NoHook, NoHook, _>::new(rt.alloc(), manager, ());
-    let mut bench = Bench::new(&rt, builder.max_size(2))?;
-    refuses_twice(&mut bench, &detached)
-}
-
-fn refuses_twice(
-    bench: &mut Bench<Unreliable<'_>, NoHook, NoHook>,
-    detached: &Cell<usize>,
-) -> Result<(), Fail> {
-    for _turn in 0..2 {
-        bench.refuses(PoolError::Backend(Refused))?;
-        bench.stands_at(stands(2, 0, 0, 0))?;
-    }
-    expect("detached", detached.get(), 0)
-}
-
-#[test]
-fn objects_that_are_not_recycled_are_detached(rt: HostRuntime) -> Result<(), Fail> {
-    let (recycled, detached) = (Cell::new(0), Cell::new(0));
-    let manager = Unreliable {
-        creates: true,
-        recycled: &recycled,
-        detached: &detached,
-    };
-    let builder = PoolBuilder::<_, NoHook, NoHook, _>::new(rt.alloc(), manager, ());
-    let mut bench = Bench::new(&rt, builder.max_size(2))?;
-    gives_up_both(&mut bench, &recycled, &detached)
-}
-
-fn gives_up_both(
-    bench: &mut Bench<Unreliable<'_>, NoHook, NoHook>,
-    recycled: &Cell<usize>,
-    detached: &Cell<usize>,
-) -> Result<(), Fail> {
-    bench.idle(2)?;
-    bench.stands_at(stands(2, 2, 2, 0))?;
-    expect("calls", (recycled.get(), detached.get()), (0, 0))?;
-
-    // Both are given up in one poll, and a third is created.
-    bench.hands_out(2)?;
-    bench.stands_at(stands(2, 1, 0, 0))?;
-    expect("calls", (recycled.get(), detached.get()), (2, 2))?;
-
-    bench.keep(2)?;
-    bench.stands_at(stands(2, 1, 1, 0))?;
-    expect("calls", (recycled.get(), detached.get()), (2, 2))
-}
-
-#[test]
-fn a_refused_creation_gives_its_place_to_the_next(rt: HostRuntime) -> Result<(), Fail> {
-    let manager = Draining {
-        pending: Cell::new(1),
-        refuses: Cell::new(true),
-    };
-    let builder = PoolBuilder::<_, NoHook, NoHook, _>::new(rt.alloc(), manager, ());
-    let mut bench = Bench::new(&rt, builder.max_size(1))?;
-    gives_the_place_on(&mut bench)
-}
-
-fn gives_the_place_on(bench: &mut Bench<Draining, NoHook, NoHook>) -> Result<(), Fail> {
-    let first = bench.waits(stands(1, 0, 0, 1))?;
-    let second = bench.waits(stands(1, 0, 0, 2))?;
-    bench.fails(first, 0, PoolError::Backend(Refused))?;
-    bench.stands_at(stands(1, 0, 0, 1))?;
-    bench.gives(second, 0, 0)?;
-    bench.stands_at(stands(1, 1, 0, 0))?;
-    bench.keep(0)?;
-    bench.stands_at(stands(1, 1, 1, 0))
+fn scripts_have_their_replies(rt: HostRuntime) -> Result<(), Fail> {
+    expect_script(&rt, SCRIPTS)
 }

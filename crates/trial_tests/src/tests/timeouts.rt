@@ -1,15 +1,26 @@
 //! Timeouts of a pool and of its gets.
+use super::managers::Counter;
 use deadpool::Runtime;
-use deadpool::managed::{
-    BuildError, NoHook, PoolBuilder, PoolError, QueueMode, TimeoutType, Timeouts,
-};
+use deadpool::managed::{BuildError, NoHook, PoolBuilder, QueueMode, Timeouts};
 use deadpool::replay::Trial;
+use pool_scripts::{expect_over, expect_script};
 use std::alloc::Global;
-use std::cell::Cell;
 use std::test::Fail;
 use std::time::Duration;
-use test_support::bench::{Bench, stands};
-use test_support::managers::{Counter, Draining};
+use test_support::expected::expect;
+
+const SCRIPTS: &str = r#"# a-creation-that-never-ends-runs-out-of-time
+config clock 0 {"max_size":16,"timeouts":{"wait":{"secs":0,"nanos":0},"create":{"secs":0,"nanos":0},"recycle":{"secs":0,"nanos":0}}} => ok
+answer create pending => ok
+start => party 0
+poll 0 0 => error Timeout occurred while creating a new object
+status => max 16 size 0 available 0 waiting 0
+"#;
+
+#[test]
+fn scripts_have_their_replies(rt: HostRuntime) -> Result<(), Fail> {
+    expect_script(&rt, SCRIPTS)
+}
 
 const NO_TIMEOUTS: Timeouts = Timeouts {
     wait: None,
@@ -21,27 +32,26 @@ fn nanoseconds(count: u64) -> Option<Duration> {
     Some(Duration::from_nanos(count))
 }
 
-#[test]
-fn a_creation_that_never_ends_runs_out_of_time(rt: HostRuntime) -> Result<(), Fail> {
-    let manager = Draining {
-        pending: Cell::new(usize::MAX),
-        refuses: Cell::new(false),
-    };
-    let builder = PoolBuilder::<_, NoHook, NoHook, _>::new(rt.alloc(), manager, ())
-        .max_size(16)
-        .timeouts(Timeouts {
-            wait: nanoseconds(0),
-            create: nanoseconds(0),
-            recycle: nanoseconds(0),
-        })
-        .runtime(Runtime::Clock);
-    let mut bench = Bench::new(&rt, builder)?;
-    refuses_at_once(&mut bench)
+type Builder = PoolBuilder<Counter, NoHook, NoHook, ()>;
+
+fn builder(alloc: Global) -> Builder {
+    PoolBuilder::new(alloc, Counter::starting_at(0), ())
 }
 
-fn refuses_at_once(bench: &mut Bench<Draining, NoHook, NoHook>) -> Result<(), Fail> {
-    bench.refuses(PoolError::Timeout(TimeoutType::Create))?;
-    bench.stands_at(stands(16, 0, 0, 0))
+// Why a builder's pool is refused, if it is.
+fn refusal(builder: Builder) -> Option<BuildError> {
+    Trial::new(builder, 1, 0).err()
+}
+
+// Without a runtime a pool with timeouts is refused.
+fn wants_a_runtime(alloc: Global, timeouts: Timeouts) -> Result<(), Fail> {
+    let without = refusal(builder(alloc).timeouts(timeouts));
+    let with = refusal(builder(alloc).timeouts(timeouts).runtime(Runtime::Clock));
+    expect(
+        "without a runtime, and with one",
+        (without, with),
+        (Some(BuildError::NoRuntimeSpecified), None),
+    )
 }
 
 #[test]
@@ -60,44 +70,33 @@ fn a_timeout_wants_a_runtime(rt: HostRuntime) -> Result<(), Fail> {
             ..NO_TIMEOUTS
         },
     ] {
-        let builder = PoolBuilder::<_, NoHook, NoHook, _>::new(
-            rt.alloc(),
-            Counter::new(),
-            (),
-        ).timeouts(timeouts);
-        assert_eq!(rt;
-            Trial::new(builder, 1, 0).err(),
-            Some(BuildError::NoRuntimeSpecified)
-        );
-        let builder = PoolBuilder::<_, NoHook, NoHook, _>::new(rt.alloc(), Counter::new(), ())
-            .timeouts(timeouts)
-            .runtime(Runtime::Clock);
-        assert_eq!(rt; Trial::new(builder, 1, 0).err(), None);
+        wants_a_runtime(rt.alloc(), timeouts)?;
     }
     Ok(())
 }
 
+// Party 1 has no timeouts, and party 2 those of the pool.
+const WAITS: &str = "\
+start => party 0
+poll 0 0 => object 0 value 0
+start - - - => party 1
+start => party 2
+poll 1 5 => pending
+poll 2 5 => pending
+poll 2 14 => pending
+poll 2 15 => error Timeout occurred while waiting for a slot to become available
+poll 1 1000000 => pending
+status => max 1 size 1 available 0 waiting 1
+";
+
 #[test]
 fn a_get_has_the_configured_timeouts_or_its_own(rt: HostRuntime) -> Result<(), Fail> {
-    let builder = PoolBuilder::<_, NoHook, NoHook, _>::new(rt.alloc(), Counter::new(), ())
+    let builder = builder(rt.alloc())
         .max_size(1)
         .wait_timeout(nanoseconds(10))
         .create_timeout(nanoseconds(20))
         .recycle_timeout(nanoseconds(30))
         .queue_mode(QueueMode::Lifo)
         .runtime(Runtime::Clock);
-    let mut bench = Bench::new(&rt, builder)?;
-    waits_as_long_as_each_may(&mut bench)
-}
-
-fn waits_as_long_as_each_may(bench: &mut Bench<Counter, NoHook, NoHook>) -> Result<(), Fail> {
-    bench.hands_out(0)?;
-    let patient = bench.start_with(NO_TIMEOUTS)?;
-    let configured = bench.start()?;
-    bench.stays_pending(patient, 5)?;
-    bench.stays_pending(configured, 5)?;
-    bench.stays_pending(configured, 14)?;
-    bench.fails(configured, 15, PoolError::Timeout(TimeoutType::Wait))?;
-    bench.stays_pending(patient, 1_000_000)?;
-    bench.stands_at(stands(1, 1, 0, 1))
+    expect_over(&rt, builder, WAITS)
 }

@@ -1,19 +1,15 @@
 //! Configurations in JSON.
-use super::expected::expect;
-use deadpool_unmanaged::{ConfigError, PoolConfig, Runtime};
+use super::expect;
+use deadpool::Runtime;
+use deadpool::unmanaged::{ConfigError, PoolConfig};
 use serde_json::Value;
 use std::alloc::{AllocError, Global};
 use std::test::Fail;
-use std::time::Duration;
 
 /// What the text's value reads as.
 fn read(alloc: Global, text: &str) -> Result<Result<PoolConfig, ConfigError>, Fail> {
     let value = Value::from_str(alloc, text)?;
     Ok(PoolConfig::from_json(&value))
-}
-
-fn reads(alloc: Global, text: &str, expected: Result<PoolConfig, ConfigError>) -> Result<(), Fail> {
-    expect(text, read(alloc, text)?, expected)
 }
 
 #[test]
@@ -23,43 +19,32 @@ fn sizes_by_processors(_rt: HostRuntime) -> Result<(), Fail> {
     expect("the sizes", found, sizes.map(PoolConfig::new))
 }
 
-#[test]
-fn names_the_first_fault(rt: HostRuntime) -> Result<(), Fail> {
-    for (text, fault) in [
-        ("[]", ConfigError::NotAnObject),
-        (r#"{"timeout":5}"#, ConfigError::MissingMaxSize),
-        (r#"{"max_size":1.0,"timeout":5}"#, ConfigError::BadNumber),
-        (r#"{"max_size":1,"timeout":5}"#, ConfigError::BadDuration),
-        (
-            r#"{"max_size":1,"timeout":{"secs":1}}"#,
-            ConfigError::BadDuration,
-        ),
-    ] {
-        reads(rt.alloc(), text, Err(fault))?;
-    }
-    Ok(())
+// Faults, of which each is the first in its text, and then configurations.
+const READ: &str = r#"[] => Err(NotAnObject)
+{"timeout":5} => Err(MissingMaxSize)
+{"max_size":1.0,"timeout":5} => Err(BadNumber)
+{"max_size":1,"timeout":5} => Err(BadDuration)
+{"max_size":1,"timeout":{"secs":1}} => Err(BadDuration)
+{"max_size":7,"queue_mode":5,"timeouts":null,"runtime":1} => Ok(PoolConfig { max_size: 7, timeout: None, runtime: None })
+{"max_size":7,"timeout":{"secs":1,"nanos":1500000000}} => Ok(PoolConfig { max_size: 7, timeout: Some(2.5s), runtime: None })"#;
+
+// What stands before the arrow reads as what stands behind it.
+fn reads(alloc: Global, line: &str) -> Result<(), Fail> {
+    let (text, expected) = line.split_once(" => ").unwrap_or((line, ""));
+    let found = format!(in alloc; "{:?}", read(alloc, text)?)?;
+    expect(line, found.as_str(), expected)
 }
 
 #[test]
 fn reads_configurations(rt: HostRuntime) -> Result<(), Fail> {
-    for (text, timeout) in [
-        (
-            r#"{"max_size":7,"queue_mode":5,"timeouts":null,"runtime":1}"#,
-            None,
-        ),
-        (
-            r#"{"max_size":7,"timeout":{"secs":1,"nanos":1500000000}}"#,
-            Some(Duration::from_millis(2500)),
-        ),
-    ] {
-        let config = PoolConfig {
-            timeout,
-            ..PoolConfig::new(7)
-        };
-        reads(rt.alloc(), text, Ok(config))?;
+    for line in READ.lines() {
+        reads(rt.alloc(), line)?;
     }
     Ok(())
 }
+
+const WRITTEN: &str = r#"{"max_size":2,"timeout":null}
+{"max_size":2,"timeout":{"nanos":5,"secs":1}}"#;
 
 // Writes what the text reads as, and reads that.
 fn reads_again(alloc: Global, text: &str) -> Result<(), Fail> {
@@ -75,11 +60,10 @@ fn reads_again(alloc: Global, text: &str) -> Result<(), Fail> {
 
 #[test]
 fn reads_what_it_wrote(rt: HostRuntime) -> Result<(), Fail> {
-    reads_again(rt.alloc(), r#"{"max_size":2,"timeout":null}"#)?;
-    reads_again(
-        rt.alloc(),
-        r#"{"max_size":2,"timeout":{"nanos":5,"secs":1}}"#,
-    )
+    for text in WRITTEN.lines() {
+        reads_again(rt.alloc(), text)?;
+    }
+    Ok(())
 }
 
 #[test]

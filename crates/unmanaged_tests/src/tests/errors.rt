@@ -1,5 +1,5 @@
-use super::expected::expect;
-use deadpool_unmanaged::PoolError;
+use super::expect;
+use deadpool::unmanaged::PoolError;
 use std::alloc::Global;
 use std::test::Fail;
 
@@ -8,18 +8,21 @@ fn shows(alloc: Global, error: PoolError, text: &str) -> Result<(), Fail> {
     expect("the text", shown.as_str(), text)
 }
 
+const TEXTS: &str = "Timeout occurred while waiting for an object to become available
+Pool has been closed
+No runtime specified
+Out of memory";
+
 #[test]
 fn each_error_has_its_text(rt: HostRuntime) -> Result<(), Fail> {
-    for (error, text) in [
-        (
-            PoolError::Timeout,
-            "Timeout occurred while waiting for an object to become available",
-        ),
-        (PoolError::Closed, "Pool has been closed"),
-        (PoolError::NoRuntimeSpecified, "No runtime specified"),
-        (PoolError::OutOfMemory, "Out of memory"),
+    let mut texts = TEXTS.lines();
+    for error in [
+        PoolError::Timeout,
+        PoolError::Closed,
+        PoolError::NoRuntimeSpecified,
+        PoolError::OutOfMemory,
     ] {
-        shows(rt.alloc(), error, text)?;
+        shows(rt.alloc(), error, texts.next().unwrap_or(""))?;
     }
     Ok(())
 }

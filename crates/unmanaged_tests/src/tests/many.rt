@@ -1,105 +1,172 @@
-//! Many that wait, and many objects.
-use super::expected::expect;
-use deadpool_unmanaged::{AddEnterReply, AddState, Core, GetState, Moment, PoolError};
-use futures::task::Poll;
-use std::alloc::AllocError;
+//! Many that wait, many objects, and a limit for which there is no memory.
+use super::steps::object_of;
+use super::{Host, expect, stands};
+use deadpool::replay::unmanaged::{Move, Reply, Trial};
+use deadpool::unmanaged::{AddEnterReply, BackReply, Core, GetEnterReply, Pool, PoolError};
+use deadpool::{Moment, NoTime, Status};
+use std::alloc::{AllocError, Global};
 use std::test::Fail;
 
-// Whether each of a thousand gets waits.
-fn gets_wait(core: &mut Core<u64>, gets: &mut Vec<GetState>) -> Result<bool, AllocError> {
-    let mut all_wait = true;
-    for _get in 0..1024 {
-        let mut get = GetState::new(None);
-        all_wait = get.poll(core, None, Moment(0)).is_pending() && all_wait;
-        gets.push(get)?;
+const CROWD: usize = 1_024;
+
+// A crowd of gets starts, and then one of adds, whose values are the numbers from 0 on.
+fn starts(alloc: Global) -> Result<Vec<Move<u64>>, AllocError> {
+    let mut moves = Vec::new(alloc);
+    for _get in 0..CROWD {
+        moves.push(Move::Get(None))?;
     }
-    Ok(all_wait)
+    for number in 0..CROWD {
+        moves.push(Move::Add(number as u64))?;
+    }
+    Ok(moves)
 }
 
-// Whether each ends since the pool is closed.
-fn gets_end(core: &mut Core<u64>, gets: &mut Vec<GetState>) -> bool {
-    let mut all_end = true;
-    for get in gets.iter_mut() {
-        let ended = get.poll(core, None, Moment(0));
-        all_end = ended == Poll::Ready(Err(PoolError::Closed)) && all_end;
+// Each is polled.
+fn polls(alloc: Global) -> Result<Vec<Move<u64>>, AllocError> {
+    let mut moves = Vec::new(alloc);
+    for party in 0..2 * CROWD {
+        moves.push(Move::Poll(party, Moment(0)))?;
+    }
+    Ok(moves)
+}
+
+fn run(trial: &mut Trial<u64>, moves: Vec<Move<u64>>) -> Result<Vec<Reply<u64>>, Fail> {
+    trial
+        .run(moves)
+        .map_err(|_| Fail::new("no memory for the replies"))
+}
+
+fn all_start(replies: &[Reply<u64>]) -> bool {
+    let mut all_start = replies.len() == 2 * CROWD;
+    for (number, reply) in replies.iter().enumerate() {
+        let starts = match reply {
+            Reply::Started(party) => *party == number,
+            _ => false,
+        };
+        all_start = starts && all_start;
+    }
+    all_start
+}
+
+fn all_wait(replies: &[Reply<u64>]) -> bool {
+    let mut all_wait = replies.len() == 2 * CROWD;
+    for reply in replies {
+        all_wait = matches!(reply, Reply::Pending) && all_wait;
+    }
+    all_wait
+}
+
+// Each ends since the pool is closed, and the adds have their values back.
+fn all_end(replies: &[Reply<u64>]) -> bool {
+    let mut all_end = replies.len() == 2 * CROWD;
+    for (party, reply) in replies.iter().enumerate() {
+        let ends = match reply {
+            Reply::Failed(PoolError::Closed) => party < CROWD,
+            Reply::Refused(PoolError::Closed, value) => *value == value_of(party),
+            _ => false,
+        };
+        all_end = ends && all_end;
     }
     all_end
 }
 
-fn gets_wait_and_end(core: &mut Core<u64>, gets: &mut Vec<GetState>) -> Result<(), Fail> {
-    let all_wait = gets_wait(core, gets)?;
-    core.close();
+// What an add brings.
+fn value_of(party: usize) -> u64 {
+    party.wrapping_sub(CROWD) as u64
+}
+
+fn status(trial: &mut Trial<u64>) -> Option<Status> {
+    match trial.make(Move::Status) {
+        Reply::Stands(status) => Some(status),
+        _ => None,
+    }
+}
+
+fn waits_and_ends(trial: &mut Trial<u64>, alloc: Global) -> Result<(), Fail> {
+    let all_start = all_start(&run(trial, starts(alloc)?)?);
+    let all_wait = all_wait(&run(trial, polls(alloc)?)?);
+    let before = status(trial);
+    trial.make(Move::Close);
+    let all_end = all_end(&run(trial, polls(alloc)?)?);
+    let after = (status(trial), trial.value(0).copied());
     expect(
-        "all wait, how many, all end",
-        (all_wait, gets.len(), gets_end(core, gets)),
-        (true, 1024, true),
+        "all start, all wait, the status, all end, the status, no value",
+        ([all_start, all_wait, all_end], before, after),
+        (
+            [true, true, true],
+            Some(stands(0, 0, 0, CROWD)),
+            (Some(stands(0, 0, 0, 0)), None),
+        ),
     )
 }
 
 #[test]
-fn a_thousand_gets_wait(rt: HostRuntime) -> Result<(), Fail> {
-    let mut core = Core::new(rt.alloc(), 0)?;
-    gets_wait_and_end(&mut core, &mut Vec::new(rt.alloc()))
+fn crowds_of_gets_and_adds_wait_and_end(rt: HostRuntime) -> Result<(), Fail> {
+    let mut trial = Trial::new(rt.alloc(), 0, None, 2 * CROWD)?;
+    waits_and_ends(&mut trial, rt.alloc())
 }
 
-// Whether each of a thousand adds waits. Their values are the numbers from 0 on.
-fn adds_wait(core: &mut Core<u64>, adds: &mut Vec<AddState<u64>>) -> Result<bool, AllocError> {
-    let mut all_wait = true;
-    for number in 0..1024u64 {
-        let mut add = AddState::new(number);
-        all_wait = add.poll(core).is_pending() && all_wait;
-        adds.push(add)?;
-    }
-    Ok(all_wait)
-}
+const LARGE: usize = 100_000;
 
-// Whether each ends since the pool is closed, and has its value back.
-fn adds_end(core: &mut Core<u64>, adds: &mut Vec<AddState<u64>>) -> bool {
-    let mut all_end = true;
-    for (number, add) in adds.iter_mut().enumerate() {
-        let ended = add.poll(core);
-        all_end = ended == Poll::Ready(Err((number as u64, PoolError::Closed))) && all_end;
-    }
-    all_end
-}
-
-fn adds_wait_and_end(core: &mut Core<u64>, adds: &mut Vec<AddState<u64>>) -> Result<(), Fail> {
-    let all_wait = adds_wait(core, adds)?;
-    core.close();
-    expect(
-        "all wait, how many, all end",
-        (all_wait, adds.len(), adds_end(core, adds)),
-        (true, 1024, true),
-    )
-}
-
-#[test]
-fn a_thousand_adds_wait(rt: HostRuntime) -> Result<(), Fail> {
-    let mut core = Core::new(rt.alloc(), 0)?;
-    adds_wait_and_end(&mut core, &mut Vec::new(rt.alloc()))
-}
-
-// Whether each of a hundred thousand objects is stored.
-fn stores_many(core: &mut Core<u64>) -> bool {
+// Whether each is stored, and no more.
+fn fills(core: &mut Core<usize>) -> bool {
     let mut all_stored = true;
-    for number in 0..100_000u64 {
-        let reply = core.add_enter(number, false);
+    for value in 0..LARGE {
+        let reply = core.add_enter(value, false);
         all_stored = matches!(reply, AddEnterReply::Stored) && all_stored;
     }
-    all_stored
+    matches!(core.add_enter(LARGE, false), AddEnterReply::Full(LARGE)) && all_stored
 }
 
-fn stores_no_more(core: &mut Core<u64>) -> bool {
-    matches!(core.add_enter(1, false), AddEnterReply::Full(1))
+// Whether each comes out, the last first, and no more.
+fn empties(core: &mut Core<usize>) -> bool {
+    let mut all_out = true;
+    for value in (0..LARGE).rev() {
+        all_out = object_of(core.get_enter(false)) == Some(value) && all_out;
+    }
+    matches!(core.get_enter(false), GetEnterReply::Full) && all_out
+}
+
+// Whether each is kept.
+fn takes_all_back(core: &mut Core<usize>) -> bool {
+    let mut all_kept = true;
+    for value in 0..LARGE {
+        all_kept = matches!(core.back(value), BackReply::Kept) && all_kept;
+    }
+    all_kept
+}
+
+fn has_all_in_and_out(core: &mut Core<usize>) -> Result<(), Fail> {
+    let filled = (fills(core), core.status());
+    let emptied = (empties(core), core.status());
+    let back = (takes_all_back(core), core.status());
+    let full = (true, stands(LARGE, LARGE, LARGE, 0));
+    expect(
+        "all are in, out, and in again",
+        [filled, emptied, back],
+        [full, (true, stands(LARGE, LARGE, 0, 0)), full],
+    )
 }
 
 #[test]
-fn a_hundred_thousand_objects_fit(rt: HostRuntime) -> Result<(), Fail> {
-    let mut core = Core::new(rt.alloc(), 100_000)?;
-    let stored = (stores_many(&mut core), stores_no_more(&mut core));
-    expect(
-        "all stored, no more, and how many",
-        (stored, core.status().available),
-        ((true, true), 100_000),
-    )
+fn a_hundred_thousand_objects(rt: HostRuntime) -> Result<(), Fail> {
+    let mut core = Core::new(rt.alloc(), LARGE)?;
+    has_all_in_and_out(&mut core)
+}
+
+fn finds_no_memory<R: Host>(rt: R, max_size: usize) -> bool {
+    let pool: Result<Pool<u64, NoTime, R>, AllocError> = Pool::new(
+        rt.alloc(),
+        max_size,
+        NoTime,
+        rt,
+    );
+    pool.is_err()
+}
+
+#[test]
+fn a_limit_without_memory(rt: HostRuntime) -> Result<(), Fail> {
+    let is_refused = finds_no_memory(rt, usize::MAX);
+    let added = Pool::new(rt.alloc(), 1, NoTime, rt)?.try_add(1u64);
+    expect("refused, added", (is_refused, added), (true, Ok(())))
 }

@@ -1,74 +1,79 @@
-//! Lists of moves, and what a trial says to each.
-use super::expected::expect;
-use deadpool_unmanaged::{PoolError, Status};
-use std::test::Fail;
-use unmanaged_replay::{Move, Reply, Trial};
+//! What comes of a move, as a line.
+use deadpool::Status;
+use deadpool::replay::unmanaged::Reply;
+use std::alloc::{AllocError, Global};
 
-/// What a reply says, with the number or the value in it, or 0 if it has none.
-pub type Said = (&'static str, u64);
-
-/// Makes the moves in one run, and fails unless the replies say this.
-pub fn plays(trial: &mut Trial<u64>, moves: Vec<Move<u64>>, expected: &[Said]) -> Result<(), Fail> {
-    match trial.run(moves) {
-        Ok(replies) => say(&replies, expected),
-        Err(_) => Err(Fail::new("no memory for the replies")),
-    }
+/// A reply as a line. A reply that hands an object out has its value, if there is one.
+pub fn text_of(
+    alloc: Global,
+    reply: &Reply<u64>,
+    value: Option<u64>,
+) -> Result<String, AllocError> {
+    came_of(alloc, reply, value, "")
 }
 
-fn say(replies: &[Reply<u64>], expected: &[Said]) -> Result<(), Fail> {
-    for (number, reply) in replies.iter().enumerate() {
-        let found = said(reply);
-        if expected.get(number) != Some(&found) {
-            return Err(Fail::new(format_args!("reply {number} was {found:?}")));
-        }
-    }
-    expect("how many replies", replies.len(), expected.len())
+/// The same line, with those that the move woke.
+pub fn came_of(
+    alloc: Global,
+    reply: &Reply<u64>,
+    value: Option<u64>,
+    woken: &str,
+) -> Result<String, AllocError> {
+    let mut text = String::new(alloc);
+    write_reply(&mut text, reply, value)?;
+    write_woken(&mut text, woken)?;
+    Ok(text)
 }
 
-fn said(reply: &Reply<u64>) -> Said {
+fn write_reply(
+    text: &mut String,
+    reply: &Reply<u64>,
+    value: Option<u64>,
+) -> Result<(), AllocError> {
     match reply {
-        Reply::Started(party) => ("started", *party as u64),
-        Reply::NoRoom => ("no room", 0),
-        Reply::NoSuch => ("no such", 0),
-        Reply::NoHandle => ("no handle", 0),
-        Reply::Exhausted(value) => ("exhausted", *value),
-        Reply::Pending => ("pending", 0),
-        Reply::Object(number) => ("an object", *number as u64),
-        Reply::Added(number) => ("added", *number as u64),
-        Reply::Failed(cause) => (failed(*cause), 0),
-        Reply::Refused(cause, value) => (refused(*cause), *value),
-        Reply::Cancelled => ("cancelled", 0),
-        Reply::Kept => ("kept", 0),
-        Reply::Dropped => ("dropped", 0),
-        Reply::Taken(value) => ("taken", *value),
-        Reply::Done => ("done", 0),
-        Reply::Stands(_) => ("a status", 0),
-        Reply::Upgraded(is_upgraded) => ("upgraded", *is_upgraded as u64),
+        Reply::Started(party) => write!(text, "party {party}"),
+        Reply::NoRoom => text.push_str("no room"),
+        Reply::NoSuch => text.push_str("no such"),
+        Reply::NoHandle => text.push_str("no handle"),
+        Reply::Exhausted(value) => write!(text, "exhausted value {value}"),
+        Reply::Pending => text.push_str("pending"),
+        Reply::Object(number) => write_object(text, *number, value),
+        Reply::Added(number) => write!(text, "added {number}"),
+        Reply::Failed(cause) => write!(text, "error {cause}"),
+        Reply::Refused(cause, value) => write!(text, "error {cause} value {value}"),
+        Reply::Cancelled => text.push_str("cancelled"),
+        Reply::Kept => text.push_str("kept"),
+        Reply::Dropped => text.push_str("dropped"),
+        Reply::Taken(value) => write!(text, "taken {value}"),
+        Reply::Done => text.push_str("ok"),
+        Reply::Stands(status) => write_status(text, *status),
+        Reply::Upgraded(is_open) => write!(text, "upgraded {is_open}"),
     }
 }
 
-fn failed(cause: PoolError) -> &'static str {
-    match cause {
-        PoolError::Timeout => "failed, out of time",
-        PoolError::Closed => "failed, closed",
-        PoolError::NoRuntimeSpecified => "failed, no runtime",
-        PoolError::OutOfMemory => "failed, no memory",
+fn write_woken(text: &mut String, woken: &str) -> Result<(), AllocError> {
+    if woken.is_empty() {
+        return Ok(());
+    }
+    write!(text, ", wakes{woken}")
+}
+
+fn write_object(text: &mut String, number: usize, value: Option<u64>) -> Result<(), AllocError> {
+    match value {
+        Some(value) => write!(text, "object {number} value {value}"),
+        None => write!(text, "object {number}"),
     }
 }
 
-fn refused(cause: PoolError) -> &'static str {
-    match cause {
-        PoolError::Timeout => "refused, out of time",
-        PoolError::Closed => "refused, closed",
-        PoolError::NoRuntimeSpecified => "refused, no runtime",
-        PoolError::OutOfMemory => "refused, no memory",
-    }
-}
-
-/// Asks for the status, and fails unless it is this.
-pub fn stands_at(trial: &mut Trial<u64>, expected: Status) -> Result<(), Fail> {
-    match trial.make(Move::Status) {
-        Reply::Stands(status) => expect("the status", status, expected),
-        _ => Err(Fail::new("no status")),
-    }
+fn write_status(text: &mut String, status: Status) -> Result<(), AllocError> {
+    let Status {
+        max_size,
+        size,
+        available,
+        waiting,
+    } = status;
+    write!(
+        text,
+        "max {max_size} size {size} available {available} waiting {waiting}"
+    )
 }

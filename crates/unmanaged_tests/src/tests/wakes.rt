@@ -1,7 +1,8 @@
 //! Who is named, and when somebody would have to wait.
-use super::expected::expect;
-use deadpool_unmanaged::gate::Ticket;
-use deadpool_unmanaged::{AddState, Core, GetState, Moment};
+use super::expect;
+use deadpool::Moment;
+use deadpool::gate::Ticket;
+use deadpool::unmanaged::{AddState, Core, GetState};
 use futures::task::Poll;
 use std::test::Fail;
 

@@ -9,4 +9,4 @@ invariant_of-self g c =
     let core = c.self.inside.core in
     let left = c.clone_handle-reply.new.self in
     let made = clone_numbered core.desk left.desk c.clone_handle-reply.result c.clone_handle-reply.ensures.0 in
-    rw c.add.ensures (step_kept (journaling_of c.self.inside) left (entry.CloneHandle c.clone_handle-reply.result) c.self.invariant made)
+    rw c.add_clone_handle.ensures (step_kept (journaling_of c.self.inside) left (entry.CloneHandle c.clone_handle-reply.result) c.self.invariant made)

@@ -9,4 +9,4 @@ invariant_of-self g c =
     let core = c.self.inside.core in
     let left = c.drop_handle-reply.new.self in
     let made = drop_handle_numbered core.desk left.desk c.drop_handle-reply.result c.drop_handle-reply.ensures.0 in
-    rw c.add.ensures (step_kept (journaling_of c.self.inside) left (entry.DropHandle c.drop_handle-reply.result) c.self.invariant made)
+    rw c.add_drop_handle.ensures (step_kept (journaling_of c.self.inside) left (entry.DropHandle c.drop_handle-reply.result) c.self.invariant made)

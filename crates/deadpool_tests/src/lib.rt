@@ -1,5 +1,0 @@
-//! Tests of the pools that cross crates.
-#![tactic(auto)]
-
-#[cfg(test)]
-mod tests;

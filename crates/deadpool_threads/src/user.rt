@@ -1,0 +1,16 @@
+//! Who is lent a pool.
+
+use deadpool::Clock;
+use deadpool::managed::{AsyncHook, Ledgers, Manager, Pool, SyncHook};
+use std::sync::Wait;
+
+/// What is done with a pool that is lent, whatever ledgers it counts by.
+///
+/// It starts no thread that uses the pool: `lend_among` does.
+pub trait PoolUser<M: Manager, F: SyncHook<M>, A: AsyncHook<M>, C: Clock, R: Wait + Drop>: Drop {
+    /// What comes of it.
+    type Output;
+
+    /// Uses the pool.
+    fn run<L: Ledgers>(self, rt: &R, pool: &Pool<M, F, A, C, R, L>) -> Self::Output;
+}

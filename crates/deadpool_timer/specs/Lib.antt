@@ -1,0 +1,4 @@
+-- The clock of real time.
+
+-- What a timer's alarms are, and when they ring.
+pub mod Ringing

@@ -1,0 +1,195 @@
+//! A clock of real time, and the thread that wakes by it.
+ghost use Rattle.futures.specs.Task.{Keeps};
+
+use crate::alarms::{Alarms, Next, Place};
+use deadpool_parts::{Clock, Moment};
+use futures::task::{Context, Poll, Source, Waker};
+use std::alloc::{AllocError, Global};
+use std::sync::{Arc, Condvar, Mutex, Wait};
+use std::thread;
+use std::thread::{JoinHandle, Threads};
+use std::time::{Clock as SystemClock, Duration};
+
+// What the thread of a timer shares with its clocks and their alarms.
+#[derive(Drop)]
+struct Shared<R: Wait + SystemClock + Drop> {
+    alarms: Mutex<Alarms>,
+    // Rings when the first alarm is another one, or the timer is stopped.
+    changed: Condvar,
+    source: Source,
+    rt: R,
+}
+
+impl<R: Wait + SystemClock + Drop> Shared<R> {
+    // A clock that cannot be read shows its beginning.
+    fn now(&self) -> Moment {
+        match self.rt.monotonic() {
+            Ok(since_start) => Moment(since_start.as_nanos()),
+            Err(_) => Moment(0),
+        }
+    }
+
+    // Wakes those that are due, one at a time and none of them under the lock, until the timer is stopped.
+    fn keep_time(&self) {
+        for _ in self.rt.forever() {
+            let now = self.now();
+            let mut alarms = self.alarms.lock(&self.rt);
+            match alarms.next(now) {
+                Next::Wake(waker) => {
+                    drop(alarms);
+                    waker.wake();
+                }
+                Next::Until(at) => {
+                    let (alarms, _) = self.changed.wait_timeout(&self.rt, alarms, from(now, at));
+                    drop(alarms);
+                }
+                Next::Wait => drop(self.changed.wait(&self.rt, alarms)),
+                Next::End => return,
+            }
+        }
+    }
+
+    // The waker of an alarm that has not rung.
+    fn take_back(&self, place: Place) -> Option<Waker> {
+        self.alarms.lock(&self.rt).take_back(place)
+    }
+
+    // The place of a new alarm, if it was set. A waker that finds no memory wakes its task at once.
+    fn set(&self, at: Moment, waker: Waker) -> Option<Place> {
+        let mut alarms = self.alarms.lock(&self.rt);
+        let set = alarms.set(at, waker);
+        let is_first = alarms.first() == Some(at);
+        drop(alarms);
+        if is_first {
+            self.changed.notify_one();
+        }
+        set.ok()
+    }
+
+    fn is_stopped(&self) -> bool {
+        self.alarms.lock(&self.rt).is_stopped()
+    }
+
+    fn stop(&self) {
+        self.alarms.lock(&self.rt).stop();
+        self.changed.notify_all();
+    }
+}
+
+// How long it is from one moment to another, at most some five hundred years.
+fn from(now: Moment, at: Moment) -> Duration {
+    let nanos = at.0.saturating_sub(now.0);
+    Duration::from_nanos(u64::try_from(nanos).unwrap_or(u64::MAX))
+}
+
+/// A thread that wakes tasks at their deadlines. Dropping the timer ends the thread and waits for it; all alarms ring then.
+pub struct Timer<R: Wait + Threads + SystemClock + Drop> {
+    shared: Arc<Shared<R>, Global>,
+    thread: JoinHandle<()>,
+}
+
+impl<R: Wait + Threads + SystemClock + Drop + Send + Sync + 'static> Timer<R> {
+    /// Starts the thread. `AllocError` says that there was no memory for it, and none runs then.
+    pub fn start(alloc: Global, rt: R) -> Result<Self, AllocError>
+    where
+        R: Copy,
+    {
+        let shared = Arc::new(
+            alloc,
+            Shared {
+                alarms: Mutex::new(Alarms::new(alloc)),
+                changed: Condvar::new(),
+                source: Source::new(),
+                rt,
+            },
+        )?;
+        let theirs = Arc::try_clone(&shared)?;
+        let thread = thread::spawn(&rt, move || theirs.keep_time())?;
+        Ok(Timer { shared, thread })
+    }
+}
+
+impl<R: Wait + Threads + SystemClock + Drop> Timer<R> {
+    /// A clock for one pool, of either kind. `AllocError` says that there was no memory for it.
+    pub fn clock(&self) -> Result<TimerClock<R>, AllocError> {
+        Ok(TimerClock {
+            shared: Arc::try_clone(&self.shared)?,
+        })
+    }
+
+    /// How many alarms are set: at most one for each get that waits.
+    pub fn alarms(&self) -> usize {
+        self.shared.alarms.lock(&self.shared.rt).count()
+    }
+}
+
+impl<R: Wait + Threads + SystemClock + Drop> Drop for Timer<R> {
+    fn drop(self) {
+        let Self { shared, thread } = self;
+        shared.stop();
+        thread.join(&shared.rt);
+    }
+}
+
+/// The system's monotonic clock, with the alarms of a timer. Its moments count from a start of the system's own.
+///
+/// When its timer is dropped each task that waits with a deadline is woken once. From then on the clock goes on telling the
+/// time and wakes nobody: a wait that is polled after its deadline ends, and nothing else has it polled.
+#[derive(Drop)]
+pub struct TimerClock<R: Wait + SystemClock + Drop> {
+    shared: Arc<Shared<R>, Global>,
+}
+
+/// An alarm that is set for one wait. Dropping it takes it back, and wakes the task once if it has not rung.
+pub struct TimerAlarm<R: Wait + SystemClock + Drop> {
+    shared: Arc<Shared<R>, Global>,
+    place: Place,
+}
+
+impl<R: Wait + SystemClock + Drop> TimerAlarm<R> {
+    // Its waker, if it has not rung.
+    fn take_back(self) -> Option<Waker> {
+        let Self { shared, place } = self;
+        shared.take_back(place)
+    }
+}
+
+impl<R: Wait + SystemClock + Drop> Drop for TimerAlarm<R> {
+    fn drop(self) {
+        drop(self.take_back());
+    }
+}
+
+impl<R: Wait + SystemClock + Drop> TimerClock<R> {
+    // A new alarm. If there is no memory for it, the task is woken at once.
+    fn set(&self, at: Moment, waker: Waker) -> Option<TimerAlarm<R>> {
+        let Ok(shared) = Arc::try_clone(&self.shared) else {
+            return None;
+        };
+        let place = shared.set(at, waker)?;
+        Some(TimerAlarm { shared, place })
+    }
+}
+
+impl<R: Wait + SystemClock + Drop> Clock for TimerClock<R> {
+    type Alarm = TimerAlarm<R>;
+
+    fn now(&self) -> Moment {
+        self.shared.now()
+    }
+
+    fn wake_at(&self, at: Moment, alarm: &mut Option<TimerAlarm<R>>, cx: &mut Context<'_>) {
+        // A waker of the same task is used again, so that moving an alarm wakes nobody.
+        let mut slot = match alarm.take() {
+            Some(old) => old.take_back(),
+            None => None,
+        };
+        if self.shared.is_stopped() {
+            return;
+        }
+        let _pending: Poll<()> = cx.register(&self.shared.source, &mut slot);
+        if let Some(waker) = slot {
+            *alarm = self.set(at, waker);
+        }
+    }
+}

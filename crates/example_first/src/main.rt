@@ -1,0 +1,74 @@
+//! Four threads share two numbers.
+#![tactic(auto)]
+
+use deadpool::NoTime;
+use deadpool::managed::{Ledgers, Metrics, NoHook, PoolBuilder, PoolError, RecycleResult};
+use deadpool_threads::{Host, Plain, PlainManager, PlainPool, PoolUser, Waiter, lend_among};
+use std::alloc::AllocError;
+use std::io;
+
+/// Makes numbers that begin at 0, and hands out each again as it came back.
+#[derive(Drop)]
+struct Zeros;
+
+impl PlainManager for Zeros {
+    type Type = u64;
+
+    type Error = ();
+
+    fn create(&self) -> Result<u64, ()> {
+        Ok(0)
+    }
+
+    fn recycle(&self, _number: &mut u64, _metrics: &Metrics) -> RecycleResult<()> {
+        Ok(())
+    }
+}
+
+type Numbers<R, L> = PlainPool<Plain<Zeros>, R, L>;
+
+/// Gets a number a hundred times and adds one to it.
+#[derive(Drop)]
+struct AddOnes;
+
+impl<R: Host> PoolUser<Plain<Zeros>, NoHook, NoHook, NoTime, R> for AddOnes {
+    type Output = Result<(), PoolError<()>>;
+
+    fn run<L: Ledgers>(self, rt: &R, pool: &Numbers<R, L>) -> Result<(), PoolError<()>> {
+        let Ok(mut waiter) = Waiter::new(rt) else {
+            return Err(PoolError::OutOfMemory);
+        };
+        for _one in 0..100 {
+            // It waits while both numbers are out, and gives its own back at the end of the turn.
+            let mut number = waiter.get(rt, pool)?;
+            *number = number.saturating_add(1);
+        }
+        Ok(())
+    }
+}
+
+/// Takes the numbers out of the pool, and adds them up.
+#[derive(Drop)]
+struct Total;
+
+impl<R: Host> PoolUser<Plain<Zeros>, NoHook, NoHook, NoTime, R> for Total {
+    type Output = Result<u64, AllocError>;
+
+    fn run<L: Ledgers>(self, _rt: &R, pool: &Numbers<R, L>) -> Result<u64, AllocError> {
+        let mut total = 0u64;
+        for number in pool.retain(|_number, _metrics| false)?.removed {
+            total = total.saturating_add(number);
+        }
+        Ok(total)
+    }
+}
+
+fn main(rt: HostRuntime) -> io::Result<()> {
+    let builder = PoolBuilder::new(rt.alloc(), Plain(Zeros), NoTime).max_size(2);
+    let workers = vec![in rt.alloc(); AddOnes, AddOnes, AddOnes, AddOnes]?;
+    let Ok((ended, total)) = lend_among(builder, rt, workers, Total) else {
+        return Err(io::Error::other("no pool"));
+    };
+    let well = ended.iter().filter(|end| end.is_ok()).count();
+    println!(rt; "{well} threads, total {}", total?)
+}

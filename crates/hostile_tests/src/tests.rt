@@ -1,4 +1,0 @@
-mod answers;
-mod lanes;
-mod shared_pools;
-mod trials;

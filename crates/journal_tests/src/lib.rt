@@ -1,5 +1,0 @@
-//! Tests of the journal over worked scripts.
-#![tactic(auto)]
-
-#[cfg(test)]
-mod tests;

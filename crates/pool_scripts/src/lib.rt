@@ -1,0 +1,30 @@
+//! The language of scripts of moves over a pool: what a line says, the pool and the manager that it is said to, and the
+//! text of its reply. `play` reads a script from any reader and writes the replies, line by line. `expect_script` plays
+//! scripts whose lines stand with their replies, and fails at the first that has another.
+#![tactic(auto)]
+
+mod calls;
+mod engine;
+mod expecting;
+mod fault;
+mod lines;
+mod lists;
+mod making;
+mod manager;
+mod mismatch;
+mod opening;
+mod players;
+mod script;
+mod texts;
+
+pub use engine::play;
+pub use expecting::{expect_crowd, expect_over, expect_script, find_mismatch};
+pub use fault::Fault;
+pub use lines::{read_line, without_line_feed, write_out};
+pub use manager::{Answer, Answers, Kind, ScriptHook, ScriptManager};
+pub use mismatch::Mismatch;
+pub use script::{
+    LineError, ManagedLine, ManagedPool, PoolLine, Settings, parse_managed, parse_number,
+    parse_pool,
+};
+pub use texts::{write_status, write_unmanaged};

@@ -1,0 +1,103 @@
+//! The replies to the lines of a script.
+use deadpool::Status;
+use deadpool::managed::RetainResult;
+use deadpool::replay::{Reply, unmanaged};
+use std::alloc::AllocError;
+use std::fmt;
+
+/// Appends the reply to a move over a managed pool. The value is that of the object that the move has handed out.
+pub fn write_managed<E: fmt::Display>(
+    text: &mut String,
+    reply: &Reply<u64, E>,
+    value: Option<u64>,
+) -> Result<(), AllocError> {
+    match reply {
+        Reply::Started(party) => write!(text, "party {party}"),
+        Reply::NoRoom => text.push_str("no room"),
+        Reply::NoSuch => text.push_str("no such"),
+        Reply::NoHandle => text.push_str("no handle"),
+        Reply::More => text.push_str("more"),
+        Reply::Pending => text.push_str("pending"),
+        Reply::Object(number) => write_object(text, *number, value),
+        Reply::Failed(cause) => write!(text, "error {cause}"),
+        Reply::Cancelled => text.push_str("cancelled"),
+        Reply::Done => text.push_str("ok"),
+        Reply::Kept => text.push_str("kept"),
+        Reply::Detached => text.push_str("detached"),
+        Reply::Dropped => text.push_str("dropped"),
+        Reply::Taken(value) => write!(text, "taken {value}"),
+        Reply::OutOfMemory => text.push_str("out of memory"),
+        Reply::Retained(retain) => write_retained(text, retain),
+        Reply::Stands(status) => write_status(text, *status),
+        Reply::Upgraded(true) => text.push_str("ok"),
+        Reply::Upgraded(false) => text.push_str("none"),
+    }
+}
+
+/// Appends the reply to a move over an unmanaged pool. The value is that of the object that the move has handed out.
+pub fn write_unmanaged(
+    text: &mut String,
+    reply: &unmanaged::Reply<u64>,
+    value: Option<u64>,
+) -> Result<(), AllocError> {
+    use unmanaged::Reply;
+    match reply {
+        Reply::Started(party) => write!(text, "party {party}"),
+        Reply::NoRoom => text.push_str("no room"),
+        Reply::NoSuch => text.push_str("no such"),
+        Reply::NoHandle => text.push_str("no handle"),
+        Reply::Exhausted(value) => write!(text, "exhausted value {value}"),
+        Reply::Pending => text.push_str("pending"),
+        Reply::Object(number) => write_object(text, *number, value),
+        Reply::Added(number) => write!(text, "added {number}"),
+        Reply::Failed(cause) => write!(text, "error {cause}"),
+        Reply::Refused(cause, value) => write!(text, "error {cause} value {value}"),
+        Reply::Cancelled => text.push_str("cancelled"),
+        Reply::Kept => text.push_str("kept"),
+        Reply::Dropped => text.push_str("dropped"),
+        Reply::Taken(value) => write!(text, "taken {value}"),
+        Reply::Done => text.push_str("ok"),
+        Reply::Stands(status) => write_status(text, *status),
+        Reply::Upgraded(true) => text.push_str("ok"),
+        Reply::Upgraded(false) => text.push_str("none"),
+    }
+}
+
+// An object that a move has handed out.
+fn write_object(text: &mut String, number: usize, value: Option<u64>) -> Result<(), AllocError> {
+    match value {
+        Some(value) => write!(text, "object {number} value {value}"),
+        None => text.push_str("no such"),
+    }
+}
+
+fn write_retained(text: &mut String, retain: &RetainResult<u64>) -> Result<(), AllocError> {
+    let retained = retain.retained;
+    write!(text, "retained {retained} removed")?;
+    for value in retain.removed.iter() {
+        write!(text, " {value}")?;
+    }
+    Ok(())
+}
+
+/// Appends how a pool stands.
+pub fn write_status(text: &mut String, status: Status) -> Result<(), AllocError> {
+    let Status {
+        max_size,
+        size,
+        available,
+        waiting,
+    } = status;
+    write!(
+        text,
+        "max {max_size} size {size} available {available} waiting {waiting}"
+    )
+}
+
+/// Ends the line of a reply, if its text has not ended it.
+pub fn end_line(text: &mut String) -> Result<(), AllocError> {
+    if !text.as_str().ends_with('\n') {
+        text.push('\n')?;
+    }
+    Ok(())
+}

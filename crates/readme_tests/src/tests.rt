@@ -1,5 +1,0 @@
-mod managed;
-mod states;
-mod threads;
-mod trial;
-mod unmanaged;

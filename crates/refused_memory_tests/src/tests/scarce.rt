@@ -1,0 +1,14 @@
+//! Pools and configurations that find no memory.
+mod calls;
+mod configurations;
+mod managed_player;
+mod player;
+mod program;
+mod reader;
+mod shared_pools;
+mod told;
+mod tracked;
+mod trials;
+mod unmanaged_player;
+mod unmanaged_shared_pools;
+mod words;

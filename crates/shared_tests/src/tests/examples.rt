@@ -1,0 +1,6 @@
+//! The examples of the READMEs.
+mod managed;
+mod states;
+pub mod threads;
+mod trial;
+mod unmanaged;

@@ -1,0 +1,355 @@
+//! A shared pool with its handles, the gets that were started, and the objects that are out.
+use super::lines::{Line, parse};
+use super::outside::{Common, Refused, TestClock, TestHook, TestManager};
+use super::texts::text_of;
+use deadpool::Moment;
+use deadpool::managed::{Get, Ledgers, NoHook, Object, Pool, PoolError, Timeouts, WeakPool};
+use deadpool::replay::{Move, Reply};
+use futures::task::Poll;
+use futures::test::MockTask;
+use std::alloc::Global;
+use std::mem;
+use std::random::RandomSource;
+use std::sync::Wait;
+use std::test::Fail;
+
+pub type TestPool<R, L> = Pool<TestManager, NoHook, TestHook, TestClock, R, L>;
+
+type TestWeak<R, L> = WeakPool<TestManager, NoHook, TestHook, TestClock, R, L>;
+
+type TestObject<R, L> = Object<TestManager, NoHook, TestHook, TestClock, R, L>;
+
+type TestGet<R, L> = Get<TestManager, NoHook, TestHook, TestClock, R, L, TestObject<R, L>>;
+
+// A get that was started.
+#[derive(Drop)]
+enum Party<R: Wait + Drop, L: Ledgers> {
+    Live(TestGet<R, L>),
+    // It has ended, and was dropped at once.
+    Ended,
+    Cancelled,
+}
+
+// An object that is out, with its number.
+#[derive(Drop)]
+struct Out<R: Wait + Drop, L: Ledgers> {
+    number: usize,
+    object: TestObject<R, L>,
+}
+
+/// A shared pool with its handles, the gets that were started, and the objects that are out. Its gets are polled in
+/// one task.
+#[derive(Drop)]
+pub struct Bench<R: Wait + Drop, L: Ledgers> {
+    alloc: Global,
+    outside: Common,
+    task: MockTask,
+    pools: Vec<TestPool<R, L>>,
+    weak: TestWeak<R, L>,
+    gets: Vec<Party<R, L>>,
+    out: Vec<Out<R, L>>,
+}
+
+impl<R: Wait + Drop, L: Ledgers> Bench<R, L> {
+    /// Nothing was started yet.
+    pub fn new<H: RandomSource + AllocGlobal>(
+        rt: &H,
+        outside: Common,
+        pool: TestPool<R, L>,
+    ) -> Result<Self, Fail> {
+        let weak = pool.weak()?;
+        let pools = vec![in rt.alloc(); pool]?;
+        Ok(Bench {
+            alloc: rt.alloc(),
+            outside,
+            task: MockTask::new(rt)?,
+            pools,
+            weak,
+            gets: Vec::new(rt.alloc()),
+            out: Vec::new(rt.alloc()),
+        })
+    }
+
+    /// Does what a line says, and gives the pool's reply as text.
+    pub fn do_line(&mut self, line: &str) -> Result<String, Fail> {
+        match parse(self.alloc, line)? {
+            Line::Answer(kind, answers) => self.outside.add(kind, answers.as_slice())?,
+            Line::Move(next) => return self.do_move(next),
+            Line::PoolOf(number) => self.ask_for_pool(number)?,
+            Line::Look => self.look()?,
+        }
+        Ok(String::new(self.alloc))
+    }
+
+    fn do_move(&mut self, next: Move<u64>) -> Result<String, Fail> {
+        let reply = self.make(next)?;
+        let value = match &reply {
+            Reply::Object(number) => self.value(*number),
+            _ => None,
+        };
+        Ok(text_of(self.alloc, &reply, value)?)
+    }
+
+    fn make(&mut self, next: Move<u64>) -> Result<Reply<u64, Refused>, Fail> {
+        match next {
+            Move::Start(timeouts) => self.start(timeouts),
+            Move::Poll(get, now) => self.poll(get, now),
+            Move::Cancel(get) => Ok(self.cancel(get)),
+            Move::Put(number, value) => Ok(self.put(number, value)),
+            Move::Back(number) => Ok(self.back(number)),
+            Move::Take(number) => Ok(self.take(number)),
+            Move::Clone => self.clone_handle(),
+            Move::DropHandle => Ok(self.drop_handle()),
+            Move::Upgrade => self.upgrade(),
+            own_step => self.make_own_step(own_step),
+        }
+    }
+
+    // The steps that a handle makes.
+    fn make_own_step(&mut self, next: Move<u64>) -> Result<Reply<u64, Refused>, Fail> {
+        let Some(pool) = self.pools.last() else {
+            return Ok(Reply::NoHandle);
+        };
+        match next {
+            Move::Resize(limit) => match pool.resize(limit) {
+                Ok(()) => Ok(Reply::Done),
+                Err(_) => Ok(Reply::OutOfMemory),
+            },
+            Move::Retain(kept) => self.retain(&kept),
+            Move::Close => {
+                pool.close();
+                Ok(Reply::Done)
+            }
+            Move::Status => Ok(Reply::Stands(pool.status())),
+            _ => Err(Fail::new("a shared pool has no such move")),
+        }
+    }
+
+    fn start(&mut self, timeouts: Option<Timeouts>) -> Result<Reply<u64, Refused>, Fail> {
+        let Some(pool) = self.pools.last() else {
+            return Ok(Reply::NoHandle);
+        };
+        let get = match &timeouts {
+            Some(timeouts) => pool.timeout_get(timeouts),
+            None => pool.get(),
+        };
+        let party = self.gets.len();
+        match self.gets.push(Party::Live(get)) {
+            Ok(()) => Ok(Reply::Started(party)),
+            Err(_) => Err(Fail::new("no memory for a get")),
+        }
+    }
+
+    fn poll(&mut self, get: usize, now: Moment) -> Result<Reply<u64, Refused>, Fail> {
+        self.outside.set_now(now);
+        let Some(party) = self.gets.get_mut(get) else {
+            return Ok(Reply::NoSuch);
+        };
+        let polled = match party {
+            Party::Live(get) => self.task.poll(get),
+            Party::Ended => Poll::Pending,
+            Party::Cancelled => return Ok(Reply::NoSuch),
+        };
+        let Poll::Ready(ended) = polled else {
+            return Ok(Reply::Pending);
+        };
+        drop(mem::replace(party, Party::Ended));
+        self.hand_out(ended)
+    }
+
+    fn hand_out(
+        &mut self,
+        ended: Result<TestObject<R, L>, PoolError<Refused>>,
+    ) -> Result<Reply<u64, Refused>, Fail> {
+        let object = match ended {
+            Ok(object) => object,
+            Err(cause) => return Ok(Reply::Failed(cause)),
+        };
+        let number = number_of(self.alloc, &object)?;
+        match self.out.push(Out { number, object }) {
+            Ok(()) => Ok(Reply::Object(number)),
+            Err(_) => Err(Fail::new("no memory for an object")),
+        }
+    }
+
+    fn cancel(&mut self, get: usize) -> Reply<u64, Refused> {
+        let Some(party) = self.gets.get_mut(get) else {
+            return Reply::NoSuch;
+        };
+        match mem::replace(party, Party::Cancelled) {
+            Party::Cancelled => Reply::NoSuch,
+            before => {
+                drop(before);
+                Reply::Cancelled
+            }
+        }
+    }
+
+    // Takes an object from those that are out.
+    fn take_out(&mut self, number: usize) -> Option<Out<R, L>> {
+        let at = self.out.iter().position(|out| out.number == number)?;
+        Some(self.out.remove(at))
+    }
+
+    fn put(&mut self, number: usize, value: u64) -> Reply<u64, Refused> {
+        match self.out.iter_mut().find(|out| out.number == number) {
+            Some(out) => {
+                *out.object = value;
+                Reply::Done
+            }
+            None => Reply::NoSuch,
+        }
+    }
+
+    // Whether an object that comes back is kept or dropped does not show, but in the status.
+    fn back(&mut self, number: usize) -> Reply<u64, Refused> {
+        let Some(out) = self.take_out(number) else {
+            return Reply::NoSuch;
+        };
+        let before = self.outside.detached();
+        drop(out);
+        if self.outside.detached() == before {
+            Reply::Kept
+        } else {
+            Reply::Detached
+        }
+    }
+
+    fn take(&mut self, number: usize) -> Reply<u64, Refused> {
+        match self.take_out(number) {
+            Some(out) => {
+                let Out { number: _, object } = out;
+                Reply::Taken(Object::take(object))
+            }
+            None => Reply::NoSuch,
+        }
+    }
+
+    // The objects are known by their values.
+    fn retain(&self, kept: &Vec<usize>) -> Result<Reply<u64, Refused>, Fail> {
+        let Some(pool) = self.pools.last() else {
+            return Ok(Reply::NoHandle);
+        };
+        let step = self.outside.step();
+        let keeps = |value: &u64| match value.checked_div(step) {
+            Some(number) => kept.contains(&(number as usize)),
+            None => false,
+        };
+        match pool.retain(|value, _metrics| keeps(value)) {
+            Ok(retained) => Ok(Reply::Retained(retained)),
+            Err(_) => Ok(Reply::OutOfMemory),
+        }
+    }
+
+    fn clone_handle(&mut self) -> Result<Reply<u64, Refused>, Fail> {
+        let Some(pool) = self.pools.last() else {
+            return Ok(Reply::NoHandle);
+        };
+        let pool = pool.clone()?;
+        self.keep_handle(pool)?;
+        Ok(Reply::Done)
+    }
+
+    fn drop_handle(&mut self) -> Reply<u64, Refused> {
+        match self.pools.pop() {
+            Some(pool) => {
+                drop(pool);
+                Reply::Done
+            }
+            None => Reply::NoHandle,
+        }
+    }
+
+    fn upgrade(&mut self) -> Result<Reply<u64, Refused>, Fail> {
+        match self.weak.upgrade()? {
+            Some(pool) => {
+                self.keep_handle(pool)?;
+                Ok(Reply::Upgraded(true))
+            }
+            None => Ok(Reply::Upgraded(false)),
+        }
+    }
+
+    fn keep_handle(&mut self, pool: TestPool<R, L>) -> Result<(), Fail> {
+        match self.pools.push(pool) {
+            Ok(()) => Ok(()),
+            Err(_) => Err(Fail::new("no memory for a handle")),
+        }
+    }
+
+    fn ask_for_pool(&mut self, number: usize) -> Result<(), Fail> {
+        let Some(out) = self.out.iter().find(|out| out.number == number) else {
+            return Err(Fail::new("not out"));
+        };
+        match Object::pool(&out.object)? {
+            Some(pool) => self.keep_handle(pool),
+            None => Ok(()),
+        }
+    }
+
+    // Makes the calls that are no step.
+    fn look(&self) -> Result<(), Fail> {
+        let Some(pool) = self.pools.last() else {
+            return Err(Fail::new("no handle"));
+        };
+        let _weak = pool.weak()?;
+        let _is_closed = pool.is_closed();
+        let _timeouts = pool.timeouts();
+        let _manager = pool.manager();
+        let _journal = pool.journal()?;
+        Ok(())
+    }
+
+    /// How the pool stands, seen through a handle of its own. None if it has no handle left.
+    pub fn status(&self) -> Result<String, Fail> {
+        let reply = match self.weak.upgrade()? {
+            Some(pool) => Reply::Stands(pool.status()),
+            None => Reply::NoHandle,
+        };
+        Ok(text_of(self.alloc, &reply, None)?)
+    }
+
+    /// The pool's journal as text. Empty if the bench has no handle left.
+    pub fn journal(&self) -> Result<String, Fail> {
+        match self.pools.last() {
+            Some(pool) => Ok(pool.journal()?.to_string(self.alloc)?),
+            None => Ok(String::new(self.alloc)),
+        }
+    }
+
+    // What value an object has that is out.
+    fn value(&self, number: usize) -> Option<u64> {
+        let out = self.out.iter().find(|out| out.number == number)?;
+        Some(*out.object)
+    }
+
+    /// How many gets have not ended.
+    pub fn live(&self) -> usize {
+        self.gets
+            .iter()
+            .filter(|party| matches!(party, Party::Live(_)))
+            .count()
+    }
+
+    /// How many gets were started.
+    pub fn started(&self) -> usize {
+        self.gets.len()
+    }
+
+    /// The number of the object that is out at a position. 0 if there is none.
+    pub fn number_at(&self, position: usize) -> usize {
+        match self.out.get(position) {
+            Some(out) => out.number,
+            None => 0,
+        }
+    }
+}
+
+fn number_of<R: Wait + Drop, L: Ledgers>(
+    alloc: Global,
+    object: &TestObject<R, L>,
+) -> Result<usize, Fail> {
+    let text = Object::id(object).to_string(alloc)?;
+    let number = text.as_str().parse::<usize>();
+    number.map_err(|_| Fail::new("not a number"))
+}

@@ -1,0 +1,6 @@
+//! A shared pool between threads.
+mod chaos;
+mod jobs;
+mod outside;
+mod replay;
+mod watch;

@@ -1,0 +1,146 @@
+//! A hundred jobs over ten threads, with three objects at most.
+
+ghost use Rattle.std.specs.Prelude.{◌≡◌};
+
+use super::replay::ends_so;
+use crate::tests::examples::threads::{Numbers, Zeros, total};
+use deadpool::NoTime;
+use deadpool::managed::{
+    AgainReply, AskReply, BackReply, Blanks, CreatedReply, Entry, Journal, Ledgers, PoolBuilder,
+    Status, StepReply, TakeReply,
+};
+use futures::executor::block_on;
+use std::alloc::Global;
+use std::marker::Brand;
+use std::process::Abort;
+use std::random::RandomSource;
+use std::sync::Wait;
+use std::test::Fail;
+use std::thread;
+use std::thread::Threads;
+use test_support::expected::expect;
+
+const THREADS: u64 = 10;
+
+const JOBS_A_THREAD: u64 = 10;
+
+// Each job gets an object, adds one to it, and gives it back. False if a get is refused.
+fn do_jobs<R, L: Ledgers>(rt: &R, pool: Numbers<R, L>) -> bool
+where
+    R: Wait + RandomSource + AllocGlobal + Drop,
+{
+    for _job in 0..JOBS_A_THREAD {
+        let Ok(Ok(mut object)) = block_on(rt, pool.get()) else {
+            return false;
+        };
+        *object = object.saturating_add(1);
+    }
+    true
+}
+
+// All threads do their jobs.
+fn work<R, L>(rt: R, pool: &Numbers<R, L>) -> Result<(), Fail>
+where
+    R: Wait + Threads + RandomSource + AllocGlobal + Abort + Drop + Copy + Send + Sync + 'static,
+    L: Ledgers + Send + Sync + 'static,
+{
+    let mut threads = Vec::new(rt.alloc());
+    for _thread in 0..THREADS {
+        let pool = pool.clone()?;
+        threads.push(thread::spawn(&rt, move || do_jobs(&rt, pool))?)?;
+    }
+    for thread in threads {
+        assert!(rt; thread.join(&rt));
+    }
+    Ok(())
+}
+
+// How many of a journal's entries are of these kinds.
+#[derive(Clone, Copy, Debug, PartialEq, Eq)]
+struct Tally {
+    enters: u32,
+    backs: u32,
+    unknown: u32,
+}
+
+fn tally_of(journal: &Journal) -> Tally {
+    let mut tally = Tally {
+        enters: 0,
+        backs: 0,
+        unknown: 0,
+    };
+    for entry in &journal.entries {
+        if is_unknown(entry) {
+            tally.unknown = tally.unknown.saturating_add(1);
+        }
+        match entry {
+            Entry::Enter(..) => tally.enters = tally.enters.saturating_add(1),
+            Entry::Back(..) => tally.backs = tally.backs.saturating_add(1),
+            _ => {}
+        }
+    }
+    tally
+}
+
+// Whether the step found nothing to do.
+fn is_unknown(entry: &Entry) -> bool {
+    match entry {
+        Entry::Ask(_, _, reply) => *reply == AskReply::Unknown,
+        Entry::Again(_, reply) => *reply == AgainReply::Unknown,
+        Entry::Created(reply) => *reply == CreatedReply::Unknown,
+        Entry::Discard(reply) | Entry::Failed(reply) | Entry::Refused(reply) => {
+            *reply == StepReply::Unknown
+        }
+        Entry::Cancel(_, reply) => *reply == StepReply::Unknown,
+        Entry::Back(_, reply) => matches!(reply, BackReply::Unknown(_)),
+        Entry::Take(reply) => *reply == TakeReply::Unknown,
+        _ => false,
+    }
+}
+
+fn all_jobs<R, L>(rt: R, blanks: Blanks) -> Result<(), Fail>
+where
+    R: Wait + Threads + RandomSource + AllocGlobal + Abort + Drop + Copy + Send + Sync + 'static,
+    L: Ledgers + Send + Sync + 'static,
+    requires { blanks ≡ L.names }
+{
+    let builder = PoolBuilder::new(rt.alloc(), Zeros, NoTime)
+        .max_size(3)
+        .journal(10_000);
+    let pool: Numbers<R, L> = builder.build(blanks, rt)?;
+    work(rt, &pool)?;
+    all_are_done(rt.alloc(), &pool)
+}
+
+// Nobody waits, all objects are back, and their sum has each job.
+fn all_are_done<R, L>(alloc: Global, pool: &Numbers<R, L>) -> Result<(), Fail>
+where
+    R: Wait + Drop,
+    L: Ledgers,
+{
+    let status = pool.status();
+    each_is_noted(alloc, &pool.journal()?, status)?;
+    let counts = (status.max_size, status.available, status.waiting);
+    expect(
+        "limit, available, waiting, and the sum",
+        (counts, total(pool)?),
+        ((3, status.size, 0), 100),
+    )
+}
+
+// The journal has each job, and nothing that was not known.
+fn each_is_noted(alloc: Global, journal: &Journal, status: Status) -> Result<(), Fail> {
+    let tally = Tally {
+        enters: 100,
+        backs: 100,
+        unknown: 0,
+    };
+    expect("the entries", tally_of(journal), tally)?;
+    ends_so(alloc, journal, status)
+}
+
+#[test]
+fn a_hundred_jobs_over_ten_threads(rt: HostRuntime) -> Result<(), Fail> {
+    let blanks = Blanks::new();
+    all_jobs::<_, Brand>(rt, blanks)
+}

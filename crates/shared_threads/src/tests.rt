@@ -1,4 +1,0 @@
-mod chaos;
-mod jobs;
-mod outside;
-mod replay;

@@ -1,0 +1,32 @@
+//! Gets that are polled over a desk.
+ghost use Rattle.deadpool.specs.Holding.{Holding};
+
+use super::answering::Answering;
+use deadpool::Moment;
+use deadpool::managed::{Desk, Environment, GetState, Manager, NoHook, PoolError, Slot, Turn};
+use futures::task::{Doorbell, Solo};
+use std::random::RandomSource;
+use std::test::Fail;
+
+/// Polls a get over a desk once: what it ended with, or none if it is pending.
+pub fn poll<M: Manager, D: Desk<M::Type>>(
+    state: &mut GetState<M, Answering>,
+    desk: &mut D,
+    environment: &Environment<M, NoHook, Answering>,
+    task: &Solo,
+) -> Option<Result<Slot<M::Type>, PoolError<M::Error>>>
+    requires { (holding : Holding) → D.holds desk.old holding }
+{
+    let mut cx = task.begin();
+    let turn = state.poll_over(desk, environment, Moment(0), &mut cx);
+    cx.cancel();
+    match turn {
+        Turn::Done(result) => Some(result),
+        Turn::Pending | Turn::More => None,
+    }
+}
+
+/// A task to poll in.
+pub fn task<R: RandomSource + AllocGlobal>(rt: &R) -> Result<Solo, Fail> {
+    Solo::new(rt, Doorbell::spinning()).map_err(|_| Fail::new("no memory for a task"))
+}

@@ -1,0 +1,147 @@
+//! A desk that shows when objects are detached.
+ghost use Rattle.std.specs.Prelude.{⊤};
+
+use super::managers::Calls;
+use deadpool::Status;
+use deadpool::gate::Ticket;
+use deadpool::managed::{
+    AgainReply, AskReply, BackReply, Core, CreatedReply, Desk, EnterReply, HandleReply, Held,
+    RetainResult, Retainer, Slot, StepReply, TakeReply,
+};
+use std::alloc::AllocError;
+
+/// A pool's state. At each step that gives an object up it notes how many were detached by then.
+#[derive(Drop)]
+pub struct Watched<'a, T> {
+    pub core: Core<T>,
+    pub calls: &'a Calls,
+    /// Whether such steps are made. Otherwise they are answered `Unknown`.
+    pub knows: bool,
+    /// How many were detached when the last such step was asked for.
+    pub detached: usize,
+}
+
+impl<'a, T> Watched<'a, T> {
+    fn gives_up(&mut self) -> bool {
+        self.detached = self.calls.detached.get();
+        self.knows
+    }
+}
+
+impl<'a, T: Drop> Desk<T> for Watched<'a, T> {
+    ghost enters = { λ _ _ _ _. ⊤ };
+
+    ghost asks = { λ _ _ _ _ _. ⊤ };
+
+    ghost asks_again = { λ _ _ _ _. ⊤ };
+
+    ghost discards = { λ _ _ _. ⊤ };
+
+    ghost creates = { λ _ _ _. ⊤ };
+
+    ghost fails = { λ _ _ _. ⊤ };
+
+    ghost refuses = { λ _ _ _. ⊤ };
+
+    ghost takes_back = { λ _ _ _ _. ⊤ };
+
+    ghost cancels = { λ _ _ _ _. ⊤ };
+
+    ghost stands = { λ _ _ _. ⊤ };
+
+    ghost takes = { λ _ _ _. ⊤ };
+
+    ghost resizes = { λ _ _ _ _. ⊤ };
+
+    ghost retains = { λ _ _ _ _ _ _ _. ⊤ };
+
+    ghost closes = { λ _ _. ⊤ };
+
+    ghost clones = { λ _ _ _. ⊤ };
+
+    ghost drops_handle = { λ _ _ _. ⊤ };
+
+    ghost upgrades = { λ _ _ _. ⊤ };
+
+    fn enter(&mut self, wait: bool) -> EnterReply<Slot<T>> {
+        self.core.enter(wait)
+    }
+
+    fn ask(&mut self, ticket: Ticket, expired: bool) -> AskReply<Slot<T>> {
+        self.core.ask(ticket, expired)
+    }
+
+    fn again(&mut self, allowance: Option<usize>) -> AgainReply<Slot<T>> {
+        self.core.again(allowance)
+    }
+
+    fn discard(&mut self) -> StepReply {
+        if self.gives_up() {
+            self.core.discard()
+        } else {
+            StepReply::Unknown
+        }
+    }
+
+    fn created(&mut self) -> CreatedReply {
+        self.core.created()
+    }
+
+    fn failed(&mut self) -> StepReply {
+        self.core.failed()
+    }
+
+    fn refused(&mut self) -> StepReply {
+        if self.gives_up() {
+            self.core.refused()
+        } else {
+            StepReply::Unknown
+        }
+    }
+
+    fn back(&mut self, slot: Slot<T>) -> BackReply<Slot<T>>
+        ensures { ⊤ }
+    {
+        self.core.back(slot)
+    }
+
+    fn cancel(&mut self, held: Held) -> StepReply {
+        if self.gives_up() {
+            self.core.cancel(held)
+        } else {
+            StepReply::Unknown
+        }
+    }
+
+    fn status(&mut self) -> Status {
+        self.core.status()
+    }
+
+    fn take(&mut self) -> TakeReply {
+        self.core.take()
+    }
+
+    fn resize(&mut self, limit: usize) -> Result<(), AllocError> {
+        self.core.resize(limit)
+    }
+
+    fn retain<R: Retainer<T>>(&mut self, retainer: &mut R) -> Result<RetainResult<T>, AllocError> {
+        self.core.retain(retainer)
+    }
+
+    fn close(&mut self) {
+        self.core.close();
+    }
+
+    fn clone_handle(&mut self) -> HandleReply {
+        self.core.clone_handle()
+    }
+
+    fn drop_handle(&mut self) -> HandleReply {
+        self.core.drop_handle()
+    }
+
+    fn upgrade(&mut self) -> bool {
+        self.core.upgrade()
+    }
+}
