@@ -1,6 +1,6 @@
 //! What a future hears by, and when it is to be polled again.
-ghost use Rattle.std.specs.Prelude.{◌≡◌, IfSome};
-ghost use Rattle.futures.specs.Task.{Hears, IsArmed, Keeps};
+ghost use Rattle.std.specs.Prelude.{◌≡◌, ◌⊎◌, true, IfSome, IsSomeAnd};
+ghost use Rattle.futures.specs.Task.{Hears, IsArmed, Keeps, Wakes};
 
 use deadpool_parts::{Clock, Moment};
 use futures::task::{Context, Poll, Source, Waker};
@@ -21,10 +21,12 @@ impl Listener {
         }
     }
 
-    /// Registers the task that polls, before a step that may leave it waiting: with a source, or nowhere.
+    /// Registers the task that polls, before a step that may leave it waiting: with a source, or nowhere. Its waker is at hand
+    /// then. If none could be made, the task asks for another poll.
     pub fn listen(&mut self, source: Option<&Source>, cx: &mut Context<'_>)
         ensures armed { IsArmed cx.new }
         ensures heard { IfSome source.entry (λ s. Hears cx.new s.now.id) }
+        ensures left { (cx.new.lacks_waker ≡ true) ⊎ IsSomeAnd self.new.waker (λ waker. Wakes waker cx.old) }
         ensures kept { Keeps cx.old cx.new }
     {
         let source = source.unwrap_or(&self.nowhere);

@@ -1,5 +1,5 @@
 //! The wakers of those that wait in a gate. A ticket's number says where its waker is, so none is searched for.
-ghost use Rattle.std.specs.Prelude.{◌≡◌, nat_lt, slice_set, length, [], None, IsTrue, IsFalse, OnOk, OnErr};
+ghost use Rattle.std.specs.Prelude.{◌≡◌, ◌<◌, nat_lt, slice_set, length, [], None, IsTrue, IsFalse, OnOk, OnErr};
 ghost use Rattle.deadpool_lock.specs.Places.{with_room, waker_at, Follows};
 
 use deadpool_gate::gate::Ticket;
@@ -38,6 +38,7 @@ impl Wakers {
     /// memory is found, the places are as they were.
     pub fn make_room(&mut self, number: usize) -> Result<(), AllocError>
         ensures room { OnOk result (self.new ≡ with_room number self.old) }
+        ensures place { OnOk result (number < length self.new) }
         ensures memory { OnErr result (self.new ≡ self.old) }
     {
         let Some(wanted) = number.checked_add(1) else {
