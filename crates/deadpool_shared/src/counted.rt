@@ -1,9 +1,11 @@
 //! The steps that change a pool's three counts, with what they do to them.
-ghost use Rattle.std.specs.Prelude.{◌≡◌, ◌≢◌, ◌<◌};
+ghost use Rattle.std.specs.Prelude.{◌≡◌, ◌≢◌, ◌<◌, true, IfSome};
 ghost use Rattle.deadpool_desk.specs.Allowance.{IsWithinAllowance};
 ghost use Rattle.deadpool_desk.specs.Held.{held_if_entered, held_if_asked, held_if_asked_again, held_as};
 ghost use Rattle.deadpool_desk.specs.declared.desk.Holding.{Holding};
+ghost use Rattle.deadpool_journal.specs.Steps.{EntersNoted, AsksNoted, AsksAgainNoted, DiscardsNoted, CreatesNoted, FailsNoted, RefusesNoted, TakesBackNoted, TakesNoted, CancelsNoted};
 ghost use Rattle.deadpool_shared.specs.Counts.{counted, shifted, IsServed, IsTaken, HasShare};
+ghost use Rattle.deadpool_shared.specs.Locked.{joins, ticket_if_entered};
 
 use deadpool_journal::Journaled;
 use deadpool_managed::gate::Ticket;
@@ -14,19 +16,23 @@ use deadpool_managed::{
 
 #[inline(always)]
 pub fn enter<T: Drop>(pool: &mut Journaled<T>, wait: bool) -> EnterReply<Slot<T>>
-    ensures { counted pool.new ≡ shifted Holding.Nothing (held_if_entered result) (counted pool.old) }
+    ensures noted { EntersNoted pool.old wait result pool.new }
+    ensures counts { counted pool.new ≡ shifted Holding.Nothing (held_if_entered result) (counted pool.old) }
+    ensures queued { IfSome (ticket_if_entered result) (λ ticket. (ticket ≡ pool.old.core.next_ticket) × (joins wait pool.old ≡ true)) }
 {
     pool.enter(wait)
 }
 
 pub fn ask<T: Drop>(pool: &mut Journaled<T>, ticket: Ticket, expired: bool) -> AskReply<Slot<T>>
-    ensures { counted pool.new ≡ shifted Holding.Nothing (held_if_asked result) (counted pool.old) }
+    ensures noted { AsksNoted pool.old ticket expired result pool.new }
+    ensures counts { counted pool.new ≡ shifted Holding.Nothing (held_if_asked result) (counted pool.old) }
 {
     pool.ask(ticket, expired)
 }
 
 pub fn again<T: Drop>(pool: &mut Journaled<T>, allowance: Option<usize>) -> AgainReply<Slot<T>>
     requires { 0 < pool.old.core.desk.going }
+    ensures noted { AsksAgainNoted pool.old allowance result pool.new }
     ensures known { IsServed result }
     ensures counts { counted pool.new ≡ shifted Holding.Place (held_if_asked_again result) (counted pool.old) }
     ensures allowed { IsWithinAllowance allowance result }
@@ -36,6 +42,7 @@ pub fn again<T: Drop>(pool: &mut Journaled<T>, allowance: Option<usize>) -> Agai
 
 pub fn discard<T: Drop>(pool: &mut Journaled<T>) -> StepReply
     requires { 0 < pool.old.core.desk.outside }
+    ensures noted { DiscardsNoted pool.old result pool.new }
     ensures known { result ≡ StepReply.Done }
     ensures counts { counted pool.new ≡ shifted Holding.Object Holding.Place (counted pool.old) }
 {
@@ -44,6 +51,7 @@ pub fn discard<T: Drop>(pool: &mut Journaled<T>) -> StepReply
 
 pub fn created<T: Drop>(pool: &mut Journaled<T>) -> CreatedReply
     requires { 0 < pool.old.core.desk.creations }
+    ensures noted { CreatesNoted pool.old result pool.new }
     ensures known { result ≢ CreatedReply.Unknown }
     ensures counts { counted pool.new ≡ shifted Holding.Creation Holding.Object (counted pool.old) }
 {
@@ -52,6 +60,7 @@ pub fn created<T: Drop>(pool: &mut Journaled<T>) -> CreatedReply
 
 pub fn failed<T: Drop>(pool: &mut Journaled<T>) -> StepReply
     requires { 0 < pool.old.core.desk.creations }
+    ensures noted { FailsNoted pool.old result pool.new }
     ensures known { result ≡ StepReply.Done }
     ensures counts { counted pool.new ≡ shifted Holding.Creation Holding.Nothing (counted pool.old) }
 {
@@ -60,6 +69,7 @@ pub fn failed<T: Drop>(pool: &mut Journaled<T>) -> StepReply
 
 pub fn refused<T: Drop>(pool: &mut Journaled<T>) -> StepReply
     requires { 0 < pool.old.core.desk.outside }
+    ensures noted { RefusesNoted pool.old result pool.new }
     ensures known { result ≡ StepReply.Done }
     ensures counts { counted pool.new ≡ shifted Holding.Object Holding.Nothing (counted pool.old) }
 {
@@ -68,6 +78,7 @@ pub fn refused<T: Drop>(pool: &mut Journaled<T>) -> StepReply
 
 pub fn back<T: Drop>(pool: &mut Journaled<T>, slot: Slot<T>) -> BackReply<Slot<T>>
     requires { 0 < pool.old.core.desk.outside }
+    ensures noted { TakesBackNoted pool.old slot result pool.new }
     ensures known { IsTaken result }
     ensures counts { counted pool.new ≡ shifted Holding.Object Holding.Nothing (counted pool.old) }
 {
@@ -76,6 +87,7 @@ pub fn back<T: Drop>(pool: &mut Journaled<T>, slot: Slot<T>) -> BackReply<Slot<T
 
 pub fn take<T: Drop>(pool: &mut Journaled<T>) -> TakeReply
     requires { 0 < pool.old.core.desk.outside }
+    ensures noted { TakesNoted pool.old result pool.new }
     ensures known { result ≢ TakeReply.Unknown }
     ensures counts { counted pool.new ≡ shifted Holding.Object Holding.Nothing (counted pool.old) }
 {
@@ -86,6 +98,7 @@ pub fn cancel<T: Drop>(pool: &mut Journaled<T>, held: Held) -> StepReply
     requires places { held ≡ Held.Place → 0 < pool.old.core.desk.going }
     requires creations { held ≡ Held.Creation → 0 < pool.old.core.desk.creations }
     requires objects { held ≡ Held.Object → 0 < pool.old.core.desk.outside }
+    ensures noted { CancelsNoted pool.old held result pool.new }
     ensures known { HasShare held → result ≡ StepReply.Done }
     ensures counts { counted pool.new ≡ shifted (held_as held) Holding.Nothing (counted pool.old) }
 {

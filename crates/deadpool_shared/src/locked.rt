@@ -1,10 +1,15 @@
 //! What the lock of a pool keeps.
-ghost use Rattle.std.specs.Prelude.{◌≡◌, ◌≢◌, ◌<◌, ◌≤◌, true, IfOk, IfSome};
+ghost use Rattle.std.specs.Prelude.{◌≡◌, ◌≢◌, ◌<◌, ◌≤◌, not, true, is_some, length, Some, None, IfNone, IfOk, IfSome};
+ghost use Rattle.deadpool_desk.specs.CoreSteps.{due_now};
 ghost use Rattle.deadpool_desk.specs.Held.{held_if_entered, held_if_asked, held_if_asked_again, held_as};
 ghost use Rattle.deadpool_desk.specs.Allowance.{IsWithinAllowance};
 ghost use Rattle.deadpool_desk.specs.declared.desk.Holding.{Holding};
 ghost use Rattle.deadpool_journal.specs.Copies.{HasSteps};
+ghost use Rattle.deadpool_journal.specs.Steps.{AsksNoted, AsksAgainNoted, DiscardsNoted, CreatesNoted, FailsNoted, RefusesNoted, TakesBackNoted, CancelsNoted, StandsNoted, TakesNoted, ResizesNoted, RetainsNoted, ClosesNoted, ClonesNoted, DropsHandleNoted, UpgradesNoted};
+ghost use Rattle.deadpool_lock.specs.Places.{Follows};
+ghost use Rattle.deadpool_parts.specs.declared.replies.HandleReply.{HandleReply};
 ghost use Rattle.deadpool_shared.specs.Counts.{counts, counts_of, counted, IsServed, IsTaken, HasShare};
+ghost use Rattle.deadpool_shared.specs.Locked.{joins, ticket_if_entered, ticket_if_asked, ticket_of, EntersLocked, TellsLocked, IsCopy};
 
 use crate::counted;
 use crate::ledgers::{Blanks, Ledgers};
@@ -43,7 +48,10 @@ impl<T: Drop, L: Ledgers> Locked<T, L> {
 
     /// One handle more, for a new get, with its shares. If no part of the ledgers is left, nothing changes.
     pub fn begin(&mut self) -> Option<Shares<L>>
-        ensures { IfSome result (λ shares. shares ≡ counts_of Holding.Nothing) }
+        ensures shares { IfSome result (λ shares. shares ≡ counts_of Holding.Nothing) }
+        ensures cloned { IfSome result (λ _. (reply : HandleReply) × ClonesNoted self.old.pool reply self.new.pool) }
+        ensures unchanged { IfNone result (self.new.pool ≡ self.old.pool) }
+        ensures wakers { self.new.wakers ≡ self.old.wakers }
     {
         let Locked { pool, books, .. } = self;
         let shares = books.hand_out()?;
@@ -60,7 +68,8 @@ impl<T: Drop, L: Ledgers> Locked<T, L> {
         wait: bool,
     ) -> EnterReply<Slot<T>>
         requires { shares.old ≡ counts_of Holding.Nothing }
-        ensures { shares.new ≡ counts_of (held_if_entered result) }
+        ensures holds { shares.new ≡ counts_of (held_if_entered result) }
+        ensures entered { EntersLocked self.old.pool self.old.wakers wait waker.old result self.new.pool self.new.wakers waker.new }
     {
         let Locked { pool, books, .. } = self;
         if wait && pool.would_queue() {
@@ -75,8 +84,10 @@ impl<T: Drop, L: Ledgers> Locked<T, L> {
     #[cold]
     #[inline(never)]
     fn join(&mut self, shares: &mut Shares<L>, waker: &mut Option<Waker>) -> EnterReply<Slot<T>>
-        requires { shares.old ≡ counts_of Holding.Nothing }
-        ensures { shares.new ≡ counts_of (held_if_entered result) }
+        requires holds { shares.old ≡ counts_of Holding.Nothing }
+        requires joins { joins true self.old.pool ≡ true }
+        ensures holds { shares.new ≡ counts_of (held_if_entered result) }
+        ensures entered { EntersLocked self.old.pool self.old.wakers true waker.old result self.new.pool self.new.wakers waker.new }
     {
         let Locked {
             pool,
@@ -89,9 +100,7 @@ impl<T: Drop, L: Ledgers> Locked<T, L> {
         }
         let reply = counted::enter(pool, true);
         books.shift(shares, Holding::Nothing, reply.holding());
-        if let EnterReply::Waiting(ticket) = &reply {
-            wakers.exchange(*ticket, waker);
-        }
+        keep_waker(wakers, &reply, waker);
         reply
     }
 
@@ -105,7 +114,9 @@ impl<T: Drop, L: Ledgers> Locked<T, L> {
         expired: bool,
     ) -> AskReply<Slot<T>>
         requires { shares.old ≡ counts_of Holding.Nothing }
-        ensures { shares.new ≡ counts_of (held_if_asked result) }
+        ensures holds { shares.new ≡ counts_of (held_if_asked result) }
+        ensures asked { AsksNoted self.old.pool ticket expired result self.new.pool }
+        ensures wakers { Follows (Some ticket) (ticket_if_asked ticket result) self.old.wakers waker.old spare.new self.new.wakers waker.new }
     {
         let Locked {
             pool,
@@ -115,12 +126,7 @@ impl<T: Drop, L: Ledgers> Locked<T, L> {
         } = self;
         let reply = counted::ask(pool, ticket, expired);
         books.shift(shares, Holding::Nothing, reply.holding());
-        let is_queued = matches!(&reply, AskReply::Waiting);
-        if is_queued {
-            wakers.exchange(ticket, waker);
-        } else {
-            *spare = wakers.take(ticket);
-        }
+        *spare = wakers.follow(Some(ticket), still_queued(ticket, &reply), waker);
         reply
     }
 
@@ -129,6 +135,8 @@ impl<T: Drop, L: Ledgers> Locked<T, L> {
         requires { shares.old ≡ counts_of Holding.Place }
         ensures holds { shares.new ≡ counts_of (held_if_asked_again result) }
         ensures known { IsServed result }
+        ensures asked { AsksAgainNoted self.old.pool allowance result self.new.pool }
+        ensures wakers { self.new.wakers ≡ self.old.wakers }
         ensures allowed { IsWithinAllowance allowance result }
     {
         let Locked { pool, books, .. } = self;
@@ -143,6 +151,8 @@ impl<T: Drop, L: Ledgers> Locked<T, L> {
         requires { shares.old ≡ counts_of Holding.Object }
         ensures holds { shares.new ≡ counts_of Holding.Place }
         ensures known { result ≡ StepReply.Done }
+        ensures discarded { DiscardsNoted self.old.pool result self.new.pool }
+        ensures wakers { self.new.wakers ≡ self.old.wakers }
     {
         let Locked { pool, books, .. } = self;
         books.audit(shares);
@@ -156,6 +166,8 @@ impl<T: Drop, L: Ledgers> Locked<T, L> {
         requires { shares.old ≡ counts_of Holding.Creation }
         ensures holds { shares.new ≡ counts_of Holding.Object }
         ensures known { result ≢ CreatedReply.Unknown }
+        ensures created { CreatesNoted self.old.pool result self.new.pool }
+        ensures wakers { self.new.wakers ≡ self.old.wakers }
     {
         let Locked { pool, books, .. } = self;
         books.audit(shares);
@@ -169,6 +181,8 @@ impl<T: Drop, L: Ledgers> Locked<T, L> {
         requires { shares.old ≡ counts_of Holding.Creation }
         ensures holds { shares.new ≡ counts_of Holding.Nothing }
         ensures known { result ≡ StepReply.Done }
+        ensures failed { FailsNoted self.old.pool result self.new.pool }
+        ensures wakers { self.new.wakers ≡ self.old.wakers }
     {
         let Locked { pool, books, .. } = self;
         books.audit(shares);
@@ -182,6 +196,8 @@ impl<T: Drop, L: Ledgers> Locked<T, L> {
         requires { shares.old ≡ counts_of Holding.Object }
         ensures holds { shares.new ≡ counts_of Holding.Nothing }
         ensures known { result ≡ StepReply.Done }
+        ensures refused { RefusesNoted self.old.pool result self.new.pool }
+        ensures wakers { self.new.wakers ≡ self.old.wakers }
     {
         let Locked { pool, books, .. } = self;
         books.audit(shares);
@@ -195,6 +211,8 @@ impl<T: Drop, L: Ledgers> Locked<T, L> {
         requires { shares.old ≡ counts_of Holding.Object }
         ensures holds { shares.new ≡ counts_of Holding.Nothing }
         ensures known { IsTaken result }
+        ensures taken_back { TakesBackNoted self.old.pool slot result self.new.pool }
+        ensures wakers { self.new.wakers ≡ self.old.wakers }
     {
         let Locked { pool, books, .. } = self;
         books.audit(shares);
@@ -208,6 +226,8 @@ impl<T: Drop, L: Ledgers> Locked<T, L> {
         requires { shares.old ≡ counts_of Holding.Object }
         ensures holds { shares.new ≡ counts_of Holding.Nothing }
         ensures known { result ≢ TakeReply.Unknown }
+        ensures taken { TakesNoted self.old.pool result self.new.pool }
+        ensures wakers { self.new.wakers ≡ self.old.wakers }
     {
         let Locked { pool, books, .. } = self;
         books.audit(shares);
@@ -226,6 +246,8 @@ impl<T: Drop, L: Ledgers> Locked<T, L> {
         requires { shares.old ≡ counts_of (held_as held) }
         ensures holds { shares.new ≡ counts_of Holding.Nothing }
         ensures known { HasShare held → result ≡ StepReply.Done }
+        ensures cancelled { CancelsNoted self.old.pool held result self.new.pool }
+        ensures wakers { Follows (ticket_of held) None self.old.wakers None spare.new self.new.wakers None }
     {
         let Locked {
             pool,
@@ -233,21 +255,25 @@ impl<T: Drop, L: Ledgers> Locked<T, L> {
             wakers,
             ..
         } = self;
-        if let Held::Ticket(ticket) = held {
-            *spare = wakers.take(ticket);
-        }
+        *spare = take_waker(wakers, held);
         books.audit(shares);
         let reply = counted::cancel(pool, held);
         books.shift(shares, held.holding(), Holding::Nothing);
         reply
     }
 
-    pub fn status(&mut self) -> Status {
+    pub fn status(&mut self) -> Status
+        ensures stands { StandsNoted self.old.pool result self.new.pool }
+        ensures wakers { self.new.wakers ≡ self.old.wakers }
+    {
         let Locked { pool, .. } = self;
         pool.status()
     }
 
-    pub fn resize(&mut self, limit: usize) -> Result<(), AllocError> {
+    pub fn resize(&mut self, limit: usize) -> Result<(), AllocError>
+        ensures resized { ResizesNoted self.old.pool limit result self.new.pool }
+        ensures wakers { self.new.wakers ≡ self.old.wakers }
+    {
         let Locked { pool, .. } = self;
         pool.resize(limit)
     }
@@ -257,40 +283,57 @@ impl<T: Drop, L: Ledgers> Locked<T, L> {
         retainer: &mut R,
     ) -> Result<RetainResult<T>, AllocError>
         requires { R.can_call retainer.old }
-        ensures { R.can_call retainer.new }
+        ensures can_call { R.can_call retainer.new }
+        ensures retained { RetainsNoted R.Retainer self.old.pool retainer.old result self.new.pool retainer.new }
+        ensures wakers { self.new.wakers ≡ self.old.wakers }
     {
         let Locked { pool, .. } = self;
         pool.retain(retainer)
     }
 
-    pub fn close(&mut self) {
+    pub fn close(&mut self)
+        ensures closed { ClosesNoted self.old.pool self.new.pool }
+        ensures wakers { self.new.wakers ≡ self.old.wakers }
+    {
         let Locked { pool, .. } = self;
         pool.close();
     }
 
-    pub fn clone_handle(&mut self) -> HandleReply {
+    pub fn clone_handle(&mut self) -> HandleReply
+        ensures cloned { ClonesNoted self.old.pool result self.new.pool }
+        ensures wakers { self.new.wakers ≡ self.old.wakers }
+    {
         let Locked { pool, .. } = self;
         pool.clone_handle()
     }
 
-    pub fn drop_handle(&mut self) -> HandleReply {
+    pub fn drop_handle(&mut self) -> HandleReply
+        ensures dropped { DropsHandleNoted self.old.pool result self.new.pool }
+        ensures wakers { self.new.wakers ≡ self.old.wakers }
+    {
         let Locked { pool, .. } = self;
         pool.drop_handle()
     }
 
-    pub fn upgrade(&mut self) -> bool {
+    pub fn upgrade(&mut self) -> bool
+        ensures upgraded { UpgradesNoted self.old.pool result self.new.pool }
+        ensures wakers { self.new.wakers ≡ self.old.wakers }
+    {
         let Locked { pool, .. } = self;
         pool.upgrade()
     }
 
     /// It is no step.
-    pub fn is_closed(&self) -> bool {
+    pub fn is_closed(&self) -> bool
+        ensures { result ≡ not self.now.pool.core.desk.is_open }
+    {
         self.pool.is_closed()
     }
 
     /// A copy of the journal. It is no step.
     pub fn journal(&self) -> Result<Journal, AllocError>
-        ensures { IfOk result HasSteps }
+        ensures copy { IfOk result (IsCopy self.now.pool) }
+        ensures steps { IfOk result HasSteps }
     {
         self.pool.journal()
     }
@@ -298,13 +341,47 @@ impl<T: Drop, L: Ledgers> Locked<T, L> {
 
 // Neither is a step.
 impl<T: Drop, L: Ledgers> Wakes for Locked<T, L> {
-    fn is_wake_due(&self) -> bool {
+    fn is_wake_due(&self) -> bool
+        ensures { result ≡ is_some (due_now self.now.pool.core) }
+    {
         self.pool.is_wake_due()
     }
 
-    fn take_wake(&mut self) -> Option<Waker> {
+    fn take_wake(&mut self) -> Option<Waker>
+        ensures { TellsLocked self.old.pool self.old.wakers result self.new.pool self.new.wakers }
+    {
         let Locked { pool, wakers, .. } = self;
         let ticket = pool.take_wake()?;
         wakers.take(ticket)
+    }
+}
+
+// Keeps the waker of a get that is queued by this reply. There is a place for it.
+fn keep_waker<T>(wakers: &mut Wakers, reply: &EnterReply<Slot<T>>, waker: &mut Option<Waker>)
+    requires { IfSome (ticket_if_entered reply.now) (λ ticket. ticket < length wakers.old) }
+    ensures { Follows None (ticket_if_entered reply.now) wakers.old waker.old None wakers.new waker.new }
+{
+    if let EnterReply::Waiting(ticket) = reply {
+        wakers.exchange(*ticket, waker);
+    }
+}
+
+// The ticket of a get that stays queued after this reply.
+fn still_queued<T>(ticket: Ticket, reply: &AskReply<Slot<T>>) -> Option<Ticket>
+    ensures { result ≡ ticket_if_asked ticket reply.now }
+{
+    match reply {
+        AskReply::Waiting => Some(ticket),
+        _ => None,
+    }
+}
+
+// Takes out the waker of a get that gives this back.
+fn take_waker(wakers: &mut Wakers, held: Held) -> Option<Waker>
+    ensures { Follows (ticket_of held) None wakers.old None result wakers.new None }
+{
+    match held {
+        Held::Ticket(ticket) => wakers.take(ticket),
+        _ => None,
     }
 }
