@@ -1,10 +1,11 @@
 //! A get, as a future.
-ghost use Rattle.std.specs.Prelude.{◌≡◌, ◌||◌, true, is_some, Err, IfOk, IfSome, IsSomeAnd};
+ghost use Rattle.std.specs.Prelude.{◌≡◌, ◌||◌, ◌⊎◌, true, is_some, Err, None, IfOk, IfSome, IsSome, IsSomeAnd};
 ghost use Rattle.std.specs.Option.{ForSome};
 ghost use Rattle.futures.specs.Poll.{IfReady, OnPending};
 ghost use Rattle.futures.specs.Task.{Hears, IsArmed, Keeps};
 ghost use Rattle.deadpool_managed.specs.Held.{held_at};
 ghost use Rattle.deadpool_managed.specs.Phases.{stage_of};
+ghost use Rattle.deadpool_managed.specs.declared.work.Phase.TheVariants.{Unpolled};
 ghost use Rattle.deadpool_desk.specs.declared.desk.Holding.{Holding};
 ghost use Rattle.deadpool_shared.specs.Counts.{counts, counts_of};
 
@@ -80,6 +81,9 @@ impl<M: Manager, F: SyncHook<M>, A: AsyncHook<M>, C: Clock, R: Wait + Drop, L: L
     // pool's.
     pub(crate) fn new(pool: &Handle<Shared<M, F, A, C, R, L>>, timeouts: Option<Timeouts>) -> Self
         ensures pool { IfSome result.handle (λ shared. shared ≡ pool.now) }
+        ensures stake { IfSome result.party (λ stake. stake.home ≡ pool.now) }
+        ensures begun { (IsSome result.handle × IsSome result.party) ⊎ IsSome result.refusal }
+        ensures progress { result.progress ≡ record { phase = Unpolled; slot = None } }
         ensures timeouts { result.timeouts ≡ timeouts }
     {
         let (handle, party, refusal) = match begin(pool) {
@@ -220,6 +224,7 @@ fn begin<M: Manager, F: SyncHook<M>, A: AsyncHook<M>, C: Clock, R: Wait + Drop, 
     pool: &Handle<Shared<M, F, A, C, R, L>>,
 ) -> Result<(Handle<Shared<M, F, A, C, R, L>>, Stake<M, F, A, C, R, L>), Refusal>
     ensures pool { IfOk result (λ begun. begun.0 ≡ pool.now) }
+    ensures stake { IfOk result (λ begun. begun.1.home ≡ pool.now) }
     ensures shares { IfOk result (λ begun. begun.1.shares ≡ counts_of Holding.Nothing) }
 {
     let (Ok(handle), Ok(home)) = (pool.uncounted(), pool.uncounted()) else {

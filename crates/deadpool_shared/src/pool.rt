@@ -1,6 +1,7 @@
 //! The handles of a pool.
-ghost use Rattle.std.specs.Prelude.{◌≡◌, Some, None, IfOk, IfSome};
+ghost use Rattle.std.specs.Prelude.{◌≡◌, ◌⊎◌, Some, None, IfOk, IfSome, IsSome};
 ghost use Rattle.deadpool_journal.specs.Copies.{HasSteps};
+ghost use Rattle.deadpool_managed.specs.declared.work.Phase.TheVariants.{Unpolled};
 
 use crate::builder::PoolBuilder;
 use crate::get::Get;
@@ -110,6 +111,9 @@ impl<M: Manager, F: SyncHook<M>, A: AsyncHook<M>, C: Clock, R: Wait + Drop, L: L
     /// A get with the timeouts of the pool. It is a handle of the pool from now on.
     pub fn get(&self) -> Get<M, F, A, C, R, L, W>
         ensures pool { IfSome result.handle (λ shared. shared ≡ self.now.handle) }
+        ensures stake { IfSome result.party (λ stake. stake.home ≡ self.now.handle) }
+        ensures begun { (IsSome result.handle × IsSome result.party) ⊎ IsSome result.refusal }
+        ensures progress { result.progress ≡ record { phase = Unpolled; slot = None } }
         ensures timeouts { result.timeouts ≡ None }
     {
         Get::new(&self.handle, None)
@@ -118,6 +122,9 @@ impl<M: Manager, F: SyncHook<M>, A: AsyncHook<M>, C: Clock, R: Wait + Drop, L: L
     /// A get with timeouts of its own. It is a handle of the pool from now on.
     pub fn timeout_get(&self, timeouts: &Timeouts) -> Get<M, F, A, C, R, L, W>
         ensures pool { IfSome result.handle (λ shared. shared ≡ self.now.handle) }
+        ensures stake { IfSome result.party (λ stake. stake.home ≡ self.now.handle) }
+        ensures begun { (IsSome result.handle × IsSome result.party) ⊎ IsSome result.refusal }
+        ensures progress { result.progress ≡ record { phase = Unpolled; slot = None } }
         ensures timeouts { result.timeouts ≡ Some timeouts.now }
     {
         Get::new(&self.handle, Some(*timeouts))
