@@ -120,6 +120,10 @@ module _ {O : Type 0} where
   abbrev pub given_up : ℕ → DeskState O → ℕ
   given_up limit d = min (size d - limit) (length d.idle - least_idle limit d)
 
+  -- how many the pool gives up if it gets this limit now: none once it is closed
+  abbrev pub surplus : ℕ → DeskState O → ℕ
+  surplus limit d = if d.is_open then given_up limit d else 0
+
   -- with another limit the idle objects at the front go
   abbrev pub resized : ℕ → DeskState O → DeskState O
   resized limit d = settled (record d { limit = limit; reserve = max d.reserve limit; idle = drop (given_up limit d) d.idle })

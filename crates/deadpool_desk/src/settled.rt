@@ -1,7 +1,8 @@
 //! The core of a managed pool: its state, which is settled between any two steps.
-ghost use Rattle.std.specs.Prelude.{◌≡◌, ◌≤◌, ◌&&◌, ◌++◌, [], not, nat_lt, nat_le, is_some, length, IfOk};
+ghost use Rattle.std.specs.Prelude.{◌≡◌, ◌≤◌, ◌&&◌, ◌==◌, ◌++◌, [], not, nat_lt, nat_le, is_some, length, IfOk, option_copied, slice_get};
 ghost use Rattle.deadpool_gate.specs.Orders.{IsOnce};
 ghost use Rattle.deadpool_desk.specs.DeskState.{new_core, places};
+ghost use Rattle.deadpool_desk.specs.DeskSteps.{surplus};
 ghost use Rattle.deadpool_desk.specs.CoreSteps.{Enters, Asks, AsksAgain, Discards, Creates, Fails, Refuses, TakesBack, Cancels, Takes, Resizes, Stands, Retains, RetainsNoting, Closes, Clones, DropsHandle, Upgrades, Tells, due_now};
 ghost use Rattle.deadpool_desk.specs.Settled.{NobodyWaits};
 
@@ -65,6 +66,27 @@ impl<T: Drop> Core<T> {
         ensures { result ≡ nat_lt 0 self.now.desk.handles }
     {
         self.state.has_handle()
+    }
+
+    /// Whether just one pool handle is left, which takes the idle objects with it.
+    pub fn is_last_handle(&self) -> bool
+        ensures { result ≡ (self.now.desk.handles == 1) }
+    {
+        self.state.is_last_handle()
+    }
+
+    /// The idle object at this position, front to back.
+    pub fn idle_at(&self, at: usize) -> Option<&Slot<T>>
+        ensures { option_copied result ≡ slice_get self.now.desk.idle at }
+    {
+        self.state.idle_at(at)
+    }
+
+    /// How many idle objects a resize to this limit gives up: those at the front. It is 0 once the pool has closed.
+    pub fn surplus(&self, limit: usize) -> usize
+        ensures { result ≡ surplus limit self.now.desk }
+    {
+        self.state.surplus(limit)
     }
 
     /// Whether the pool has closed.

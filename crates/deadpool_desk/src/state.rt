@@ -1,8 +1,8 @@
 //! The state of a managed pool on one thread: its queue, its idle objects, and three counts.
-ghost use Rattle.std.specs.Prelude.{◌≡◌, ◌+◌, ◌-◌, ◌≤◌, ◌&&◌, not, nat_lt, nat_le, is_some, [], IfOk};
+ghost use Rattle.std.specs.Prelude.{◌≡◌, ◌+◌, ◌-◌, ◌≤◌, ◌&&◌, ◌==◌, not, nat_lt, nat_le, is_some, [], IfOk, option_copied, slice_get};
 ghost use Rattle.deadpool_desk.specs.Allowance.{IsWithinAllowance};
 ghost use Rattle.deadpool_desk.specs.DeskState.{least_idle, new_core, places, settled, next_idle, other_idle};
-ghost use Rattle.deadpool_desk.specs.DeskSteps.{Serves};
+ghost use Rattle.deadpool_desk.specs.DeskSteps.{Serves, surplus};
 ghost use Rattle.deadpool_desk.specs.CoreSteps.{Enters, Asks, AsksAgain, Discards, Creates, Fails, Refuses, TakesBack, Cancels, Takes, Resizes, Stands, Retains, RetainsNoting, Closes, Clones, DropsHandle, Upgrades, Tells, due_now};
 
 use crate::desk::{
@@ -76,6 +76,29 @@ impl<T: Drop> PoolState<T> {
         ensures { result ≡ nat_lt 0 self.now.desk.handles }
     {
         self.handles > 0
+    }
+
+    pub fn is_last_handle(&self) -> bool
+        ensures { result ≡ (self.now.desk.handles == 1) }
+    {
+        self.handles == 1
+    }
+
+    pub fn idle_at(&self, at: usize) -> Option<&Slot<T>>
+        ensures { option_copied result ≡ slice_get self.now.desk.idle at }
+    {
+        self.ring.get(at)
+    }
+
+    pub fn surplus(&self, limit: usize) -> usize
+        ensures { result ≡ surplus limit self.now.desk }
+    {
+        if self.gate.is_closed() {
+            return 0;
+        }
+        let idle = self.ring.len();
+        let excess = (idle + self.outside).saturating_sub(limit);
+        excess.min(idle.saturating_sub(self.min_idle.min(limit)))
     }
 
     pub fn retain_noting<R: Retainer<T>>(

@@ -1,8 +1,9 @@
 //! A pool's state, beside the steps that led to it.
-ghost use Rattle.std.specs.Prelude.{◌≡◌, ◌≤◌, ◌&&◌, ◌++◌, [], IfOk, is_some, length, nat_le, not};
+ghost use Rattle.std.specs.Prelude.{◌≡◌, ◌≤◌, ◌&&◌, ◌==◌, ◌++◌, [], IfOk, is_some, length, nat_le, not, option_copied, slice_get};
 ghost use Rattle.deadpool_gate.specs.Orders.{IsOnce};
 ghost use Rattle.deadpool_desk.specs.CoreSteps.{due_now};
 ghost use Rattle.deadpool_desk.specs.DeskState.{new_core, places};
+ghost use Rattle.deadpool_desk.specs.DeskSteps.{surplus};
 ghost use Rattle.deadpool_desk.specs.Settled.{NobodyWaits};
 ghost use Rattle.deadpool_journal.specs.Copies.{HasSteps};
 ghost use Rattle.deadpool_journal.specs.Kept.{IsKept};
@@ -93,6 +94,20 @@ impl<T: Drop> Journaled<T> {
         })
     }
 
+    /// The entry at this position of the journal. It is no step.
+    pub fn entry(&self, at: usize) -> Option<&Entry>
+        ensures { option_copied result ≡ slice_get self.now.log.entries at }
+    {
+        self.log.entry(at)
+    }
+
+    /// Whether a step has found no room for its entry. It is no step.
+    pub fn is_full(&self) -> bool
+        ensures { result ≡ self.now.log.is_full }
+    {
+        self.log.is_full()
+    }
+
     /// What is true of every state with its journal. The call does nothing.
     pub fn laws(&self)
         ensures kept { IsKept self.now }
@@ -108,6 +123,27 @@ impl<T: Drop> Journaled<T> {
         ensures { result ≡ not self.now.core.desk.is_open }
     {
         self.core.is_closed()
+    }
+
+    /// Whether just one pool handle is left, which takes the idle objects with it. It is no step.
+    pub fn is_last_handle(&self) -> bool
+        ensures { result ≡ (self.now.core.desk.handles == 1) }
+    {
+        self.core.is_last_handle()
+    }
+
+    /// The idle object at this position, front to back. It is no step.
+    pub fn idle_at(&self, at: usize) -> Option<&Slot<T>>
+        ensures { option_copied result ≡ slice_get self.now.core.desk.idle at }
+    {
+        self.core.idle_at(at)
+    }
+
+    /// How many idle objects a resize to this limit gives up: those at the front. It is no step.
+    pub fn surplus(&self, limit: usize) -> usize
+        ensures { result ≡ surplus limit self.now.core.desk }
+    {
+        self.core.surplus(limit)
     }
 
     /// Whether a get that enters now, and is willing to wait, has to join the queue. It is no step.

@@ -1,5 +1,5 @@
 //! A list of entries with room for so many.
-ghost use Rattle.std.specs.Prelude.{◌≡◌, ◌≤◌, IfOk, length, nat_lt, true};
+ghost use Rattle.std.specs.Prelude.{◌≡◌, ◌≤◌, IfOk, length, nat_lt, true, option_copied, slice_get};
 ghost use Rattle.deadpool_journal.specs.ByNumber.{numbered_enter, numbered_ask, numbered_again, numbered_back};
 ghost use Rattle.deadpool_journal.specs.LogState.{no_entries, noted};
 ghost use Rattle.deadpool_journal.specs.declared.entry.Entry.TheVariants as entry;
@@ -185,6 +185,13 @@ impl Log {
             append(&mut copies, entry.copied()?);
         }
         Ok(copies)
+    }
+
+    /// The entry at this position.
+    pub fn entry(&self, at: usize) -> Option<&Entry>
+        ensures { option_copied result ≡ slice_get self.now.entries at }
+    {
+        self.entries.get(at)
     }
 
     /// Whether an entry has found no room.

@@ -1,5 +1,5 @@
 //! The core of an unmanaged pool: its state, in which nobody waits for what is free between any two steps.
-ghost use Rattle.std.specs.Prelude.{◌≡◌, ℕ, nat_lt, not, [], length, IfOk};
+ghost use Rattle.std.specs.Prelude.{◌≡◌, ℕ, ◌==◌, nat_lt, not, [], length, IfOk, option_copied, slice_get};
 ghost use Rattle.deadpool_unmanaged.specs.Kept.{IsKept};
 ghost use Rattle.deadpool_unmanaged.specs.State.{IsFull, has_due, get_would_queue, add_would_queue, opened, status_of};
 ghost use Rattle.deadpool_unmanaged.specs.StateSteps.{GetEnters, GetAsks, GetCancels, AddEnters, AddAsks, AddCancels, TakesBack, Takes, TakesGetWake, TakesAddWake, Clones, DropsHandle, Upgrades, closed_pool};
@@ -125,6 +125,20 @@ impl<T: Drop> Core<T> {
         ensures { result ≡ nat_lt 0 self.now.pool.handles }
     {
         self.state.has_handle()
+    }
+
+    /// Whether just one pool handle is left, which takes the idle objects with it.
+    pub fn is_last_handle(&self) -> bool
+        ensures { result ≡ (self.now.pool.handles == 1) }
+    {
+        self.state.is_last_handle()
+    }
+
+    /// The idle object at this position. The last is the next to go out.
+    pub fn idle_at(&self, at: usize) -> Option<&T>
+        ensures { option_copied result ≡ slice_get self.now.pool.idle at }
+    {
+        self.state.idle_at(at)
     }
 
     /// A new get asks for an object, and joins the queue if none is free and `wait` says so. `OutOfMemory` comes only

@@ -1,5 +1,5 @@
 //! The state of an unmanaged pool on one thread: a line for objects, a line for room, and the idle objects.
-ghost use Rattle.std.specs.Prelude.{◌≡◌, ℕ, ◌<◌, ◌≤◌, nat_lt, not, [], length, vec_capacity, IfOk, IfSome, IfNone};
+ghost use Rattle.std.specs.Prelude.{◌≡◌, ℕ, ◌<◌, ◌≤◌, ◌==◌, nat_lt, not, [], length, vec_capacity, IfOk, IfSome, IfNone, option_copied, slice_get};
 ghost use Rattle.deadpool_unmanaged.specs.State.{IsFull, has_due, free_objects, free_room, get_would_queue, add_would_queue, opened, settled, status_of, last_idle};
 ghost use Rattle.deadpool_unmanaged.specs.StateSteps.{GetEnters, GetAsks, GetCancels, AddEnters, AddAsks, AddCancels, TakesBack, Takes, TakesGetWake, TakesAddWake, Clones, DropsHandle, Upgrades, handed, stored, closed_pool};
 
@@ -109,6 +109,18 @@ impl<T: Drop> PoolState<T> {
         ensures { result ≡ nat_lt 0 self.now.pool.handles }
     {
         self.handles > 0
+    }
+
+    pub fn is_last_handle(&self) -> bool
+        ensures { result ≡ (self.now.pool.handles == 1) }
+    {
+        self.handles == 1
+    }
+
+    pub fn idle_at(&self, at: usize) -> Option<&T>
+        ensures { option_copied result ≡ slice_get self.now.pool.idle at }
+    {
+        self.idle.get(at)
     }
 
     // How many idle objects no get was granted.
