@@ -11,6 +11,7 @@ use crate::work::{SharedWork, Work};
 use crate::zeros::Zeros;
 use deadpool::NoTime;
 use deadpool::managed::{Blanks, Get, Ledgers, NoHook, Object, Pool, PoolBuilder, Slot, Timeouts};
+use deadpool_threads::Waiter;
 use futures::Future;
 use futures::executor::block_on;
 use futures::task::{Doorbell, Poll, Solo};
@@ -69,6 +70,11 @@ fn measure_alone<R: Host, L: Ledgers>(table: Table<R>, pool: &ZeroPool<R, L>) ->
         "get and return, polled by hand",
         &Polls::new(table.rt, pool)?,
     )?;
+    table.figure(
+        "borrowed get and return, by hand",
+        &Borrows::new(table.rt, pool)?,
+    )?;
+    table.figure("get and return, by a waiter", &Waits::new(table.rt, pool)?)?;
     table.figure("get and return, by block_on", &Blocks::new(table.rt, pool)?)
 }
 
@@ -131,6 +137,66 @@ impl<R: Host, L: Ledgers> Work for Polls<R, L> {
         }
         cx.cancel();
         all_served(served, times)
+    }
+}
+
+// The same by gets that borrow the pool.
+#[derive(Drop)]
+struct Borrows<R: Host, L: Ledgers> {
+    pool: ZeroPool<R, L>,
+    task: Solo,
+}
+
+impl<R: Host, L: Ledgers> Borrows<R, L> {
+    fn new(rt: R, pool: &ZeroPool<R, L>) -> io::Result<Self> {
+        Ok(Borrows {
+            pool: pool.clone()?,
+            task: Solo::new(&rt, Doorbell::spinning())?,
+        })
+    }
+}
+
+impl<R: Host, L: Ledgers> Work for Borrows<R, L> {
+    fn repeat(&self, times: u32) -> io::Result<()> {
+        let mut cx = self.task.begin();
+        let mut served = 0u32;
+        for _time in 0..times {
+            if let Poll::Ready(Ok(object)) = self.pool.get_ref().poll(&mut cx) {
+                drop(object);
+                served = served.saturating_add(1);
+            }
+        }
+        cx.cancel();
+        all_served(served, times)
+    }
+}
+
+// The same by what a thread keeps to wait by.
+#[derive(Drop)]
+struct Waits<R: Host, L: Ledgers> {
+    pool: ZeroPool<R, L>,
+    rt: R,
+}
+
+impl<R: Host, L: Ledgers> Waits<R, L> {
+    fn new(rt: R, pool: &ZeroPool<R, L>) -> io::Result<Self> {
+        Ok(Waits {
+            pool: pool.clone()?,
+            rt,
+        })
+    }
+}
+
+impl<R: Host, L: Ledgers> Work for Waits<R, L> {
+    fn repeat(&self, times: u32) -> io::Result<()> {
+        let mut waiter = Waiter::new(&self.rt)?;
+        for _time in 0..times {
+            let Ok(object) = waiter.get(&self.rt, &self.pool) else {
+                return Err(lacks_object());
+            };
+            drop(object);
+        }
+        Ok(())
     }
 }
 

@@ -8,6 +8,7 @@ use crate::table::Table;
 use crate::work::{SharedWork, Work};
 use deadpool::NoTime;
 use deadpool::unmanaged::{Get, Pool};
+use deadpool_threads::Waiter;
 use futures::Future;
 use futures::executor::block_on;
 use futures::task::{Doorbell, Poll, Solo};
@@ -51,6 +52,11 @@ fn measure_gets<R: Host>(table: Table<R>, pool: &ZeroPool<R>) -> io::Result<()> 
         "get and return, polled by hand",
         &Polls::new(table.rt, pool)?,
     )?;
+    table.figure(
+        "borrowed get and return, by hand",
+        &Borrows::new(table.rt, pool)?,
+    )?;
+    table.figure("get and return, by a waiter", &Waits::new(table.rt, pool)?)?;
     table.figure("get and return, by block_on", &Blocks::new(table.rt, pool)?)
 }
 
@@ -147,6 +153,70 @@ impl<R: Host> Work for Polls<R> {
         } else {
             Err(lacks_object())
         }
+    }
+}
+
+// The same by gets that borrow the pool.
+#[derive(Drop)]
+struct Borrows<R: Host> {
+    pool: ZeroPool<R>,
+    task: Solo,
+}
+
+impl<R: Host> Borrows<R> {
+    fn new(rt: R, pool: &ZeroPool<R>) -> io::Result<Self> {
+        Ok(Borrows {
+            pool: pool.clone()?,
+            task: Solo::new(&rt, Doorbell::spinning())?,
+        })
+    }
+}
+
+impl<R: Host> Work for Borrows<R> {
+    fn repeat(&self, times: u32) -> io::Result<()> {
+        let mut cx = self.task.begin();
+        let mut served = 0u32;
+        for _time in 0..times {
+            if let Poll::Ready(Ok(object)) = self.pool.get_ref().poll(&mut cx) {
+                drop(object);
+                served = served.saturating_add(1);
+            }
+        }
+        cx.cancel();
+        if served == times {
+            Ok(())
+        } else {
+            Err(lacks_object())
+        }
+    }
+}
+
+// The same by what a thread keeps to wait by.
+#[derive(Drop)]
+struct Waits<R: Host> {
+    pool: ZeroPool<R>,
+    rt: R,
+}
+
+impl<R: Host> Waits<R> {
+    fn new(rt: R, pool: &ZeroPool<R>) -> io::Result<Self> {
+        Ok(Waits {
+            pool: pool.clone()?,
+            rt,
+        })
+    }
+}
+
+impl<R: Host> Work for Waits<R> {
+    fn repeat(&self, times: u32) -> io::Result<()> {
+        let mut waiter = Waiter::new(&self.rt)?;
+        for _time in 0..times {
+            let Ok(object) = waiter.get_unmanaged(&self.rt, &self.pool) else {
+                return Err(lacks_object());
+            };
+            drop(object);
+        }
+        Ok(())
     }
 }
 

@@ -12,8 +12,8 @@ pub use deadpool_managed::{
     TimeoutType, Timeouts, Turn, laws,
 };
 pub use deadpool_shared::{
-    Blanks, Entry, Get, Journal, Ledgers, Object, OpenPool, Pool, PoolBuilder, Seat, WeakPool,
-    by_number,
+    Blanks, Entry, Get, GetRef, Journal, Ledgers, Object, OpenPool, Pool, PoolBuilder, Seat,
+    WeakPool, by_number,
 };
 
 /// What a user of a pool names beside it, for a crate that gives a pool of its own out.

@@ -9,4 +9,6 @@ pub use deadpool_unmanaged::{
     GetEnterReply, GetStage, GetState, HandleReply, PoolConfig, PoolError, Status, StepReply,
     TakeReply,
 };
-pub use deadpool_unmanaged_shared::{Add, Adding, Get, Getting, Object, Pool, Remove, Removing};
+pub use deadpool_unmanaged_shared::{
+    Add, AddRef, Adding, Get, GetRef, Getting, Object, Pool, Remove, Removing,
+};

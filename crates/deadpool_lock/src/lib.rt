@@ -11,5 +11,5 @@ mod wakers;
 pub use handle::{Counted, Handle, Home};
 pub use listener::{Listener, wake_at};
 pub use lock::{Step, StepLock, Wakes};
-pub use request::{Request, RequestFuture};
+pub use request::{Request, RequestFuture, RequestRef};
 pub use wakers::Wakers;

@@ -1,5 +1,6 @@
 //! A future that asks something of what is shared.
-ghost use Rattle.std.specs.Prelude.{◌≡◌, ⊤, is_some, IfErr, IfSome, IsSomeAnd};
+ghost use Rattle.std.specs.Prelude.{◌≡◌, ◌||◌, ⊤, true, false, None, is_some, IfOk, IfErr, IfSome, IsNone, IsSomeAnd};
+ghost use Rattle.std.specs.Option.{ForSome};
 ghost use Rattle.deadpool_lock.specs.Requests.{IsOver};
 ghost use Rattle.futures.specs.Poll.{IfReady, OnPending};
 ghost use Rattle.futures.specs.Task.{Covers, Hears, IsArmed, Keeps};
@@ -92,23 +93,75 @@ impl<Q: Request<S>, S: Counted + Drop> RequestFuture<Q, S> {
         ensures kept { Keeps cx.old cx.new }
     {
         let Some(handle) = &self.handle else {
-            self.listener.listen(None, cx);
-            return match self.refusal.take() {
-                Some(refusal) => Poll::Ready(Q::refuse(refusal)),
-                None => Poll::Pending,
-            };
+            return poll_refused::<Q, S>(&mut self.refusal, &mut self.listener, cx);
         };
-        self.listener.listen(Some(handle.shared().source()), cx);
-        let Some(request) = self.request.take() else {
-            return Poll::Pending;
-        };
-        match request.poll(handle.shared(), &mut self.listener, cx) {
-            Ok(request) => {
-                self.request = Some(request);
-                Poll::Pending
-            }
-            Err(output) => Poll::Ready(output),
+        poll_request(&mut self.request, handle.shared(), &mut self.listener, cx)
+    }
+
+    // Gives up a request that has not ended, and then the handle.
+    #[cold]
+    #[inline(never)]
+    fn give_up(self) {
+        let Self {
+            handle,
+            request,
+            refusal: _,
+            listener: _,
+        } = self;
+        if let (Some(handle), Some(request)) = (handle, request) {
+            request.cancel(handle.shared());
         }
+    }
+}
+
+// A poll of one that has no handle.
+#[cold]
+#[inline(never)]
+fn poll_refused<Q: Request<S>, S: Counted>(
+    refusal: &mut Option<Q::Refusal>,
+    listener: &mut Listener,
+    cx: &mut Context<'_>,
+) -> Poll<Q::Output>
+    ensures gives { IfReady result Q.gives }
+    ensures begun { IfReady result (λ _. is_some refusal.old ≡ true) }
+    ensures waits { OnPending result (IsNone refusal.old) }
+    ensures ended { IsNone refusal.new }
+    ensures armed { OnPending result (IsArmed cx.new) }
+    ensures kept { Keeps cx.old cx.new }
+{
+    listener.listen(None, cx);
+    match refusal.take() {
+        Some(refusal) => Poll::Ready(Q::refuse(refusal)),
+        None => Poll::Pending,
+    }
+}
+
+// Registers, and then polls a request that has not ended.
+#[inline(always)]
+fn poll_request<Q: Request<S>, S: Counted>(
+    asked: &mut Option<Q>,
+    shared: &S,
+    listener: &mut Listener,
+    cx: &mut Context<'_>,
+) -> Poll<Q::Output>
+    ensures gives { IfReady result Q.gives }
+    ensures begun { IfReady result (λ _. is_some asked.old ≡ true) }
+    ensures ended { IfReady result (λ _. IsNone asked.new) }
+    ensures waits { OnPending result (is_some asked.new ≡ is_some asked.old) }
+    ensures armed { OnPending result (IsArmed cx.new) }
+    ensures heard { OnPending result (Hears cx.new (S.source_of shared.now)) }
+    ensures kept { Keeps cx.old cx.new }
+{
+    listener.listen(Some(shared.source()), cx);
+    let Some(request) = asked.take() else {
+        return Poll::Pending;
+    };
+    match request.poll(shared, listener, cx) {
+        Ok(request) => {
+            *asked = Some(request);
+            Poll::Pending
+        }
+        Err(output) => Poll::Ready(output),
     }
 }
 
@@ -126,17 +179,111 @@ impl<Q: Request<S>, S: Counted + Drop> Future for RequestFuture<Q, S> {
 
 impl<Q: Request<S>, S: Counted + Drop> Drop for RequestFuture<Q, S> {
     fn drop(self) {
+        if self.request.is_some() {
+            self.give_up();
+            return;
+        }
+        let Self {
+            handle,
+            request: _,
+            refusal: _,
+            listener: _,
+        } = self;
+        drop(handle);
+    }
+}
+
+/// A request as a future that borrows a handle, and is none itself. Otherwise it is as a `RequestFuture`.
+pub struct RequestRef<'a, Q: Request<S>, S: Counted + Drop> {
+    handle: &'a Handle<S>,
+    // None if it has ended, or did not begin.
+    request: Option<Q>,
+    // Of one that did not begin, until its first poll.
+    refusal: Option<Q::Refusal>,
+    listener: Listener,
+    ghost either: { ForSome refusal (λ _. is_some request ≡ false) },
+}
+
+impl<'a, Q: Request<S>, S: Counted + Drop> RequestRef<'a, Q, S> {
+    /// A request that was not polled yet, or why there is none.
+    pub fn new(handle: &'a Handle<S>, request: Result<Q, Q::Refusal>) -> Self
+        ensures handle { result.handle.now ≡ handle.now }
+        ensures request { IfOk request (λ asked. result.request ≡ Some asked) }
+        ensures refusal { IfErr request (λ refusal. result.refusal ≡ Some refusal) }
+    {
+        let (request, refusal) = match request {
+            Ok(request) => (Some(request), None),
+            Err(refusal) => (None, Some(refusal)),
+        };
+        RequestRef {
+            handle,
+            request,
+            refusal,
+            listener: Listener::new(),
+        }
+    }
+
+    /// One poll.
+    pub fn advance(&mut self, cx: &mut Context<'_>) -> Poll<Q::Output>
+        ensures gives { IfReady result Q.gives }
+        ensures begun { IfReady result (λ _. (is_some self.old.request || is_some self.old.refusal) ≡ true) }
+        ensures ended { IfReady result (λ _. IsNone self.new.request × IsNone self.new.refusal) }
+        ensures waits { OnPending result (is_some self.new.request ≡ is_some self.old.request) }
+        ensures handle { self.new.handle.now ≡ self.old.handle.now }
+        ensures armed { OnPending result (IsArmed cx.new) }
+        ensures heard { OnPending result (Hears cx.new (S.source_of self.old.handle.now)) }
+        ensures kept { Keeps cx.old cx.new }
+    {
+        if let Some(refusal) = self.refusal.take() {
+            return Poll::Ready(Q::refuse(refusal));
+        }
+        poll_request(
+            &mut self.request,
+            self.handle.shared(),
+            &mut self.listener,
+            cx,
+        )
+    }
+
+    // Gives up a request that has not ended.
+    #[cold]
+    #[inline(never)]
+    fn give_up(self) {
         let Self {
             handle,
             request,
             refusal: _,
             listener: _,
         } = self;
-        let Some(handle) = handle else {
-            return;
-        };
         if let Some(request) = request {
             request.cancel(handle.shared());
         }
+    }
+}
+
+impl<'a, Q: Request<S>, S: Counted + Drop> Future for RequestRef<'a, Q, S> {
+    type Output = Q::Output;
+
+    ghost needs = { λ future s. s ≡ S.source_of future.handle.now };
+
+    ghost gives = { λ future output. Q.gives output };
+
+    fn poll(&mut self, cx: &mut Context<'_>) -> Poll<Q::Output> {
+        self.advance(cx)
+    }
+}
+
+impl<'a, Q: Request<S>, S: Counted + Drop> Drop for RequestRef<'a, Q, S> {
+    fn drop(self) {
+        if self.request.is_some() {
+            self.give_up();
+            return;
+        }
+        let Self {
+            handle: _,
+            request: _,
+            refusal: _,
+            listener: _,
+        } = self;
     }
 }

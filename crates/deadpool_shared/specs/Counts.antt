@@ -1,5 +1,5 @@
 -- The three counts of a pool, and what one holder has of them.
-use Rattle.std.specs.Prelude.{ℕ, ◌+◌, ◌-◌, ⊤}
+use Rattle.std.specs.Prelude.{ℕ, ◌+◌, ◌-◌, ⊤, Option, Some, None}
 use Rattle.deadpool_journal.specs.Journaling.{Journaling}
 use Rattle.deadpool_desk.specs.declared.desk.Holding.{Holding}
 use Rattle.deadpool_desk.specs.declared.desk.Holding.TheVariants as holding
@@ -25,6 +25,11 @@ counts_of holding.Nothing = counts 0 0 0
 counts_of holding.Place = counts 1 0 0
 counts_of holding.Creation = counts 0 1 0
 counts_of holding.Object = counts 0 0 1
+
+-- what a holder has that maybe was handed out no shares yet
+abbrev pub had : Option Counts → Counts
+had (Some c) = c
+had None = counts 0 0 0
 
 -- the counts of all holders after one of them has something else
 abbrev pub shifted : Holding → Holding → Counts → Counts

@@ -4,6 +4,7 @@
 //! bytes. So no step of a get or an object that lowers a count meets a pool that does not know of it.
 #![tactic(auto)]
 
+mod asking;
 mod builder;
 mod counted;
 mod get;
@@ -17,7 +18,7 @@ mod shares;
 
 pub use builder::{OpenPool, PoolBuilder};
 pub use deadpool_journal::{Entry, Journal, by_number};
-pub use get::Get;
+pub use get::{Get, GetRef};
 pub use ledgers::{Blanks, Ledgers};
 pub use object::Object;
 pub use pool::{Pool, WeakPool};

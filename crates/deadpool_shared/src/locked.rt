@@ -1,5 +1,5 @@
 //! What the lock of a pool keeps.
-ghost use Rattle.std.specs.Prelude.{◌≡◌, ◌≢◌, ◌<◌, ◌≤◌, not, true, is_some, length, Some, None, IfNone, IfOk, IfSome};
+ghost use Rattle.std.specs.Prelude.{◌≡◌, ◌≢◌, ◌<◌, ◌≤◌, not, true, is_some, length, Some, None, IfOk, IfSome};
 ghost use Rattle.deadpool_desk.specs.CoreSteps.{due_now};
 ghost use Rattle.deadpool_desk.specs.Held.{held_if_entered, held_if_asked, held_if_asked_again, held_as};
 ghost use Rattle.deadpool_desk.specs.Allowance.{IsWithinAllowance};
@@ -7,7 +7,6 @@ ghost use Rattle.deadpool_desk.specs.declared.desk.Holding.{Holding};
 ghost use Rattle.deadpool_journal.specs.Copies.{HasSteps};
 ghost use Rattle.deadpool_journal.specs.Steps.{AsksNoted, AsksAgainNoted, DiscardsNoted, CreatesNoted, FailsNoted, RefusesNoted, TakesBackNoted, CancelsNoted, StandsNoted, TakesNoted, ResizesNoted, RetainsNoted, ClosesNoted, ClonesNoted, DropsHandleNoted, UpgradesNoted};
 ghost use Rattle.deadpool_lock.specs.Places.{Follows};
-ghost use Rattle.deadpool_parts.specs.declared.replies.HandleReply.{HandleReply};
 ghost use Rattle.deadpool_shared.specs.Counts.{counts, counts_of, counted, IsServed, IsTaken, HasShare};
 ghost use Rattle.deadpool_shared.specs.Locked.{joins, ticket_if_entered, ticket_if_asked, ticket_of, EntersLocked, TellsLocked, IsCopy};
 
@@ -46,17 +45,14 @@ impl<T: Drop, L: Ledgers> Locked<T, L> {
         }
     }
 
-    /// One handle more, for a new get, with its shares. If no part of the ledgers is left, nothing changes.
-    pub fn begin(&mut self) -> Option<Shares<L>>
+    /// Shares for a new get, if a part of each ledger is left. It is no step.
+    pub fn hand_out(&mut self) -> Option<Shares<L>>
         ensures shares { IfSome result (λ shares. shares ≡ counts_of Holding.Nothing) }
-        ensures cloned { IfSome result (λ _. (reply : HandleReply) × ClonesNoted self.old.pool reply self.new.pool) }
-        ensures unchanged { IfNone result (self.new.pool ≡ self.old.pool) }
+        ensures pool { self.new.pool ≡ self.old.pool }
         ensures wakers { self.new.wakers ≡ self.old.wakers }
     {
-        let Locked { pool, books, .. } = self;
-        let shares = books.hand_out()?;
-        pool.clone_handle();
-        Some(shares)
+        let Locked { books, .. } = self;
+        books.hand_out()
     }
 
     /// A new get. If it is queued its waker is kept. A get that would be queued, whose waker finds no memory, makes no

@@ -6,8 +6,10 @@ ghost use Rattle.deadpool_shared.specs.Counts.{counts, counts_of};
 
 use crate::ledgers::Ledgers;
 use crate::pool::Pool;
-use crate::seat::{Seat, Stake};
-use deadpool_lock::Listener;
+use crate::seat::Seat;
+use crate::shared::Shared;
+use crate::shares::Shares;
+use deadpool_lock::{Home, Listener};
 use deadpool_managed::{
     AsyncHook, BackReply, Clock, Manager, Metrics, ObjectId, Slot, SyncHook, TakeReply,
 };
@@ -25,8 +27,9 @@ pub(crate) struct OutStake<
     R: Wait + Drop,
     L: Ledgers,
 > {
-    pub(crate) stake: Stake<M, F, A, C, R, L>,
-    ghost is_out: { stake.shares ≡ counts_of Holding.Object },
+    pub(crate) home: Home<Shared<M, F, A, C, R, L>>,
+    pub(crate) shares: Shares<L>,
+    ghost is_out: { shares ≡ counts_of Holding.Object },
 }
 
 impl<M: Manager, F: SyncHook<M>, A: AsyncHook<M>, C: Clock, R: Wait + Drop, L: Ledgers> OutStake<
@@ -37,10 +40,11 @@ impl<M: Manager, F: SyncHook<M>, A: AsyncHook<M>, C: Clock, R: Wait + Drop, L: L
     R,
     L,
 > {
-    pub(crate) fn new(stake: Stake<M, F, A, C, R, L>) -> Self
-        requires { stake.shares ≡ counts_of Holding.Object }
+    pub(crate) fn new(home: Home<Shared<M, F, A, C, R, L>>, shares: Shares<L>) -> Self
+        requires { shares ≡ counts_of Holding.Object }
+        ensures home { result.home ≡ home }
     {
-        OutStake { stake }
+        OutStake { home, shares }
     }
 }
 
@@ -69,13 +73,12 @@ impl<M: Manager, F: SyncHook<M>, A: AsyncHook<M>, C: Clock, R: Wait + Drop, L: L
     /// Takes the value out of the pool for good: the pool has one object less. The manager is told of it first, if the
     /// pool has a handle left.
     pub fn take(this: Self) -> M::Type
-        ensures { LeavesOrKeeps (M.may_detach this.out.stake.home.environment.manager) this.slot.value result }
+        ensures { LeavesOrKeeps (M.may_detach this.out.home.environment.manager) this.slot.value result }
     {
         let Self { out, slot } = this;
-        let OutStake { stake } = out;
-        let Stake { home, shares } = stake;
+        let OutStake { home, shares } = out;
         let mut listener = Listener::new();
-        let mut seat = Seat::new(home.shared(), shares, &mut listener);
+        let mut seat = Seat::new(home.shared(), Some(shares), &mut listener);
         let Slot {
             number: _,
             mut value,
@@ -104,9 +107,9 @@ impl<M: Manager, F: SyncHook<M>, A: AsyncHook<M>, C: Clock, R: Wait + Drop, L: L
     /// One more handle of its pool, if the pool has a handle left. `AllocError` says that there was no memory for it, and
     /// none is counted then.
     pub fn pool(this: &Self) -> Result<Option<Pool<M, F, A, C, R, L>>, AllocError>
-        ensures { IfOk result (λ pool. IfSome pool (λ some. some.handle ≡ this.now.out.stake.home)) }
+        ensures { IfOk result (λ pool. IfSome pool (λ some. some.handle ≡ this.now.out.home)) }
     {
-        Pool::upgrade(&this.out.stake.home)
+        Pool::upgrade(&this.out.home)
     }
 }
 
@@ -114,10 +117,9 @@ impl<M: Manager, F: SyncHook<M>, A: AsyncHook<M>, C: Clock, R: Wait + Drop, L: L
     for Object<M, F, A, C, R, L> {
     fn drop(self) {
         let Self { out, slot } = self;
-        let OutStake { stake } = out;
-        let Stake { home, shares } = stake;
+        let OutStake { home, shares } = out;
         let mut listener = Listener::new();
-        let mut seat = Seat::new(home.shared(), shares, &mut listener);
+        let mut seat = Seat::new(home.shared(), Some(shares), &mut listener);
         if let BackReply::Detach(mut slot) = seat.return_slot(slot) {
             home.shared().environment.manager.detach(&mut slot.value);
         }

@@ -4,7 +4,7 @@ ghost use Rattle.deadpool_journal.specs.Copies.{HasSteps};
 ghost use Rattle.deadpool_managed.specs.declared.work.Phase.TheVariants.{Unpolled};
 
 use crate::builder::PoolBuilder;
-use crate::get::Get;
+use crate::get::{Get, GetRef};
 use crate::ledgers::Ledgers;
 use crate::object::Object;
 use crate::shared::Shared;
@@ -111,9 +111,9 @@ impl<M: Manager, F: SyncHook<M>, A: AsyncHook<M>, C: Clock, R: Wait + Drop, L: L
     /// A get with the timeouts of the pool. It is a handle of the pool from now on.
     pub fn get(&self) -> Get<M, F, A, C, R, L, W>
         ensures pool { IfSome result.handle (λ shared. shared ≡ self.now.handle) }
-        ensures stake { IfSome result.party (λ stake. stake.home ≡ self.now.handle) }
-        ensures begun { (IsSome result.handle × IsSome result.party) ⊎ IsSome result.refusal }
-        ensures progress { result.progress ≡ record { phase = Unpolled; slot = None } }
+        ensures home { IfSome result.asking.home (λ shared. shared ≡ self.now.handle) }
+        ensures begun { (IsSome result.handle × IsSome result.asking.home) ⊎ IsSome result.asking.refusal }
+        ensures progress { result.asking.progress ≡ record { phase = Unpolled; slot = None } }
         ensures timeouts { result.timeouts ≡ None }
     {
         Get::new(&self.handle, None)
@@ -122,12 +122,34 @@ impl<M: Manager, F: SyncHook<M>, A: AsyncHook<M>, C: Clock, R: Wait + Drop, L: L
     /// A get with timeouts of its own. It is a handle of the pool from now on.
     pub fn timeout_get(&self, timeouts: &Timeouts) -> Get<M, F, A, C, R, L, W>
         ensures pool { IfSome result.handle (λ shared. shared ≡ self.now.handle) }
-        ensures stake { IfSome result.party (λ stake. stake.home ≡ self.now.handle) }
-        ensures begun { (IsSome result.handle × IsSome result.party) ⊎ IsSome result.refusal }
-        ensures progress { result.progress ≡ record { phase = Unpolled; slot = None } }
+        ensures home { IfSome result.asking.home (λ shared. shared ≡ self.now.handle) }
+        ensures begun { (IsSome result.handle × IsSome result.asking.home) ⊎ IsSome result.asking.refusal }
+        ensures progress { result.asking.progress ≡ record { phase = Unpolled; slot = None } }
         ensures timeouts { result.timeouts ≡ Some timeouts.now }
     {
         Get::new(&self.handle, Some(*timeouts))
+    }
+
+    /// A get with the timeouts of the pool, which borrows this handle and is none itself.
+    pub fn get_ref(&self) -> GetRef<'_, M, F, A, C, R, L, W>
+        ensures pool { result.handle.now ≡ self.now.handle }
+        ensures home { IfSome result.asking.home (λ shared. shared ≡ self.now.handle) }
+        ensures begun { IsSome result.asking.home ⊎ IsSome result.asking.refusal }
+        ensures progress { result.asking.progress ≡ record { phase = Unpolled; slot = None } }
+        ensures timeouts { result.timeouts.now ≡ self.now.handle.timeouts }
+    {
+        GetRef::new(&self.handle, &self.handle.shared().timeouts)
+    }
+
+    /// A get with timeouts of its own, which borrows this handle and is none itself.
+    pub fn timeout_get_ref<'a>(&'a self, timeouts: &'a Timeouts) -> GetRef<'a, M, F, A, C, R, L, W>
+        ensures pool { result.handle.now ≡ self.now.handle }
+        ensures home { IfSome result.asking.home (λ shared. shared ≡ self.now.handle) }
+        ensures begun { IsSome result.asking.home ⊎ IsSome result.asking.refusal }
+        ensures progress { result.asking.progress ≡ record { phase = Unpolled; slot = None } }
+        ensures timeouts { result.timeouts.now ≡ timeouts.now }
+    {
+        GetRef::new(&self.handle, timeouts)
     }
 
     /// Sets the greatest number of objects. While there are more, idle ones are dropped, the front one first, without a

@@ -6,39 +6,25 @@ ghost use Rattle.deadpool_desk.specs.declared.desk.Holding.{Holding};
 ghost use Rattle.deadpool_desk.specs.declared.desk.CreatedReply.{CreatedReply};
 ghost use Rattle.deadpool_desk.specs.declared.desk.TakeReply.{TakeReply};
 ghost use Rattle.deadpool_parts.specs.declared.replies.StepReply.{StepReply};
-ghost use Rattle.deadpool_shared.specs.Counts.{counts, counts_of, IsServed, IsTaken, HasShare};
+ghost use Rattle.deadpool_shared.specs.Counts.{counts, counts_of, had, IsServed, IsTaken, HasShare};
 
 use crate::ledgers::Ledgers;
 use crate::shared::Shared;
 use crate::shares::Shares;
-use deadpool_lock::{Home, Listener};
+use deadpool_lock::Listener;
 use deadpool_managed::gate::Ticket;
 use deadpool_managed::{
     AgainReply, AskReply, AsyncHook, BackReply, Clock, CreatedReply, Desk, EnterReply, HandleReply,
-    Held, Manager, RetainResult, Retainer, Slot, Status, StepReply, SyncHook, TakeReply,
+    Held, Manager, RetainResult, Retainer, Serving, Slot, Status, StepReply, SyncHook, TakeReply,
 };
 use std::alloc::AllocError;
 use std::marker::Model;
 use std::sync::Wait;
 
-/// What one get or object has of a pool: the pool, and its shares.
-#[derive(Drop)]
-pub(crate) struct Stake<
-    M: Manager,
-    F: SyncHook<M>,
-    A: AsyncHook<M>,
-    C: Clock,
-    R: Wait + Drop,
-    L: Ledgers,
-> {
-    pub(crate) home: Home<Shared<M, F, A, C, R, L>>,
-    pub(crate) shares: Shares<L>,
-}
-
 /// The lock of a pool, which is lent it, with the shares of one get or object, and what the get hears by. Each step is one
 /// section of the lock. After it, with the lock given back, the wakers are called of the gets that it made due.
 ///
-/// Contracts see it as its shares. A step that lowers a count asks that the shares have what it lowers, and is then never
+/// A get without shares is handed out some as it enters. Contracts see a seat as its shares. A step that lowers a count asks that the shares have what it lowers, and is then never
 /// answered `Unknown`.
 #[derive(Drop)]
 pub struct Seat<
@@ -51,17 +37,18 @@ pub struct Seat<
     L: Ledgers,
 > {
     shared: &'a Shared<M, F, A, C, R, L>,
-    shares: Shares<L>,
+    // None before a get enters that was handed out none.
+    shares: Option<Shares<L>>,
     listener: &'a mut Listener,
 }
 
 impl<'a, M: Manager, F: SyncHook<M>, A: AsyncHook<M>, C: Clock, R: Wait + Drop, L: Ledgers> Model
     for Seat<'a, M, F, A, C, R, L> {
-    ghost use Rattle.deadpool_shared.specs.Counts.{Counts};
+    ghost use Rattle.deadpool_shared.specs.Counts.{Counts, had};
 
     ghost Value = { Counts };
 
-    ghost view = { λ s. s.shares };
+    ghost view = { λ s. had s.shares };
 }
 
 impl<'a, M: Manager, F: SyncHook<M>, A: AsyncHook<M>, C: Clock, R: Wait + Drop, L: Ledgers> Desk<
@@ -105,59 +92,77 @@ impl<'a, M: Manager, F: SyncHook<M>, A: AsyncHook<M>, C: Clock, R: Wait + Drop, 
 
     fn enter(&mut self, wait: bool) -> EnterReply<Slot<M::Type>> {
         let mut step = self.shared.lock.begin();
-        let reply = step
-            .kept()
-            .enter(&mut self.shares, self.listener.waker(), wait);
+        if self.shares.is_none() {
+            self.shares = step.kept().hand_out();
+        }
+        let reply = match &mut self.shares {
+            Some(shares) => step.kept().enter(shares, self.listener.waker(), wait),
+            None => EnterReply::Served(Serving::Exhausted),
+        };
         self.shared.lock.end(step);
         reply
     }
 
     fn ask(&mut self, ticket: Ticket, expired: bool) -> AskReply<Slot<M::Type>> {
+        let Some(shares) = &mut self.shares else {
+            return AskReply::Unknown;
+        };
         let mut spare = None;
         let mut step = self.shared.lock.begin();
-        let reply = step.kept().ask(
-            &mut self.shares,
-            self.listener.waker(),
-            &mut spare,
-            ticket,
-            expired,
-        );
+        let reply = step
+            .kept()
+            .ask(shares, self.listener.waker(), &mut spare, ticket, expired);
         self.shared.lock.end(step);
         drop(spare);
         reply
     }
 
     fn again(&mut self, allowance: Option<usize>) -> AgainReply<Slot<M::Type>> {
+        let Some(shares) = &mut self.shares else {
+            return AgainReply::Unknown;
+        };
         let mut step = self.shared.lock.begin();
-        let reply = step.kept().again(&mut self.shares, allowance);
+        let reply = step.kept().again(shares, allowance);
         self.shared.lock.end(step);
         reply
     }
 
     fn discard(&mut self) -> StepReply {
+        let Some(shares) = &mut self.shares else {
+            return StepReply::Unknown;
+        };
         let mut step = self.shared.lock.begin();
-        let reply = step.kept().discard(&mut self.shares);
+        let reply = step.kept().discard(shares);
         self.shared.lock.end(step);
         reply
     }
 
     fn created(&mut self) -> CreatedReply {
+        let Some(shares) = &mut self.shares else {
+            return CreatedReply::Unknown;
+        };
         let mut step = self.shared.lock.begin();
-        let reply = step.kept().created(&mut self.shares);
+        let reply = step.kept().created(shares);
         self.shared.lock.end(step);
         reply
     }
 
     fn failed(&mut self) -> StepReply {
+        let Some(shares) = &mut self.shares else {
+            return StepReply::Unknown;
+        };
         let mut step = self.shared.lock.begin();
-        let reply = step.kept().failed(&mut self.shares);
+        let reply = step.kept().failed(shares);
         self.shared.lock.end(step);
         reply
     }
 
     fn refused(&mut self) -> StepReply {
+        let Some(shares) = &mut self.shares else {
+            return StepReply::Unknown;
+        };
         let mut step = self.shared.lock.begin();
-        let reply = step.kept().refused(&mut self.shares);
+        let reply = step.kept().refused(shares);
         self.shared.lock.end(step);
         reply
     }
@@ -167,16 +172,22 @@ impl<'a, M: Manager, F: SyncHook<M>, A: AsyncHook<M>, C: Clock, R: Wait + Drop, 
         ensures taken_back { IsTaken result }
         ensures holds { self.new ≡ counts_of Holding.Nothing }
     {
+        let Some(shares) = &mut self.shares else {
+            return BackReply::Unknown(slot);
+        };
         let mut step = self.shared.lock.begin();
-        let reply = step.kept().back(&mut self.shares, slot);
+        let reply = step.kept().back(shares, slot);
         self.shared.lock.end(step);
         reply
     }
 
     fn cancel(&mut self, held: Held) -> StepReply {
+        let Some(shares) = &mut self.shares else {
+            return StepReply::Unknown;
+        };
         let mut spare = None;
         let mut step = self.shared.lock.begin();
-        let reply = step.kept().cancel(&mut self.shares, &mut spare, held);
+        let reply = step.kept().cancel(shares, &mut spare, held);
         self.shared.lock.end(step);
         drop(spare);
         reply
@@ -187,8 +198,11 @@ impl<'a, M: Manager, F: SyncHook<M>, A: AsyncHook<M>, C: Clock, R: Wait + Drop, 
     }
 
     fn take(&mut self) -> TakeReply {
+        let Some(shares) = &mut self.shares else {
+            return TakeReply::Unknown;
+        };
         let mut step = self.shared.lock.begin();
-        let reply = step.kept().take(&mut self.shares);
+        let reply = step.kept().take(shares);
         self.shared.lock.end(step);
         reply
     }
@@ -239,10 +253,10 @@ impl<'a, M: Manager, F: SyncHook<M>, A: AsyncHook<M>, C: Clock, R: Wait + Drop, 
     // A seat with the shares of one get or object.
     pub(crate) fn new(
         shared: &'a Shared<M, F, A, C, R, L>,
-        shares: Shares<L>,
+        shares: Option<Shares<L>>,
         listener: &'a mut Listener,
     ) -> Self
-        ensures { result ≡ shares }
+        ensures { result ≡ had shares }
     {
         Seat {
             shared,
@@ -252,8 +266,8 @@ impl<'a, M: Manager, F: SyncHook<M>, A: AsyncHook<M>, C: Clock, R: Wait + Drop, 
     }
 
     // What is left with the seat's holder.
-    pub(crate) fn into_shares(self) -> Shares<L>
-        ensures { result ≡ self.entry }
+    pub(crate) fn into_shares(self) -> Option<Shares<L>>
+        ensures { had result ≡ self.entry }
     {
         let Seat {
             shared: _,

@@ -1,12 +1,9 @@
 //! What the handles of a pool share.
-ghost use Rattle.std.specs.Prelude.{◌≡◌, IfOk, IfSome};
-ghost use Rattle.deadpool_desk.specs.declared.desk.Holding.{Holding};
+ghost use Rattle.std.specs.Prelude.{IfOk};
 ghost use Rattle.deadpool_journal.specs.Copies.{HasSteps};
-ghost use Rattle.deadpool_shared.specs.Counts.{counts, counts_of};
 
 use crate::ledgers::Ledgers;
 use crate::locked::Locked;
-use crate::shares::Shares;
 use deadpool_journal::Journal;
 use deadpool_lock::{Counted, StepLock};
 use deadpool_managed::{
@@ -41,16 +38,6 @@ impl<M: Manager, F: SyncHook<M>, A: AsyncHook<M>, C: Clock, R: Wait + Drop, L: L
     R,
     L,
 > {
-    /// One handle more, for a new get, with its shares, if a part of each ledger is left.
-    pub fn begin(&self) -> Option<Shares<L>>
-        ensures { IfSome result (λ shares. shares ≡ counts_of Holding.Nothing) }
-    {
-        let mut step = self.lock.begin();
-        let shares = step.kept().begin();
-        self.lock.end(step);
-        shares
-    }
-
     pub fn upgrade(&self) -> bool {
         let mut step = self.lock.begin();
         let is_counted = step.kept().upgrade();

@@ -1,6 +1,7 @@
 //! What the futures of a pool ask: an object, one that leaves for good, or room.
 ghost use Rattle.std.specs.Prelude.{◌≡◌, Some, IfOk, IfErr};
 ghost use Rattle.deadpool_unmanaged.specs.Adds.{held_by};
+ghost use Rattle.deadpool_unmanaged.specs.declared.get.GetStage.TheVariants as GetStage;
 ghost use Rattle.futures.specs.Task.{Keeps};
 
 use crate::object::Object;
@@ -9,6 +10,7 @@ use deadpool_lock::{Home, Listener, Request, wake_at};
 use deadpool_unmanaged::{AddState, Clock, GetState, PoolError};
 use futures::task::{Context, Poll};
 use std::sync::Wait;
+use std::time::Duration;
 
 /// A get that has not ended, with the pool's state for its object.
 #[derive(Drop)]
@@ -20,6 +22,18 @@ pub struct Getting<T: Drop, C: Clock, R: Wait + Drop> {
 }
 
 impl<T: Drop, C: Clock, R: Wait + Drop> Getting<T, C, R> {
+    // A get that was not polled yet, with what is shared for its object.
+    pub(crate) fn new(home: Home<Shared<T, C, R>>, timeout: Option<Duration>) -> Self
+        ensures state { result.state ≡ GetStage.Unpolled timeout }
+        ensures home { result.home ≡ home }
+    {
+        Getting {
+            state: GetState::new(timeout),
+            home,
+            alarm: None,
+        }
+    }
+
     // One poll, which comes back if it is pending.
     fn ask(
         self,

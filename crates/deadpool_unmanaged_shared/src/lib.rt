@@ -9,4 +9,4 @@ mod shared;
 
 pub use asking::{Adding, Getting, Removing};
 pub use object::Object;
-pub use pool::{Add, Get, Pool, Remove};
+pub use pool::{Add, AddRef, Get, GetRef, Pool, Remove};

@@ -1,13 +1,13 @@
 //! The handles of a pool.
-ghost use Rattle.std.specs.Prelude.{◌≡◌, ◌⊎◌, Some, IsSome, IfSome, IfOk};
+ghost use Rattle.std.specs.Prelude.{◌≡◌, ◌⊎◌, Some, IsSome, IsSomeAnd, IfSome, IfOk};
 ghost use Rattle.deadpool_unmanaged.specs.declared.add.AddStage.TheVariants as AddStage;
 ghost use Rattle.deadpool_unmanaged.specs.declared.get.GetStage.TheVariants as GetStage;
 
 use crate::asking::{Adding, Getting, Removing};
 use crate::object::Object;
 use crate::shared::Shared;
-use deadpool_lock::{Handle, RequestFuture};
-use deadpool_unmanaged::{AddState, Clock, Core, GetState, PoolConfig, PoolError, Status};
+use deadpool_lock::{Handle, RequestFuture, RequestRef};
+use deadpool_unmanaged::{AddState, Clock, Core, PoolConfig, PoolError, Status};
 use std::alloc::{AllocError, Global};
 use std::sync::Wait;
 use std::time::Duration;
@@ -15,14 +15,20 @@ use std::time::Duration;
 /// A get as a future. Dropping it gives back what it was granted.
 pub type Get<T, C, R> = RequestFuture<Getting<T, C, R>, Shared<T, C, R>>;
 
+/// A get as a future that borrows a handle of its pool, and is none itself. Dropping it gives back what it was granted.
+pub type GetRef<'a, T, C, R> = RequestRef<'a, Getting<T, C, R>, Shared<T, C, R>>;
+
 /// A get as a future, whose object leaves the pool for good.
 pub type Remove<T, C, R> = RequestFuture<Removing<T, C, R>, Shared<T, C, R>>;
 
 /// An add as a future. Dropping it drops its object, and gives back the room that it was granted.
 pub type Add<T, C, R> = RequestFuture<Adding<T>, Shared<T, C, R>>;
 
+/// An add as a future that borrows a handle of its pool, and is none itself. Dropping it is as for an `Add`.
+pub type AddRef<'a, T, C, R> = RequestRef<'a, Adding<T>, Shared<T, C, R>>;
+
 /// A handle of a pool whose objects are those that its users add. The last handle that is dropped takes the idle objects with
-/// it. Each future holds a handle of its own.
+/// it. Each future holds a handle of its own, but for those that borrow one.
 ///
 /// `C` tells the time, and with `R` the lock is taken.
 #[derive(Drop)]
@@ -119,6 +125,28 @@ impl<T: Drop, C: Clock, R: Wait + Drop> Pool<T, C, R> {
         }
     }
 
+    /// A get that waits as long as the configuration says, and borrows this handle.
+    pub fn get_ref(&self) -> GetRef<'_, T, C, R>
+        ensures asks { IfSome result.request (λ get. get.state ≡ GetStage.Unpolled self.now.inner.timeout) }
+        ensures begun { IsSome result.request ⊎ IsSome result.refusal }
+        ensures handle { result.handle.now ≡ self.now.inner }
+    {
+        self.timeout_get_ref(self.inner.shared().timeout)
+    }
+
+    /// A get that may wait so long, as `timeout_get` says, and borrows this handle.
+    pub fn timeout_get_ref(&self, timeout: Option<Duration>) -> GetRef<'_, T, C, R>
+        ensures asks { IfSome result.request (λ get. get.state ≡ GetStage.Unpolled timeout) }
+        ensures begun { IsSome result.request ⊎ IsSome result.refusal }
+        ensures handle { result.handle.now ≡ self.now.inner }
+    {
+        let request = match self.inner.uncounted() {
+            Ok(home) => Ok(Getting::new(home, timeout)),
+            Err(AllocError) => Err(()),
+        };
+        RequestRef::new(&self.inner, request)
+    }
+
     /// An object at once. `Timeout` if none is free, also if one is idle that a get was granted.
     pub fn try_get(&self) -> Result<Object<T, C, R>, PoolError> {
         let Ok(home) = self.inner.uncounted() else {
@@ -143,6 +171,15 @@ impl<T: Drop, C: Clock, R: Wait + Drop> Pool<T, C, R> {
             ),
             Err(AllocError) => RequestFuture::refused(value),
         }
+    }
+
+    /// An add, which waits for room without an end, and borrows this handle. If it is refused the object comes back.
+    pub fn add_ref(&self, value: T) -> AddRef<'_, T, C, R>
+        ensures asks { IsSomeAnd result.request (λ add. add.state ≡ AddStage.Unpolled value) }
+        ensures handle { result.handle.now ≡ self.now.inner }
+    {
+        let state = AddState::new(value);
+        RequestRef::new(&self.inner, Ok(Adding { state }))
     }
 
     /// Adds an object at once. `Timeout` if there is no room, also if there is some that an add was granted.
@@ -211,11 +248,6 @@ impl<T: Drop, C: Clock, R: Wait + Drop> Pool<T, C, R> {
     {
         let home = self.inner.uncounted()?;
         let handle = self.inner.clone()?;
-        let getting = Getting {
-            state: GetState::new(timeout),
-            home,
-            alarm: None,
-        };
-        Ok((handle, getting))
+        Ok((handle, Getting::new(home, timeout)))
     }
 }

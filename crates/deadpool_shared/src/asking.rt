@@ -1,0 +1,243 @@
+//! What a get asks of its pool, whether it has a handle of its own or borrows one.
+ghost use Rattle.std.specs.Prelude.{◌≡◌, ◌||◌, true, is_some, Some, None, Err, IfOk, IfErr, IfSome};
+ghost use Rattle.std.specs.Option.{ForSome};
+ghost use Rattle.futures.specs.Poll.{IfReady, OnPending};
+ghost use Rattle.futures.specs.Task.{Hears, IsArmed, Keeps};
+ghost use Rattle.deadpool_managed.specs.Held.{held_at};
+ghost use Rattle.deadpool_managed.specs.Phases.{stage_of};
+ghost use Rattle.deadpool_managed.specs.declared.work.Phase.TheVariants.{Unpolled};
+ghost use Rattle.deadpool_shared.specs.Counts.{counts, counts_of, had};
+
+use crate::ledgers::Ledgers;
+use crate::object::{Object, OutStake};
+use crate::seat::Seat;
+use crate::shared::Shared;
+use crate::shares::Shares;
+use deadpool_lock::{Home, Listener, wake_at};
+use deadpool_managed::{AsyncHook, Came, Clock, Manager, PoolError, Progress, SyncHook, Timeouts};
+use futures::task::{Context, Poll, Source};
+use std::alloc::AllocError;
+use std::sync::Wait;
+
+/// A get without its hold on the pool. When it is dropped it gives back what it holds.
+pub(crate) struct Asking<
+    M: Manager,
+    F: SyncHook<M>,
+    A: AsyncHook<M>,
+    C: Clock,
+    R: Wait + Drop,
+    L: Ledgers,
+> {
+    // None once the get has ended; a poll takes it, and puts it back if the get is pending.
+    pub(crate) home: Option<Home<Shared<M, F, A, C, R, L>>>,
+    pub(crate) progress: Progress<M, A>,
+    // Why it could not begin, until its first poll.
+    pub(crate) refusal: Option<AllocError>,
+    // What its stage holds, once it was handed out shares.
+    shares: Option<Shares<L>>,
+    // While it is pending with a deadline.
+    alarm: Option<C::Alarm>,
+    listener: Listener,
+    ghost backed: { ForSome home (λ _. had shares ≡ counts_of (held_at (stage_of progress.phase progress.slot))) },
+}
+
+impl<M: Manager, F: SyncHook<M>, A: AsyncHook<M>, C: Clock, R: Wait + Drop, L: Ledgers> Asking<
+    M,
+    F,
+    A,
+    C,
+    R,
+    L,
+> {
+    // A get that was not polled yet, with an owner of what is shared for its object.
+    #[inline(always)]
+    pub(crate) fn new(home: Result<Home<Shared<M, F, A, C, R, L>>, AllocError>) -> Self
+        ensures home { IfOk home (λ shared. result.home ≡ Some shared) }
+        ensures refused { IfErr home (λ refusal. (result.home ≡ None) × (result.refusal ≡ Some refusal)) }
+        ensures progress { result.progress ≡ record { phase = Unpolled; slot = None } }
+    {
+        let (home, refusal) = match home {
+            Ok(home) => (Some(home), None),
+            Err(refusal) => (None, Some(refusal)),
+        };
+        Asking {
+            home,
+            progress: Progress::new(),
+            refusal,
+            shares: None,
+            alarm: None,
+            listener: Listener::new(),
+        }
+    }
+
+    // One poll of a get that is lent what is shared, and its timeouts. One that has ended stays pending.
+    #[inline(always)]
+    pub(crate) fn poll<W: From<Object<M, F, A, C, R, L>>>(
+        &mut self,
+        timeouts: &Timeouts,
+        shared: &Shared<M, F, A, C, R, L>,
+        cx: &mut Context<'_>,
+    ) -> Poll<Result<W, PoolError<M::Error>>>
+        ensures begun { IfReady result (λ _. (is_some self.old.home || is_some self.old.refusal) ≡ true) }
+        ensures stays { OnPending result ((is_some self.new.home || is_some self.new.refusal) ≡ (is_some self.old.home || is_some self.old.refusal)) }
+        ensures gives { IfReady result (λ ended. IfOk ended (λ w. (o : _) × (M.is_ready o.slot.value × W.from_gives o w))) }
+        ensures armed { OnPending result (IsArmed cx.new) }
+        ensures heard { OnPending result (Hears cx.new shared.now.lock.source.id) }
+        ensures kept { Keeps cx.old cx.new }
+    {
+        let Some(owner) = self.home.take() else {
+            return self.poll_without(Some(shared.lock.source()), cx);
+        };
+        self.listener.listen(Some(shared.lock.source()), cx);
+        poll_party(
+            owner,
+            &mut self.home,
+            &mut self.shares,
+            &mut self.progress,
+            timeouts,
+            &mut self.alarm,
+            &mut self.listener,
+            shared,
+            cx,
+        )
+    }
+
+    // A poll of a get that could not begin or has ended, with what it registers with, if there is anything.
+    #[cold]
+    #[inline(never)]
+    pub(crate) fn poll_without<W>(
+        &mut self,
+        source: Option<&Source>,
+        cx: &mut Context<'_>,
+    ) -> Poll<Result<W, PoolError<M::Error>>>
+        ensures begun { IfReady result (λ _. is_some self.old.refusal ≡ true) }
+        ensures stays { OnPending result (is_some self.new.refusal ≡ is_some self.old.refusal) }
+        ensures home { self.new.home ≡ self.old.home }
+        ensures gives { IfReady result (λ ended. IfOk ended (λ _. ⊥)) }
+        ensures armed { OnPending result (IsArmed cx.new) }
+        ensures heard { OnPending result (IfSome source.entry (λ s. Hears cx.new s.now.id)) }
+        ensures kept { Keeps cx.old cx.new }
+    {
+        self.listener.listen(source, cx);
+        match self.refusal.take() {
+            Some(AllocError) => Poll::Ready(Err(PoolError::OutOfMemory)),
+            None => Poll::Pending,
+        }
+    }
+
+    // A get that has not ended gives back what it holds.
+    #[cold]
+    #[inline(never)]
+    fn leave(self) {
+        let Self {
+            home,
+            mut progress,
+            refusal: _,
+            shares,
+            alarm: _,
+            listener: _,
+        } = self;
+        let Some(home) = home else {
+            return;
+        };
+        let mut listener = Listener::new();
+        let shared = home.shared();
+        let mut seat = Seat::new(shared, shares, &mut listener);
+        progress.cancel(&mut seat, &shared.environment);
+    }
+}
+
+// One poll. Its object takes the owner and the shares, if there is one. A get that has ended stays pending.
+#[inline(always)]
+fn poll_party<
+    M: Manager,
+    F: SyncHook<M>,
+    A: AsyncHook<M>,
+    C: Clock,
+    R: Wait + Drop,
+    L: Ledgers,
+    W: From<Object<M, F, A, C, R, L>>,
+>(
+    owner: Home<Shared<M, F, A, C, R, L>>,
+    home: &mut Option<Home<Shared<M, F, A, C, R, L>>>,
+    shares: &mut Option<Shares<L>>,
+    progress: &mut Progress<M, A>,
+    timeouts: &Timeouts,
+    alarm: &mut Option<C::Alarm>,
+    listener: &mut Listener,
+    shared: &Shared<M, F, A, C, R, L>,
+    cx: &mut Context<'_>,
+) -> Poll<Result<W, PoolError<M::Error>>>
+    requires registered { Hears cx.old shared.now.lock.source.id }
+    requires backed { had shares.old ≡ counts_of (held_at (stage_of progress.old.phase progress.old.slot)) }
+    ensures backed { ForSome home.new (λ _. had shares.new ≡ counts_of (held_at (stage_of progress.new.phase progress.new.slot))) }
+    ensures stays { OnPending result (is_some home.new ≡ true) }
+    ensures gives { IfReady result (λ ended. IfOk ended (λ w. (o : _) × (M.is_ready o.slot.value × W.from_gives o w))) }
+    ensures kept { Keeps cx.old cx.new }
+{
+    let mut seat = Seat::new(shared, shares.take(), listener);
+    let now = shared.clock.now();
+    let came = progress.run(timeouts, &mut seat, &shared.environment, now, cx);
+    *shares = seat.into_shares();
+    match came {
+        Came::More | Came::Pending => {
+            see_to_waking(&shared.clock, progress, alarm, cx);
+            *home = Some(owner);
+            return Poll::Pending;
+        }
+        Came::Failed(cause) => {
+            *alarm = None;
+            return refuse(cause);
+        }
+        Came::Given => *alarm = None,
+    }
+    let Some(slot) = progress.give() else {
+        *home = Some(owner);
+        return Poll::Pending;
+    };
+    let Some(shares) = shares.take() else {
+        unreachable!();
+    };
+    let out = OutStake::new(owner, shares);
+    Poll::Ready(Ok(W::from(Object { out, slot })))
+}
+
+// A get ends without an object.
+fn refuse<W, E>(cause: PoolError<E>) -> Poll<Result<W, PoolError<E>>>
+    ensures { result ≡ Poll.Ready (Err cause) }
+{
+    Poll::Ready(Err(cause))
+}
+
+// Has a get that is pending woken at its deadline, and at once if it waits for nothing.
+fn see_to_waking<M: Manager, A: AsyncHook<M>, C: Clock>(
+    clock: &C,
+    progress: &Progress<M, A>,
+    alarm: &mut Option<C::Alarm>,
+    cx: &mut Context<'_>,
+)
+    ensures { Keeps cx.old cx.new }
+{
+    wake_at(clock, progress.deadline(), alarm, cx);
+    if progress.is_going() {
+        let _pending: Poll<()> = cx.yield_now();
+    }
+}
+
+impl<M: Manager, F: SyncHook<M>, A: AsyncHook<M>, C: Clock, R: Wait + Drop, L: Ledgers> Drop
+    for Asking<M, F, A, C, R, L> {
+    fn drop(self) {
+        if self.home.is_some() {
+            self.leave();
+            return;
+        }
+        let Self {
+            home: _,
+            progress: _,
+            refusal: _,
+            shares: _,
+            alarm: _,
+            listener: _,
+        } = self;
+    }
+}
