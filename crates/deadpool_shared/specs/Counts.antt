@@ -19,6 +19,11 @@ pub record Counts : Type 0 where
 abbrev pub counts : ℕ → ℕ → ℕ → Counts
 counts going creations outside = record { going = going; creations = creations; outside = outside }
 
+-- what all holders have together, and how many more holders there may be
+pub record BooksState : Type 0 where
+  pub totals : Counts
+  pub left : ℕ
+
 -- what a holder has
 abbrev pub counts_of : Holding → Counts
 counts_of holding.Nothing = counts 0 0 0

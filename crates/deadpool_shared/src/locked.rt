@@ -1,5 +1,5 @@
 //! What the lock of a pool keeps.
-ghost use Rattle.std.specs.Prelude.{◌≡◌, ◌≢◌, ◌<◌, ◌≤◌, not, true, is_some, length, Some, None, IfOk, IfSome};
+ghost use Rattle.std.specs.Prelude.{◌≡◌, ◌≢◌, ◌<◌, ◌≤◌, not, true, is_some, nat_lt, length, [], Some, None, IfOk, IfSome};
 ghost use Rattle.deadpool_desk.specs.CoreSteps.{due_now};
 ghost use Rattle.deadpool_desk.specs.Held.{held_if_entered, held_if_asked, held_if_asked_again, held_as};
 ghost use Rattle.deadpool_desk.specs.Allowance.{IsWithinAllowance};
@@ -29,7 +29,7 @@ pub struct Locked<T, L: Ledgers> {
     pool: Journaled<T>,
     books: Books<L>,
     wakers: Wakers,
-    ghost counted: { counted pool ≡ books },
+    ghost counted: { counted pool ≡ books.totals },
 }
 
 impl<T: Drop, L: Ledgers> Locked<T, L> {
@@ -37,6 +37,9 @@ impl<T: Drop, L: Ledgers> Locked<T, L> {
     pub fn new(alloc: Global, pool: Journaled<T>, blanks: Blanks) -> Locked<T, L>
         requires empty { counted pool ≡ counts 0 0 0 }
         requires opens { blanks ≡ L.names }
+        ensures pool { result.pool ≡ pool }
+        ensures left { result.books.left ≡ u64.MAX }
+        ensures wakers { result.wakers ≡ [] }
     {
         Locked {
             pool,
@@ -48,6 +51,7 @@ impl<T: Drop, L: Ledgers> Locked<T, L> {
     /// Shares for a new get, if a part of each ledger is left. It is no step.
     pub fn hand_out(&mut self) -> Option<Shares<L>>
         ensures shares { IfSome result (λ shares. shares ≡ counts_of Holding.Nothing) }
+        ensures given { is_some result ≡ nat_lt 0 self.old.books.left }
         ensures pool { self.new.pool ≡ self.old.pool }
         ensures wakers { self.new.wakers ≡ self.old.wakers }
     {

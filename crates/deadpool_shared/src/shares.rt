@@ -1,5 +1,5 @@
 //! What is known of the three counts of a pool: three ledgers.
-ghost use Rattle.std.specs.Prelude.{◌≡◌, ◌≤◌, ◌<◌, IfSome};
+ghost use Rattle.std.specs.Prelude.{◌≡◌, ◌≤◌, ◌<◌, ◌-◌, is_some, nat_lt, IfSome};
 ghost use Rattle.deadpool_shared.specs.Counts.{counts, counts_of, shifted};
 ghost use Rattle.deadpool_desk.specs.declared.desk.Holding.{Holding};
 
@@ -41,11 +41,11 @@ pub struct Books<L: Ledgers> {
 
 impl<L: Ledgers> Model for Books<L> {
     ghost use Rattle.std.specs.Prelude.{◌≡◌};
-    ghost use Rattle.deadpool_shared.specs.Counts.{Counts, counts};
+    ghost use Rattle.deadpool_shared.specs.Counts.{BooksState, counts};
 
-    ghost Value = { Counts };
+    ghost Value = { BooksState };
 
-    ghost view = { λ b. counts b.going.total b.creations.total b.outside.total };
+    ghost view = { λ b. record { totals = counts b.going.total b.creations.total b.outside.total; left = b.left } };
 
     ghost invariant = { λ b. (b.going_left.parts ≡ b.left) × (b.creations_left.parts ≡ b.left) × (b.outside_left.parts ≡ b.left) × (b.going_left.amount ≡ 0) × (b.creations_left.amount ≡ 0) × (b.outside_left.amount ≡ 0) };
 }
@@ -66,7 +66,7 @@ impl<L: Ledgers> Books<L> {
     /// Three new ledgers, of which nobody has a share.
     pub fn new(blanks: Blanks) -> Self
         requires opens { blanks ≡ L.names }
-        ensures { result ≡ counts 0 0 0 }
+        ensures { result ≡ record { totals = counts 0 0 0; left = u64.MAX } }
     {
         let (going, creations, outside) = blanks.into_parts();
         let (going, going_left) = going.open::<Going<L>>();
@@ -86,7 +86,8 @@ impl<L: Ledgers> Books<L> {
     /// Shares for one holder that has nothing yet, if a part of each ledger is left.
     pub fn hand_out(&mut self) -> Option<Shares<L>>
         ensures shares { IfSome result (λ shares. shares ≡ counts_of Holding.Nothing) }
-        ensures same { self.new ≡ self.old }
+        ensures given { is_some result ≡ nat_lt 0 self.old.left }
+        ensures left { self.new ≡ record self.old { left = self.old.left - 1 } }
     {
         if self.left == 0 {
             return None;
@@ -106,9 +107,9 @@ impl<L: Ledgers> Books<L> {
     pub fn audit(&mut self, shares: &mut Shares<L>)
         ensures totals { self.new ≡ self.old }
         ensures shares { shares.new ≡ shares.old }
-        ensures going { shares.old.going ≤ self.old.going }
-        ensures creations { shares.old.creations ≤ self.old.creations }
-        ensures outside { shares.old.outside ≤ self.old.outside }
+        ensures going { shares.old.going ≤ self.old.totals.going }
+        ensures creations { shares.old.creations ≤ self.old.totals.creations }
+        ensures outside { shares.old.outside ≤ self.old.totals.outside }
     {
         self.going.audit(&mut shares.going);
         self.creations.audit(&mut shares.creations);
@@ -118,7 +119,7 @@ impl<L: Ledgers> Books<L> {
     /// A holder has something else from now on.
     pub fn shift(&mut self, shares: &mut Shares<L>, old: Holding, new: Holding)
         requires { shares.old ≡ counts_of old }
-        ensures totals { self.new ≡ shifted old new self.old }
+        ensures totals { self.new ≡ record self.old { totals = shifted old new self.old.totals } }
         ensures shares { shares.new ≡ counts_of new }
     {
         let (going, creations, outside) = amounts(old);
