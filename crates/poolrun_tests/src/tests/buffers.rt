@@ -4,9 +4,9 @@ use super::streams::{
 };
 use super::{agree, count_is};
 use deadpool::NoTime;
-use deadpool::managed::PoolBuilder;
-use deadpool_threads::Plain;
-use poolrun_buffers::Buffers;
+use deadpool::managed::{Ledgers, NoHook, PoolBuilder};
+use deadpool_threads::{Plain, PoolUser, Waiter, lend};
+use poolrun_buffers::{BufferPool, Buffers};
 use poolrun_engine::Fault;
 use poolrun_engine::buffers::{builder_of, fill_buffers};
 use std::cell::Cell;
@@ -162,6 +162,33 @@ fn each_reply_is_out_before_the_next_line_is_read(rt: HostRuntime) -> Result<(),
     let ending = fill_buffers(&rt, builder_of(rt.alloc(), 4), &mut speaker, &mut listener);
     let whole = first_lines(REPLIES, 4);
     agree("the end", &listener.written, ending, whole, Ok(()))
+}
+
+// Says for how many bytes a new buffer has room.
+#[derive(Drop)]
+struct Measuring;
+
+impl<R> PoolUser<Plain<Buffers>, NoHook, NoHook, NoTime, R> for Measuring
+where
+    R: RandomSource + AllocGlobal + Wait + Drop,
+{
+    type Output = usize;
+
+    fn run<L: Ledgers>(self, rt: &R, pool: &BufferPool<NoTime, R, L>) -> usize {
+        let Ok(mut waiter) = Waiter::new(rt) else {
+            return 0;
+        };
+        match waiter.get(rt, pool) {
+            Ok(buffer) => buffer.capacity(),
+            Err(_) => 0,
+        }
+    }
+}
+
+#[test]
+fn a_new_buffer_has_room_for_sixteen_bytes(rt: HostRuntime) -> Result<(), Fail> {
+    let room = lend(builder_of(rt.alloc(), 4), rt, Measuring)?;
+    count_is("room", room, 16)
 }
 
 // There is no memory for so large a pool: no line is read.

@@ -1,5 +1,5 @@
 //! Threads that count by one pool, as the program's arguments ask for them.
-use super::started::{Arguments, Started, ends_so, is_refused};
+use super::started::{Arguments, Meeting, Started, ends_so, is_refused, started_ends_so};
 use super::streams::FailingWriter;
 use super::{count_is, text_is};
 use poolrun_engine::Task;
@@ -37,6 +37,21 @@ fn is_total(written: &str, total: &str) -> bool {
 fn four_threads_count_to_four_thousand(rt: HostRuntime) -> Result<(), Fail> {
     let written = written(rt, &[b"poolrun", b"threads", b"4", b"1000"])?;
     assert!(rt; is_total(written.as_str(), "4000\n"));
+    Ok(())
+}
+
+#[test]
+fn threads_count_side_by_side(rt: HostRuntime) -> Result<(), Fail> {
+    let started = Started {
+        rt,
+        arguments: &[b"poolrun", b"threads", b"2", b"3"],
+        meeting: Some(Meeting::new(rt.alloc())?),
+    };
+    let mut reader: &[u8] = b"";
+    let mut written = Vec::new(rt.alloc());
+    started_ends_so(started, &mut reader, &mut written, "", 0)?;
+    let written = String::from_utf8(written)?;
+    assert!(rt; is_total(written.as_str(), "6\n"));
     Ok(())
 }
 
@@ -82,7 +97,7 @@ fn is_known<R: RandomSource + AllocGlobal + Drop>(
     rt: R,
     arguments: Arguments,
 ) -> Result<bool, Fail> {
-    let started = Started { rt, arguments };
+    let started = Started::new(rt, arguments);
     let mut words = env::args(&started)?;
     let _program = words.next();
     Ok(Task::parse(&mut words).is_some())

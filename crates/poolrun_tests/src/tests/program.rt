@@ -101,10 +101,7 @@ fn failing_streams_have_their_texts(rt: HostRuntime) -> Result<(), Fail> {
 // What cannot be said changes no status.
 #[test]
 fn the_status_stands_where_nothing_is_said(rt: HostRuntime) -> Result<(), Fail> {
-    let started = Started {
-        rt,
-        arguments: NAME,
-    };
+    let started = Started::new(rt, NAME);
     let mut errors = FailingWriter {
         written: Vec::new(rt.alloc()),
         writes_left: Some(0),

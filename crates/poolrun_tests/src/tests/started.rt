@@ -1,15 +1,16 @@
 //! A whole program that is started with arguments of a test.
 use poolrun_engine::run;
-use std::alloc::Global;
+use std::alloc::{AllocError, Global};
 use std::env::FillError;
-use std::io;
-use std::io::{BufRead, Write};
+use std::io::{BufRead, ErrorKind, Write};
 use std::process::ExitCode;
 use std::random::RandomSource;
 use std::rt::Env;
 use std::sync::Wait;
+use std::sync::atomic::{AtomicUsize, Ordering};
 use std::test::Fail;
 use std::thread::Threads;
+use std::{io, thread};
 
 /// The arguments of a program, of which the first is its name.
 pub type Arguments = &'static [&'static [u8]];
@@ -19,6 +20,47 @@ pub type Arguments = &'static [&'static [u8]];
 pub struct Started<R> {
     pub rt: R,
     pub arguments: Arguments,
+    /// Where its threads meet as they begin, if they do.
+    pub meeting: Option<&'static Meeting>,
+}
+
+impl<R> Started<R> {
+    /// Its threads do not meet.
+    pub fn new(rt: R, arguments: Arguments) -> Self {
+        Started {
+            rt,
+            arguments,
+            meeting: None,
+        }
+    }
+}
+
+const MOST_TURNS: u32 = 10_000_000;
+
+/// Two threads that wait for each other.
+#[derive(Drop)]
+pub struct Meeting {
+    here: AtomicUsize,
+}
+
+impl Meeting {
+    /// Nobody is here. It is there for good.
+    pub fn new(alloc: Global) -> Result<&'static Self, AllocError> {
+        let here = AtomicUsize::new(0);
+        Ok(&*Box::leak(Box::new(alloc, Meeting { here })?))
+    }
+
+    // Waits until two are here. Fails if none other has come.
+    fn meet(&self) -> io::Result<()> {
+        self.here.fetch_add(1, Ordering::SeqCst);
+        for _turn in 0..MOST_TURNS {
+            if self.here.load(Ordering::SeqCst) > 1 {
+                return Ok(());
+            }
+            thread::yield_now();
+        }
+        Err(io::Error::from(ErrorKind::TimedOut))
+    }
 }
 
 impl<R> Env for Started<R> {
@@ -48,8 +90,12 @@ impl<R: AllocGlobal> Alloc for Started<R> {
     }
 }
 
+// A thread asks for random bytes as it begins.
 impl<R: RandomSource> RandomSource for Started<R> {
     fn fill_bytes(&self, buf: &mut [u8]) -> io::Result<()> {
+        if let Some(meeting) = self.meeting {
+            meeting.meet()?;
+        }
         self.rt.fill_bytes(buf)
     }
 }
@@ -87,10 +133,24 @@ where
     R: RandomSource + AllocGlobal,
     R: Wait + Threads + Drop + Copy + Send + Sync + 'static,
 {
-    let started = Started { rt, arguments };
-    let mut errors = Vec::new(rt.alloc());
+    started_ends_so(Started::new(rt, arguments), reader, writer, said, status)
+}
+
+/// The same of one that is started so.
+pub fn started_ends_so<R, B: BufRead, W: Write>(
+    started: Started<R>,
+    reader: &mut B,
+    writer: &mut W,
+    said: &str,
+    status: u8,
+) -> Result<(), Fail>
+where
+    R: RandomSource + AllocGlobal,
+    R: Wait + Threads + Drop + Copy + Send + Sync + 'static,
+{
+    let mut errors = Vec::new(started.rt.alloc());
     let ending = run(&started, reader, writer, &mut errors);
-    status_is(&rt, ending, &errors, said, status)
+    status_is(&started.rt, ending, &errors, said, status)
 }
 
 /// With arguments that it does not know, a program says how it is used, and reads and writes nothing.
