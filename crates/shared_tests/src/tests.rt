@@ -1,5 +1,5 @@
-//! The shared managed pool by steps, by scripts and between threads, and the examples of the READMEs.
+//! The shared managed pool by scripts and between threads, and the examples of the READMEs.
+mod driven;
 mod examples;
 mod replays;
-mod steps;
 mod threads;

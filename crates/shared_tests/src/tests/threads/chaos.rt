@@ -6,7 +6,7 @@ mod world;
 
 ghost use Rattle.std.specs.Prelude.{◌≡◌};
 
-use super::replay::ends_so;
+use crate::tests::driven::ends_so;
 use deadpool::Runtime;
 use deadpool::managed::{Blanks, Hook, Ledgers, PoolBuilder};
 use rounds::{ChaosPool, Host, play};

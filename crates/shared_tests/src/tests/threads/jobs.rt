@@ -2,7 +2,7 @@
 
 ghost use Rattle.std.specs.Prelude.{◌≡◌};
 
-use super::replay::ends_so;
+use crate::tests::driven::ends_so;
 use crate::tests::examples::threads::{Numbers, Zeros, total};
 use deadpool::NoTime;
 use deadpool::managed::{

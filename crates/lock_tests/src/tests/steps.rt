@@ -1,0 +1,11 @@
+//! Steps over a shared pool on one thread, with one task a get.
+mod calls;
+mod deadlines;
+mod handles;
+mod hooks;
+mod limits;
+mod lines;
+mod play;
+mod wakes;
+mod world;
+mod wrappers;
