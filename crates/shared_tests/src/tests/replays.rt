@@ -8,7 +8,16 @@ mod openings;
 mod oracle;
 mod outside;
 mod play;
+mod queue;
 mod replay;
 mod scripts;
 mod texts;
 mod throws;
+
+use std::random::RandomSource;
+use std::sync::Wait;
+
+/// What these tests need of a runtime.
+pub trait Host: Wait + RandomSource + AllocGlobal + Copy + Drop + Send + Sync {}
+
+impl<R: Wait + RandomSource + AllocGlobal + Copy + Drop + Send + Sync> Host for R {}

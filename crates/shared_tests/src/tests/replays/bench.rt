@@ -1,6 +1,8 @@
 //! A shared pool with its handles, the gets that were started, and the objects that are out.
+use super::Host;
 use super::lines::{Line, parse};
 use super::outside::{Common, Refused, TestClock, TestHook, TestManager};
+use super::queue::Queue;
 use super::texts::text_of;
 use deadpool::Moment;
 use deadpool::managed::{Get, Ledgers, NoHook, Object, Pool, PoolError, Timeouts, WeakPool};
@@ -21,13 +23,21 @@ type TestObject<R, L> = Object<TestManager, NoHook, TestHook, TestClock, R, L>;
 
 type TestGet<R, L> = Get<TestManager, NoHook, TestHook, TestClock, R, L, TestObject<R, L>>;
 
-// A get that was started.
+// How far a get is.
 #[derive(Drop)]
-enum Party<R: Wait + Drop, L: Ledgers> {
+enum Stage<R: Wait + Drop, L: Ledgers> {
     Live(TestGet<R, L>),
     // It has ended, and was dropped at once.
     Ended,
     Cancelled,
+}
+
+// A get that was started, and the task of its last poll.
+#[derive(Drop)]
+struct Party<R: Wait + Drop, L: Ledgers> {
+    stage: Stage<R, L>,
+    task: MockTask,
+    moves: bool,
 }
 
 // An object that is out, with its number.
@@ -37,41 +47,44 @@ struct Out<R: Wait + Drop, L: Ledgers> {
     object: TestObject<R, L>,
 }
 
-/// A shared pool with its handles, the gets that were started, and the objects that are out. Its gets are polled in
-/// one task.
+/// A shared pool with its handles, the gets that were started, and the objects that are out. Each get has a task of its
+/// own, and another one for every second poll.
 #[derive(Drop)]
 pub struct Bench<R: Wait + Drop, L: Ledgers> {
+    rt: R,
     alloc: Global,
     outside: Common,
-    task: MockTask,
     pools: Vec<TestPool<R, L>>,
     weak: TestWeak<R, L>,
     gets: Vec<Party<R, L>>,
     out: Vec<Out<R, L>>,
+    queue: Queue,
+    // Which get the last line polled or cancelled.
+    named: Option<usize>,
 }
 
-impl<R: Wait + Drop, L: Ledgers> Bench<R, L> {
+impl<R: Host, L: Ledgers> Bench<R, L> {
     /// Nothing was started yet.
-    pub fn new<H: RandomSource + AllocGlobal>(
-        rt: &H,
-        outside: Common,
-        pool: TestPool<R, L>,
-    ) -> Result<Self, Fail> {
+    pub fn new(rt: R, outside: Common, pool: TestPool<R, L>) -> Result<Self, Fail> {
         let weak = pool.weak()?;
+        let queue = Queue::new(rt.alloc(), &pool.journal()?)?;
         let pools = vec![in rt.alloc(); pool]?;
         Ok(Bench {
+            rt,
             alloc: rt.alloc(),
             outside,
-            task: MockTask::new(rt)?,
             pools,
             weak,
             gets: Vec::new(rt.alloc()),
             out: Vec::new(rt.alloc()),
+            queue,
+            named: None,
         })
     }
 
     /// Does what a line says, and gives the pool's reply as text.
     pub fn do_line(&mut self, line: &str) -> Result<String, Fail> {
+        self.named = None;
         match parse(self.alloc, line)? {
             Line::Answer(kind, answers) => self.outside.add(kind, answers.as_slice())?,
             Line::Move(next) => return self.do_move(next),
@@ -126,6 +139,7 @@ impl<R: Wait + Drop, L: Ledgers> Bench<R, L> {
     }
 
     fn start(&mut self, timeouts: Option<Timeouts>) -> Result<Reply<u64, Refused>, Fail> {
+        let task = MockTask::new(&self.rt)?;
         let Some(pool) = self.pools.last() else {
             return Ok(Reply::NoHandle);
         };
@@ -133,9 +147,9 @@ impl<R: Wait + Drop, L: Ledgers> Bench<R, L> {
             Some(timeouts) => pool.timeout_get(timeouts),
             None => pool.get(),
         };
-        let party = self.gets.len();
-        match self.gets.push(Party::Live(get)) {
-            Ok(()) => Ok(Reply::Started(party)),
+        let number = self.gets.len();
+        match self.gets.push(Party::new(get, task)) {
+            Ok(()) => Ok(Reply::Started(number)),
             Err(_) => Err(Fail::new("no memory for a get")),
         }
     }
@@ -145,15 +159,17 @@ impl<R: Wait + Drop, L: Ledgers> Bench<R, L> {
         let Some(party) = self.gets.get_mut(get) else {
             return Ok(Reply::NoSuch);
         };
-        let polled = match party {
-            Party::Live(get) => self.task.poll(get),
-            Party::Ended => Poll::Pending,
-            Party::Cancelled => return Ok(Reply::NoSuch),
+        self.named = Some(get);
+        party.wander(&self.rt)?;
+        let polled = match &mut party.stage {
+            Stage::Live(get) => party.task.poll(get),
+            Stage::Ended => Poll::Pending,
+            Stage::Cancelled => return Ok(Reply::NoSuch),
         };
         let Poll::Ready(ended) = polled else {
             return Ok(Reply::Pending);
         };
-        drop(mem::replace(party, Party::Ended));
+        drop(mem::replace(&mut party.stage, Stage::Ended));
         self.hand_out(ended)
     }
 
@@ -176,8 +192,9 @@ impl<R: Wait + Drop, L: Ledgers> Bench<R, L> {
         let Some(party) = self.gets.get_mut(get) else {
             return Reply::NoSuch;
         };
-        match mem::replace(party, Party::Cancelled) {
-            Party::Cancelled => Reply::NoSuch,
+        self.named = Some(get);
+        match mem::replace(&mut party.stage, Stage::Cancelled) {
+            Stage::Cancelled => Reply::NoSuch,
             before => {
                 drop(before);
                 Reply::Cancelled
@@ -317,6 +334,32 @@ impl<R: Wait + Drop, L: Ledgers> Bench<R, L> {
         }
     }
 
+    /// Of the gets that were started, those that the last line woke and was not to wake, and those that it was to wake and did
+    /// not. Empty if there is none. One that the line polled or cancelled, and that is not in the queue then, may be woken,
+    /// since it lets go of a waker.
+    pub fn strays(&mut self) -> Result<String, Fail> {
+        self.look_at_the_queue()?;
+        let mut strays = String::new(self.alloc);
+        for (get, party) in self.gets.iter().enumerate() {
+            let is_woken = party.hears();
+            let may_be = self.named == Some(get) && !self.queue.has(get);
+            if !may_be && is_woken != self.queue.is_due(get) {
+                write!(strays, " {get}")?;
+            }
+        }
+        Ok(strays)
+    }
+
+    // Nobody waits in a pool without a handle.
+    fn look_at_the_queue(&mut self) -> Result<(), Fail> {
+        let Some(pool) = self.weak.upgrade()? else {
+            self.queue.rest();
+            return Ok(());
+        };
+        let polled = self.named.unwrap_or(usize::MAX);
+        self.queue.follow(&pool.journal()?, polled)
+    }
+
     // What value an object has that is out.
     fn value(&self, number: usize) -> Option<u64> {
         let out = self.out.iter().find(|out| out.number == number)?;
@@ -325,10 +368,7 @@ impl<R: Wait + Drop, L: Ledgers> Bench<R, L> {
 
     /// How many gets have not ended.
     pub fn live(&self) -> usize {
-        self.gets
-            .iter()
-            .filter(|party| matches!(party, Party::Live(_)))
-            .count()
+        self.gets.iter().filter(|party| party.is_live()).count()
     }
 
     /// How many gets were started.
@@ -342,6 +382,38 @@ impl<R: Wait + Drop, L: Ledgers> Bench<R, L> {
             Some(out) => out.number,
             None => 0,
         }
+    }
+}
+
+impl<R: Wait + Drop, L: Ledgers> Party<R, L> {
+    // Its task is asleep.
+    fn new(get: TestGet<R, L>, task: MockTask) -> Self {
+        task.enter(|_cx| ());
+        Party {
+            stage: Stage::Live(get),
+            task,
+            moves: false,
+        }
+    }
+
+    fn is_live(&self) -> bool {
+        matches!(&self.stage, Stage::Live(_))
+    }
+
+    // Before each second poll it goes to another task.
+    fn wander<H: RandomSource + AllocGlobal>(&mut self, rt: &H) -> Result<(), Fail> {
+        if self.moves {
+            self.task = MockTask::new(rt)?;
+        }
+        self.moves = !self.moves;
+        Ok(())
+    }
+
+    // Whether its task was woken since the last look.
+    fn hears(&self) -> bool {
+        let is_woken = self.task.is_woken();
+        self.task.enter(|_cx| ());
+        is_woken
     }
 }
 

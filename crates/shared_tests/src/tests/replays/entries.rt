@@ -1,8 +1,7 @@
 //! What the journal of a shared pool has of each call.
+use super::Host;
 use super::play::play;
 use std::process::Abort;
-use std::random::RandomSource;
-use std::sync::Wait;
 use std::test::Fail;
 
 const GET_AND_RETURN: &str = "get-and-return: 1 fifo none 0;
@@ -124,11 +123,13 @@ const DROPS: &str = "
         -> opened 1 fifo 0; clone_handle done; enter create; created 0; drop_handle done; back 0 kept;
         clone_handle done; enter object 0 left 0; cancel object done; drop_handle done";
 
-fn has_entries<R>(rt: R, script: &'static str, room: usize, wanted: &str) -> Result<(), Fail>
-where
-    R: Wait + RandomSource + AllocGlobal + Abort + Copy + Drop + Send + Sync,
-{
-    let played = play(rt, script, room)?;
+fn has_entries<R: Host + Abort>(
+    rt: R,
+    script: &'static str,
+    room: usize,
+    wanted: &str,
+) -> Result<(), Fail> {
+    let played = play(rt, script, room, false)?;
     assert!(rt; played.faults.is_empty(), "{}", played.faults);
     assert!(rt;
         has_lines(played.journal.as_str(), wanted),
@@ -154,10 +155,7 @@ fn is_same(line: &str, wanted: &str) -> bool {
     line.trim() == wanted.trim()
 }
 
-fn have_their_entries<R>(rt: R, scripts: &'static str) -> Result<(), Fail>
-where
-    R: Wait + RandomSource + AllocGlobal + Abort + Copy + Drop + Send + Sync,
-{
+fn have_their_entries<R: Host + Abort>(rt: R, scripts: &'static str) -> Result<(), Fail> {
     for case in scripts.split('.') {
         let (script, wanted) = case.split_once("->").unwrap_or((case, ""));
         has_entries(rt, script.trim(), 100, wanted)?;

@@ -2,28 +2,26 @@
 
 ghost use Rattle.std.specs.Prelude.{◌≡◌};
 
+use super::Host;
 use super::bench::{Bench, TestPool};
 use super::openings::builder;
 use super::outside::Outside;
 use deadpool::managed::{Blanks, Ledgers};
-use std::random::RandomSource;
-use std::sync::{Arc, Wait};
+use std::sync::Arc;
 use std::test::Fail;
 
 /// A bench over a pool that opens so. Its values are so far apart, and its journal has room for so many entries.
-pub fn open_bench<R, L: Ledgers>(
+pub fn open_bench<R: Host, L: Ledgers>(
     rt: R,
     words: &str,
     step: u64,
     room: usize,
     blanks: Blanks,
 ) -> Result<Bench<R, L>, Fail>
-where
-    R: Wait + RandomSource + AllocGlobal + Copy + Drop + Send + Sync,
     requires { blanks ≡ L.names }
 {
     let common = Arc::new(rt.alloc(), Outside::new(rt.alloc(), step))?;
     let builder = builder(rt.alloc(), words, &common)?.journal(room);
     let pool: TestPool<R, L> = builder.build(blanks, rt)?;
-    Bench::new(&rt, common, pool)
+    Bench::new(rt, common, pool)
 }

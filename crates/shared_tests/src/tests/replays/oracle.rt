@@ -1,7 +1,9 @@
-//! Random scripts over a shared pool have the replies of a trial, and the status after each move.
+//! Random scripts over a shared pool have the replies of a trial, and the status after each move. Each move wakes whom its
+//! steps are to wake, and no other.
 
 ghost use Rattle.std.specs.Prelude.{◌≡◌};
 
+use super::Host;
 use super::bench::Bench;
 use super::dice::Dice;
 use super::opened::open_bench;
@@ -13,14 +15,15 @@ use deadpool::replay::Move;
 use std::alloc::Global;
 use std::marker::Brand;
 use std::process::Abort;
-use std::random::RandomSource;
-use std::sync::Wait;
 use std::test::Fail;
 
 const MOVES: usize = 40;
 
+// More entries than a script leaves in its journal.
+const ROOM: usize = 1_000;
+
 // A get, half of the time one of the last few, and the number of an object, mostly of one that is out.
-fn name<R: Wait + Drop, L: Ledgers>(dice: &mut Dice, bench: &Bench<R, L>) -> (usize, usize) {
+fn name<R: Host, L: Ledgers>(dice: &mut Dice, bench: &Bench<R, L>) -> (usize, usize) {
     let started = bench.started();
     let get = match dice.roll(2) {
         0 => dice.pick(started.saturating_add(1)),
@@ -29,8 +32,8 @@ fn name<R: Wait + Drop, L: Ledgers>(dice: &mut Dice, bench: &Bench<R, L>) -> (us
     (get, bench.number_at(dice.pick(4)))
 }
 
-// One line over both, and how they stand then. What the shared pool has no handle for is left out.
-fn compare<R: Wait + Drop, L: Ledgers>(
+// One line over both, whom it wakes, and how they stand then. What the shared pool has no handle for is left out.
+fn compare<R: Host, L: Ledgers>(
     bench: &mut Bench<R, L>,
     replay: &mut Replay,
     line: &str,
@@ -44,6 +47,10 @@ fn compare<R: Wait + Drop, L: Ledgers>(
     let wanted = replay.do_line(line)?;
     replay.follow(before, bench.live())?;
     note(line, &reply, &wanted, difference)?;
+    let strays = bench.strays()?;
+    if !strays.is_empty() {
+        write!(difference, "{line}: whether it wakes{strays}; ")?;
+    }
     let wanted = replay.do_move(Move::Status)?;
     note(line, &bench.status()?, &wanted, difference)
 }
@@ -56,7 +63,7 @@ fn note(line: &str, text: &String, wanted: &String, difference: &mut String) -> 
 }
 
 // Throws moves, and makes each over the bench's pool and over a trial. The first difference, empty if there is none.
-fn compare_moves<R: Wait + Drop, L: Ledgers>(
+fn compare_moves<R: Host, L: Ledgers>(
     alloc: Global,
     bench: &mut Bench<R, L>,
     replay: &mut Replay,
@@ -74,32 +81,24 @@ fn compare_moves<R: Wait + Drop, L: Ledgers>(
 }
 
 // The first difference of one script.
-fn difference<R>(rt: R, seed: u64) -> Result<String, Fail>
-where
-    R: Wait + RandomSource + AllocGlobal + Copy + Drop + Send + Sync,
-{
+fn difference<R: Host>(rt: R, seed: u64) -> Result<String, Fail> {
     let blanks = Blanks::new();
     difference_with::<_, Brand>(rt, seed, blanks)
 }
 
-fn difference_with<R, L: Ledgers>(rt: R, seed: u64, blanks: Blanks) -> Result<String, Fail>
-where
-    R: Wait + RandomSource + AllocGlobal + Copy + Drop + Send + Sync,
+fn difference_with<R: Host, L: Ledgers>(rt: R, seed: u64, blanks: Blanks) -> Result<String, Fail>
     requires { blanks ≡ L.names }
 {
     let alloc = rt.alloc();
     let mut dice = Dice::new(seed);
     let words = throw_opening(alloc, &mut dice)?;
     let opening = words.as_str();
-    let mut bench = open_bench::<R, L>(rt, opening, STEP, 0, blanks)?;
+    let mut bench = open_bench::<R, L>(rt, opening, STEP, ROOM, blanks)?;
     let mut replay = Replay::new(&rt, Outside::new(alloc, STEP), opening, MOVES)?;
     compare_moves(alloc, &mut bench, &mut replay, &mut dice)
 }
 
-fn have_the_replies_of_a_trial<R>(rt: R, first: u64) -> Result<(), Fail>
-where
-    R: Wait + RandomSource + AllocGlobal + Abort + Copy + Drop + Send + Sync,
-{
+fn have_the_replies_of_a_trial<R: Host + Abort>(rt: R, first: u64) -> Result<(), Fail> {
     for number in 0..250 {
         let seed = first.saturating_add(number);
         let difference = difference(rt, seed)?;

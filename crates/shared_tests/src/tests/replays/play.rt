@@ -2,13 +2,12 @@
 
 ghost use Rattle.std.specs.Prelude.{◌≡◌};
 
+use super::Host;
 use super::bench::Bench;
 use super::opened::open_bench;
 use deadpool::managed::{Blanks, Ledgers};
 use std::alloc::Global;
 use std::marker::Brand;
-use std::random::RandomSource;
-use std::sync::Wait;
 use std::test::Fail;
 
 /// What a script came to.
@@ -23,6 +22,8 @@ pub struct Played {
 // A script, taken apart.
 #[derive(Drop)]
 struct Script {
+    // Whether each line is seen to wake whom its steps are to wake.
+    is_watched: bool,
     name: &'static str,
     // How its pool opens.
     opening: &'static str,
@@ -30,10 +31,11 @@ struct Script {
 }
 
 impl Script {
-    fn new(text: &'static str) -> Self {
+    fn new(text: &'static str, is_watched: bool) -> Self {
         let (heading, lines) = text.split_once(';').unwrap_or((text, ""));
         let (name, opening) = heading.split_once(": ").unwrap_or(("", heading));
         Script {
+            is_watched,
             name,
             opening,
             lines,
@@ -42,50 +44,53 @@ impl Script {
 }
 
 /// Plays a script: its name with a colon, how its pool opens, and its lines, each after a semicolon. The journal of
-/// its pool has room for so many entries.
-pub fn play<R>(rt: R, text: &'static str, room: usize) -> Result<Played, Fail>
-where
-    R: Wait + RandomSource + AllocGlobal + Copy + Drop + Send + Sync,
-{
-    let script = Script::new(text);
+/// its pool has room for so many entries. If the script is watched it has to be enough, and each line wakes whom its
+/// steps are to wake, and no other.
+pub fn play<R: Host>(
+    rt: R,
+    text: &'static str,
+    room: usize,
+    is_watched: bool,
+) -> Result<Played, Fail> {
+    let script = Script::new(text, is_watched);
     let blanks = Blanks::new();
     play_with::<_, Brand>(rt, script, room, blanks)
 }
 
-fn play_with<R, L: Ledgers>(
+fn play_with<R: Host, L: Ledgers>(
     rt: R,
     script: Script,
     room: usize,
     blanks: Blanks,
 ) -> Result<Played, Fail>
-where
-    R: Wait + RandomSource + AllocGlobal + Copy + Drop + Send + Sync,
     requires { blanks ≡ L.names }
 {
     let opening = script.opening;
     let mut bench = open_bench::<R, L>(rt, opening, 1, room, blanks)?;
-    let faults = play_lines(rt.alloc(), &mut bench, script.name, script.lines)?;
+    let faults = play_lines(rt.alloc(), &mut bench, &script)?;
     Ok(Played {
         faults,
         journal: bench.journal()?,
     })
 }
 
-fn play_lines<R: Wait + Drop, L: Ledgers>(
+fn play_lines<R: Host, L: Ledgers>(
     alloc: Global,
     bench: &mut Bench<R, L>,
-    name: &str,
-    lines: &str,
+    script: &Script,
 ) -> Result<String, Fail> {
     let mut faults = String::new(alloc);
-    for line in lines.split(';') {
-        play_line(bench, name, line, &mut faults)?;
+    for line in script.lines.split(';') {
+        play_line(bench, script.name, line, &mut faults)?;
+        if script.is_watched {
+            note(script.name, line, bench.strays()?.as_str(), "", &mut faults)?;
+        }
     }
     Ok(faults)
 }
 
 // One line. After ` =` stands the reply that it is to have, and else it is to have none.
-fn play_line<R: Wait + Drop, L: Ledgers>(
+fn play_line<R: Host, L: Ledgers>(
     bench: &mut Bench<R, L>,
     name: &str,
     line: &str,

@@ -1,20 +1,19 @@
-//! Worked scripts with their replies.
+//! Worked scripts with their replies. Each line wakes whom its steps are to wake, and no other.
 mod gets;
 mod owner;
 
+use super::Host;
 use super::play::play;
 use std::process::Abort;
-use std::random::RandomSource;
-use std::sync::Wait;
 use std::test::Fail;
 
+// More entries than a script leaves in its journal.
+const ROOM: usize = 1_000;
+
 // Plays scripts, between which stands a full stop.
-fn have_their_replies<R>(rt: R, scripts: &'static str) -> Result<(), Fail>
-where
-    R: Wait + RandomSource + AllocGlobal + Abort + Copy + Drop + Send + Sync,
-{
+fn have_their_replies<R: Host + Abort>(rt: R, scripts: &'static str) -> Result<(), Fail> {
     for script in scripts.split('.') {
-        let played = play(rt, script.trim(), 0)?;
+        let played = play(rt, script.trim(), ROOM, true)?;
         assert!(rt; played.faults.is_empty(), "{}", played.faults);
     }
     Ok(())

@@ -1,0 +1,91 @@
+//! Who is in the queue of a shared pool, and whom its steps are to wake, by its journal.
+use crate::tests::driven::{answers_so, opened};
+use deadpool::gate::Ticket;
+use deadpool::managed::{AskReply, Core, EnterReply, Entry, Held, Journal};
+use std::alloc::{AllocError, Global};
+use std::test::Fail;
+
+/// A pool on one thread that makes each step of a shared one, with the gets that are in its queue.
+#[derive(Drop)]
+pub struct Queue {
+    core: Core<()>,
+    // How many entries of the journal it has made.
+    made: usize,
+    gets: Vec<(Ticket, usize)>,
+    // Whom the last steps are to wake.
+    due: Vec<usize>,
+}
+
+impl Queue {
+    /// No step was made yet.
+    pub fn new(alloc: Global, journal: &Journal) -> Result<Self, AllocError> {
+        Ok(Queue {
+            core: opened(alloc, journal)?,
+            made: 0,
+            gets: Vec::new(alloc),
+            due: Vec::new(alloc),
+        })
+    }
+
+    /// Whether a get is in the queue.
+    pub fn has(&self, get: usize) -> bool {
+        self.gets.iter().any(|(_, other)| *other == get)
+    }
+
+    /// Whether the last steps are to wake a get.
+    pub fn is_due(&self, get: usize) -> bool {
+        self.due.contains(&get)
+    }
+
+    /// The pool has no handle left: nobody is in its queue, or is to be woken.
+    pub fn rest(&mut self) {
+        self.gets.clear();
+        self.due.clear();
+    }
+
+    /// Makes the steps that a journal has more. A get that joins the queue by them is the one that was polled.
+    pub fn follow(&mut self, journal: &Journal, polled: usize) -> Result<(), Fail> {
+        if journal.full {
+            return Err(Fail::new("the journal has no room for all entries"));
+        }
+        self.due.clear();
+        for entry in journal.entries.iter().skip(self.made) {
+            self.make(entry, polled)?;
+        }
+        self.made = journal.entries.len();
+        Ok(())
+    }
+
+    fn make(&mut self, entry: &Entry, polled: usize) -> Result<(), Fail> {
+        if !answers_so(&mut self.core, entry) {
+            return Err(Fail::new("a step is answered otherwise"));
+        }
+        for _get in 0..=self.gets.len() {
+            if let Some(ticket) = self.core.take_wake() {
+                self.tell(ticket)?;
+            }
+        }
+        match entry {
+            Entry::Enter(_, EnterReply::Waiting(ticket)) => self.gets.push((*ticket, polled))?,
+            Entry::Ask(_, _, AskReply::Waiting) => {}
+            Entry::Ask(ticket, _, _) | Entry::Cancel(Held::Ticket(ticket), _) => self.leave(
+                *ticket,
+            ),
+            _ => {}
+        }
+        Ok(())
+    }
+
+    fn tell(&mut self, ticket: Ticket) -> Result<(), AllocError> {
+        if let Some((_, get)) = self.gets.iter().find(|(of, _)| *of == ticket) {
+            self.due.push(*get)?;
+        }
+        Ok(())
+    }
+
+    fn leave(&mut self, ticket: Ticket) {
+        if let Some(at) = self.gets.iter().position(|(of, _)| *of == ticket) {
+            self.gets.remove(at);
+        }
+    }
+}
