@@ -1,0 +1,3 @@
+//! What a future that borrows its pool does, beside one that is a handle.
+mod managed;
+mod unmanaged;
