@@ -1,5 +1,4 @@
 //! The shared managed pool by scripts and between threads, and the examples of the READMEs.
-mod driven;
 mod examples;
 mod replays;
 mod threads;

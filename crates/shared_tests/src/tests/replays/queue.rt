@@ -1,9 +1,9 @@
 //! Who is in the queue of a shared pool, and whom its steps are to wake, by its journal.
-use crate::tests::driven::{answers_so, opened};
 use deadpool::gate::Ticket;
 use deadpool::managed::{AskReply, Core, EnterReply, Entry, Held, Journal};
 use std::alloc::{AllocError, Global};
 use std::test::Fail;
+use test_support::journals::{answers_so, opened};
 
 /// A pool on one thread that makes each step of a shared one, with the gets that are in its queue.
 #[derive(Drop)]

@@ -6,7 +6,6 @@ mod world;
 
 ghost use Rattle.std.specs.Prelude.{◌≡◌};
 
-use crate::tests::driven::ends_so;
 use deadpool::Runtime;
 use deadpool::managed::{Blanks, Hook, Ledgers, PoolBuilder};
 use rounds::{ChaosPool, Host, play};
@@ -18,6 +17,7 @@ use std::thread;
 use std::thread::Threads;
 use test_support::builders::added;
 use test_support::expected::expect;
+use test_support::journals::ends_so;
 use world::{Maker, Refusing, Shared, Stalling, Ticking, World};
 
 const THREADS: u64 = 8;

@@ -2,7 +2,6 @@
 
 ghost use Rattle.std.specs.Prelude.{◌≡◌};
 
-use crate::tests::driven::ends_so;
 use crate::tests::examples::threads::{Numbers, Zeros, total};
 use deadpool::NoTime;
 use deadpool::managed::{
@@ -19,6 +18,7 @@ use std::test::Fail;
 use std::thread;
 use std::thread::Threads;
 use test_support::expected::expect;
+use test_support::journals::ends_so;
 
 const THREADS: u64 = 10;
 

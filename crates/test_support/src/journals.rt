@@ -1,11 +1,11 @@
 //! The journal of a pool, driven again on one thread.
+use crate::expected::expect;
 use deadpool::Moment;
 use deadpool::managed::{
     Core, Desk, Entry, Journal, Metrics, Removal, Removals, Retainer, Slot, Status, by_number,
 };
 use std::alloc::{AllocError, Global};
 use std::test::Fail;
-use test_support::expected::expect;
 
 /// A new pool that opens as the journal says.
 pub fn opened(alloc: Global, journal: &Journal) -> Result<Core<()>, AllocError> {
