@@ -11,9 +11,11 @@ mod host;
 mod line;
 mod managed;
 mod plain;
+mod polls;
 mod scale;
 mod table;
 mod tenths;
+mod timed;
 mod unmanaged;
 mod vector_gate;
 mod work;
@@ -39,6 +41,7 @@ fn main(rt: HostRuntime) -> ExitCode {
 fn run<R: Host>(rt: R) -> io::Result<()> {
     let table = Table::new(rt, asked_scale(&rt)?);
     managed::measure(table)?;
+    timed::measure(table)?;
     unmanaged::measure(table)?;
     gates::measure(table)
 }

@@ -6,6 +6,7 @@ use crate::cancels::cancels;
 use crate::crowd::{LIMIT, crowds};
 use crate::host::Host;
 use crate::line::Line;
+use crate::polls::{Polls, all_served, lacks_object};
 use crate::table::Table;
 use crate::work::{SharedWork, Work};
 use crate::zeros::Zeros;
@@ -109,38 +110,7 @@ fn cancel_gets<R: Host, L: Ledgers>(
     cancels(table, "cancel in the middle", lines, waiters)
 }
 
-// Gets an object and gives it back, in a poll of one task.
-#[derive(Drop)]
-struct Polls<R: Host, L: Ledgers> {
-    pool: ZeroPool<R, L>,
-    task: Solo,
-}
-
-impl<R: Host, L: Ledgers> Polls<R, L> {
-    fn new(rt: R, pool: &ZeroPool<R, L>) -> io::Result<Self> {
-        Ok(Polls {
-            pool: pool.clone()?,
-            task: Solo::new(&rt, Doorbell::spinning())?,
-        })
-    }
-}
-
-impl<R: Host, L: Ledgers> Work for Polls<R, L> {
-    fn repeat(&self, times: u32) -> io::Result<()> {
-        let mut cx = self.task.begin();
-        let mut served = 0u32;
-        for _time in 0..times {
-            if let Poll::Ready(Ok(object)) = self.pool.get().poll(&mut cx) {
-                drop(object);
-                served = served.saturating_add(1);
-            }
-        }
-        cx.cancel();
-        all_served(served, times)
-    }
-}
-
-// The same by gets that borrow the pool.
+// Gets an object by a get that borrows the pool, and gives it back, in a poll of one task.
 #[derive(Drop)]
 struct Borrows<R: Host, L: Ledgers> {
     pool: ZeroPool<R, L>,
@@ -335,16 +305,4 @@ impl<R: Host, L: Ledgers> Line for PoolLine<R, L> {
     fn waiting(&self) -> usize {
         self.pool.status().waiting
     }
-}
-
-fn all_served(served: u32, times: u32) -> io::Result<()> {
-    if served == times {
-        Ok(())
-    } else {
-        Err(lacks_object())
-    }
-}
-
-fn lacks_object() -> io::Error {
-    io::Error::other("the managed pool gave no object")
 }
