@@ -1,5 +1,8 @@
 //! Timeouts that pass, and what a timer keeps of those that don't.
 mod alarms;
+mod crowd;
+mod held;
 mod managed;
+mod scarce;
 mod stalling;
 mod unmanaged;

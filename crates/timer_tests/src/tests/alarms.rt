@@ -1,41 +1,26 @@
 //! What a timer keeps: at most one alarm for each get that waits.
 use super::managed::Timed;
-use deadpool::Runtime;
-use deadpool::unmanaged::{Object, Pool, PoolConfig};
-use deadpool_timer::{Timer, TimerClock};
+use super::unmanaged::{Numbers, object_of, pool_of_one};
+use deadpool_timer::Timer;
 use futures::task::Poll;
 use futures::test::MockTask;
 use std::test::Fail;
 use std::time::Duration;
 
-const WAITS: u32 = 100_000;
+const WAITS: u32 = 1_000_000;
 
-type MinutePool<R> = Pool<u64, TimerClock<R>, R>;
-
-type Kept<R> = Object<u64, TimerClock<R>, R>;
-
-// A pool of one object, whose gets wait for a minute.
-fn pool_of_one<R: Timed>(rt: R, timer: &Timer<R>) -> Result<MinutePool<R>, Fail> {
-    let config = PoolConfig {
-        timeout: Some(Duration::from_secs(60)),
-        runtime: Some(Runtime::Clock),
-        ..PoolConfig::new(1)
-    };
-    let pool = Pool::from_config(rt.alloc(), &config, timer.clock()?, rt)?;
-    match pool.try_add(41) {
-        Ok(()) => Ok(pool),
-        Err(_) => Err(Fail::new("not added")),
-    }
+fn minute() -> Duration {
+    Duration::from_secs(60)
 }
 
-fn object_of<R: Timed>(pool: &MinutePool<R>) -> Result<Kept<R>, Fail> {
-    pool.try_get().map_err(|_| Fail::new("no object"))
+fn hour() -> Duration {
+    Duration::from_secs(3_600)
 }
 
-// A get waits, with an alarm, and ends at once when the object is back.
+// A get waits, with an alarm beside that of another one, and ends at once when the object is back.
 fn waits_and_ends<R: Timed>(
     task: &MockTask,
-    pool: &MinutePool<R>,
+    pool: &Numbers<R>,
     timer: &Timer<R>,
 ) -> Result<(), Fail> {
     let object = object_of(pool)?;
@@ -44,34 +29,48 @@ fn waits_and_ends<R: Timed>(
     let alarms = timer.alarms();
     drop(object);
     let is_served = matches!(task.poll(&mut get), Poll::Ready(Ok(_)));
-    if is_pending && alarms == 1 && is_served {
+    if is_pending && alarms == 2 && is_served {
         return Ok(());
     }
     Err(Fail::new("the get did not wait, or had no alarm, or was not served"))
 }
 
-fn a_hundred_thousand<R: Timed>(rt: R) -> Result<(), Fail> {
-    let timer = Timer::start(rt.alloc(), rt)?;
-    let pool = pool_of_one(rt, &timer)?;
+// A million waits of one task. Gives how many alarms are left.
+fn a_million_waits<R: Timed>(rt: R, timer: &Timer<R>) -> Result<usize, Fail> {
+    let pool = pool_of_one(rt, timer, minute())?;
     let task = MockTask::new(&rt)?;
     for _wait in 0..WAITS {
-        waits_and_ends(&task, &pool, &timer)?;
+        waits_and_ends(&task, &pool, timer)?;
     }
-    if timer.alarms() == 0 {
+    Ok(timer.alarms())
+}
+
+// The waits of one task, beside a get of another one that waits all the while.
+fn two_tasks<R: Timed>(rt: R) -> Result<(), Fail> {
+    let timer = Timer::start(rt.alloc(), rt)?;
+    let pool = pool_of_one(rt, &timer, hour())?;
+    let task = MockTask::new(&rt)?;
+    let _object = object_of(&pool)?;
+    let mut get = pool.get();
+    let _pending = task.poll(&mut get).is_pending();
+    let beside = a_million_waits(rt, &timer)?;
+    drop(get);
+    let left = timer.alarms();
+    if beside == 1 && left == 0 {
         return Ok(());
     }
-    Err(Fail::new("an alarm is left"))
+    Err(Fail::new(format_args!("{beside} alarms beside one that waits, {left} after it")))
 }
 
 #[test]
-fn waits_that_end_leave_no_alarm(rt: HostRuntime) -> Result<(), Fail> {
-    a_hundred_thousand(rt)
+fn a_million_waits_leave_no_alarm(rt: HostRuntime) -> Result<(), Fail> {
+    two_tasks(rt)
 }
 
 // A get that is polled again and again has one alarm.
 fn polled_again<R: Timed>(rt: R) -> Result<(), Fail> {
     let timer = Timer::start(rt.alloc(), rt)?;
-    let pool = pool_of_one(rt, &timer)?;
+    let pool = pool_of_one(rt, &timer, minute())?;
     let (first, second) = (MockTask::new(&rt)?, MockTask::new(&rt)?);
     let object = object_of(&pool)?;
     let mut get = pool.get();
@@ -97,7 +96,7 @@ fn a_get_that_is_polled_again_has_one_alarm(rt: HostRuntime) -> Result<(), Fail>
 // A get waits while its timer is dropped: it is woken, and waits on.
 fn outlives_its_timer<R: Timed>(rt: R) -> Result<(), Fail> {
     let timer = Timer::start(rt.alloc(), rt)?;
-    let pool = pool_of_one(rt, &timer)?;
+    let pool = pool_of_one(rt, &timer, minute())?;
     let task = MockTask::new(&rt)?;
     let object = object_of(&pool)?;
     let mut get = pool.get();

@@ -1,9 +1,6 @@
 //! Timeouts of a managed pool: of the wait, of a creation, of a recycling.
-use super::stalling::{Builder, Stall, Stalling, took_at_least};
-use deadpool::Runtime;
-use deadpool::managed::{
-    Ledgers, NoHook, Object, ObjectId, Pool, PoolBuilder, PoolError, TimeoutType,
-};
+use super::stalling::{Builder, Lent, Stall, Stalling, builder_of, took_at_least};
+use deadpool::managed::{Ledgers, NoHook, Object, ObjectId, PoolError, TimeoutType};
 use deadpool_threads::{PoolUser, Waiter, lend};
 use deadpool_timer::{Timer, TimerClock};
 use std::random::RandomSource;
@@ -48,11 +45,7 @@ impl<R: Wait + Clock + RandomSource + AllocGlobal + Drop> PoolUser<
 > for TimesOut {
     type Output = Result<(), Fail>;
 
-    fn run<L: Ledgers>(
-        self,
-        rt: &R,
-        pool: &Pool<Stalling, NoHook, NoHook, TimerClock<R>, R, L>,
-    ) -> Result<(), Fail> {
+    fn run<L: Ledgers>(self, rt: &R, pool: &Lent<R, L>) -> Result<(), Fail> {
         let mut waiter = Waiter::new(rt)?;
         let begun = Instant::now(rt)?;
         match self.stall {
@@ -63,8 +56,6 @@ impl<R: Wait + Clock + RandomSource + AllocGlobal + Drop> PoolUser<
         took_at_least(rt, begun, timeout())
     }
 }
-
-type Lent<R, L> = Pool<Stalling, NoHook, NoHook, TimerClock<R>, R, L>;
 
 // The one object is out, so a second get waits until it is late.
 fn waits_too_long<R: Wait + Clock + RandomSource + AllocGlobal + Drop, L: Ledgers>(
@@ -140,9 +131,7 @@ fn is_timeout(cause: &PoolError<()>, phase: TimeoutType) -> Result<(), Fail> {
 
 fn times_out<R: Timed>(rt: R, stall: Stall) -> Result<(), Fail> {
     let timer = Timer::start(rt.alloc(), rt)?;
-    let builder: Builder<R> = PoolBuilder::new(rt.alloc(), Stalling { stall }, timer.clock()?)
-        .max_size(1)
-        .runtime(Runtime::Clock)
+    let builder: Builder<R> = builder_of(rt.alloc(), timer.clock()?, stall)
         .wait_timeout(Some(timeout()))
         .create_timeout(Some(timeout()))
         .recycle_timeout(Some(timeout()));

@@ -1,7 +1,9 @@
 //! A manager that may never answer, and how long things took.
-use deadpool::managed::{Manager, Metrics, NoHook, PoolBuilder, RecycleResult};
+use deadpool::Runtime;
+use deadpool::managed::{Manager, Metrics, NoHook, Pool, PoolBuilder, RecycleResult};
 use deadpool_timer::TimerClock;
 use futures::task::{Context, Poll};
+use std::alloc::Global;
 use std::sync::Wait;
 use std::test::Fail;
 use std::time::{Clock, Duration, Instant};
@@ -57,6 +59,19 @@ impl Manager for Stalling {
 /// What such a pool is made of.
 pub type Builder<R> = PoolBuilder<Stalling, NoHook, NoHook, TimerClock<R>>;
 
+pub type Lent<R, L> = Pool<Stalling, NoHook, NoHook, TimerClock<R>, R, L>;
+
+/// A builder of a pool of one object, whose timeouts are those of a timer's clock.
+pub fn builder_of<R: Wait + Clock + Drop>(
+    alloc: Global,
+    clock: TimerClock<R>,
+    stall: Stall,
+) -> Builder<R> {
+    PoolBuilder::new(alloc, Stalling { stall }, clock)
+        .max_size(1)
+        .runtime(Runtime::Clock)
+}
+
 /// Fails if it took less than this since then. How long it takes at most is up to the machine, so that is printed alone.
 pub fn took_at_least<R: Wait + Clock>(rt: &R, begun: Instant, least: Duration) -> Result<(), Fail> {
     let passed = begun.elapsed(rt)?;
@@ -64,4 +79,15 @@ pub fn took_at_least<R: Wait + Clock>(rt: &R, begun: Instant, least: Duration) -
         return Err(Fail::new(format_args!("it took {passed:?}, which is less than {least:?}")));
     }
     Ok(())
+}
+
+/// How many milliseconds have passed since then; 0 if the clock can't be read.
+pub fn millis_since<R: Clock>(rt: &R, begun: Option<Instant>) -> u64 {
+    let Some(begun) = begun else {
+        return 0;
+    };
+    match begun.elapsed(rt) {
+        Ok(passed) => u64::try_from(passed.as_millis()).unwrap_or(u64::MAX),
+        Err(_) => 0,
+    }
 }

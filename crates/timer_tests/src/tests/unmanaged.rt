@@ -2,18 +2,24 @@
 use super::managed::Timed;
 use super::stalling::took_at_least;
 use deadpool::Runtime;
-use deadpool::unmanaged::{Pool, PoolConfig, PoolError};
+use deadpool::unmanaged::{Object, Pool, PoolConfig, PoolError};
 use deadpool_threads::Waiter;
 use deadpool_timer::{Timer, TimerClock};
 use std::test::Fail;
 use std::time::{Duration, Instant};
 
-// A pool of one object, which no get of it finds idle for long.
-fn pool_of_one<R: Timed>(
+/// A pool of numbers by the clock of a timer.
+pub type Numbers<R> = Pool<u64, TimerClock<R>, R>;
+
+/// A number out of it.
+pub type Number<R> = Object<u64, TimerClock<R>, R>;
+
+/// A pool of one object, whose gets wait for so long at most.
+pub fn pool_of_one<R: Timed>(
     rt: R,
     timer: &Timer<R>,
     timeout: Duration,
-) -> Result<Pool<u64, TimerClock<R>, R>, Fail> {
+) -> Result<Numbers<R>, Fail> {
     let config = PoolConfig {
         timeout: Some(timeout),
         runtime: Some(Runtime::Clock),
@@ -26,10 +32,15 @@ fn pool_of_one<R: Timed>(
     }
 }
 
+/// The one object.
+pub fn object_of<R: Timed>(pool: &Numbers<R>) -> Result<Number<R>, Fail> {
+    pool.try_get().map_err(|_| Fail::new("no object"))
+}
+
 fn ends_late<R: Timed>(
     rt: &R,
     waiter: &mut Waiter,
-    pool: &Pool<u64, TimerClock<R>, R>,
+    pool: &Numbers<R>,
     timeout: Duration,
 ) -> Result<(), Fail> {
     let Ok(object) = waiter.get_unmanaged(rt, pool) else {

@@ -9,7 +9,7 @@ use deadpool::managed::{Get, Ledgers, NoHook, Object, Pool, PoolError, Timeouts,
 use deadpool::replay::{Move, Reply};
 use futures::task::Poll;
 use futures::test::MockTask;
-use std::alloc::Global;
+use std::alloc::{AllocError, Global};
 use std::mem;
 use std::random::RandomSource;
 use std::sync::Wait;
@@ -27,7 +27,8 @@ type TestGet<R, L> = Get<TestManager, NoHook, TestHook, TestClock, R, L, TestObj
 #[derive(Drop)]
 enum Stage<R: Wait + Drop, L: Ledgers> {
     Live(TestGet<R, L>),
-    // It has ended, and was dropped at once.
+    // It has ended, and is dropped when the line has been looked at.
+    Over(TestGet<R, L>),
     Ended,
     Cancelled,
 }
@@ -163,13 +164,13 @@ impl<R: Host, L: Ledgers> Bench<R, L> {
         party.wander(&self.rt)?;
         let polled = match &mut party.stage {
             Stage::Live(get) => party.task.poll(get),
-            Stage::Ended => Poll::Pending,
+            Stage::Over(_) | Stage::Ended => Poll::Pending,
             Stage::Cancelled => return Ok(Reply::NoSuch),
         };
         let Poll::Ready(ended) = polled else {
             return Ok(Reply::Pending);
         };
-        drop(mem::replace(&mut party.stage, Stage::Ended));
+        party.end();
         self.hand_out(ended)
     }
 
@@ -334,20 +335,39 @@ impl<R: Host, L: Ledgers> Bench<R, L> {
         }
     }
 
+    /// Drops the get that ended by the last line, if one did.
+    pub fn let_go(&mut self) {
+        for party in &mut self.gets {
+            party.let_go();
+        }
+    }
+
     /// Of the gets that were started, those that the last line woke and was not to wake, and those that it was to wake and did
     /// not. Empty if there is none. One that the line polled or cancelled, and that is not in the queue then, may be woken,
     /// since it lets go of a waker.
     pub fn strays(&mut self) -> Result<String, Fail> {
+        // The queue is looked at by a handle, which is a step, and so wakes those that the line forgot.
+        let woken = self.woken()?;
         self.look_at_the_queue()?;
         let mut strays = String::new(self.alloc);
-        for (get, party) in self.gets.iter().enumerate() {
-            let is_woken = party.hears();
+        for get in 0..self.gets.len() {
             let may_be = self.named == Some(get) && !self.queue.has(get);
-            if !may_be && is_woken != self.queue.is_due(get) {
+            if !may_be && woken.contains(&get) != self.queue.is_due(get) {
                 write!(strays, " {get}")?;
             }
         }
         Ok(strays)
+    }
+
+    // The gets whose tasks were woken since the last look.
+    fn woken(&self) -> Result<Vec<usize>, AllocError> {
+        let mut woken = Vec::new(self.alloc);
+        for (get, party) in self.gets.iter().enumerate() {
+            if party.hears() {
+                woken.push(get)?;
+            }
+        }
+        Ok(woken)
     }
 
     // Nobody waits in a pool without a handle.
@@ -398,6 +418,21 @@ impl<R: Wait + Drop, L: Ledgers> Party<R, L> {
 
     fn is_live(&self) -> bool {
         matches!(&self.stage, Stage::Live(_))
+    }
+
+    fn end(&mut self) {
+        self.stage = match mem::replace(&mut self.stage, Stage::Ended) {
+            Stage::Live(get) => Stage::Over(get),
+            stage => stage,
+        };
+    }
+
+    // A get that has ended is dropped, which may wake its task.
+    fn let_go(&mut self) {
+        if let Stage::Over(_) = &self.stage {
+            self.stage = Stage::Ended;
+            self.task.enter(|_cx| ());
+        }
     }
 
     // Before each second poll it goes to another task.

@@ -48,6 +48,7 @@ fn compare<R: Host, L: Ledgers>(
     replay.follow(before, bench.live())?;
     note(line, &reply, &wanted, difference)?;
     let strays = bench.strays()?;
+    bench.let_go();
     if !strays.is_empty() {
         write!(difference, "{line}: whether it wakes{strays}; ")?;
     }

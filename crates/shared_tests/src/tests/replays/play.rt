@@ -85,6 +85,7 @@ fn play_lines<R: Host, L: Ledgers>(
         if script.is_watched {
             note(script.name, line, bench.strays()?.as_str(), "", &mut faults)?;
         }
+        bench.let_go();
     }
     Ok(faults)
 }

@@ -32,6 +32,11 @@ pub const SCRIPTS: &str = "
         poll 1 0 = pending; status = 1 0 0 2;
         poll 0 0 = error Error occurred while creating a new object: refused; status = 1 0 0 1;
         poll 1 0 = object 0 value 0; status = 1 1 0 0; back 0; status = 1 1 1 0.
+    refused-new-object-passes-its-place-on: 1 fifo none 0;
+        answer postcreate pending refuse; start; poll 0 0 = pending; status = 1 1 0 0; start;
+        poll 1 0 = pending; poll 1 0 = pending; poll 1 0 = pending; status = 1 1 0 1;
+        poll 0 0 = error `post_create` hook failed: refused; status = 1 0 0 1;
+        poll 1 0 = object 1 value 1; status = 1 1 0 0.
     cancelled-at-each-pending-call: 1 fifo none 0;
         answer create pending; start; poll 0 0 = pending; cancel 0; cancel 0; poll 0 0;
         status = 1 0 0 0.
