@@ -1,0 +1,15 @@
+use Rattle.std.proofs.Common.{◌≡◌, ◌≤◌, length, take, drop}
+use denote.RawPtr.{InBlock}
+use Rattle.deadpool_c.specs.Keys.{idle_keys}
+use Rattle.deadpool_c.proofs.managed_owner.write_keys.Given as goal
+
+-- the keys so far stand at the front, and the pool is as it was
+abbrev pub invariant-loop-at : goal.invariant-loop-at
+invariant-loop-at l = record {
+  made : InBlock l.pool.at;
+  same : l.pool.state ≡ l.initial.pool.state;
+  count : length l.keys ≡ length l.initial.keys;
+  few : l.at ≤ length (idle_keys l.initial.pool.state.pool.core.desk);
+  front : take l.at l.keys ≡ take l.at (idle_keys l.initial.pool.state.pool.core.desk);
+  rest : drop l.at l.keys ≡ drop l.at l.initial.keys;
+}

@@ -1,0 +1,7 @@
+// What stands in an unmanaged pool's block. It has no parameter, so that it can stand behind a pointer.
+use deadpool_unmanaged::Core;
+
+#[derive(Drop)]
+pub struct UnmanagedState {
+    pub pool: Core<u64>,
+}

@@ -1,0 +1,146 @@
+//! How a pool is built.
+use super::hooks::Hooks;
+use super::shared::{Shared, State};
+use super::{Hook, Manager, Object, Pool, PoolConfig, QueueMode, Timeouts};
+use crate::locked::Locked;
+use crate::runtime::Runtime;
+use crate::sys::ManagedDesk;
+use crate::table::Table;
+use crate::wakers::Wakers;
+use std::error::Error;
+use std::fmt;
+use std::marker::PhantomData;
+use std::sync::Arc;
+use std::time::Duration;
+
+/// Why a pool was not built.
+#[derive(Clone, Copy, Debug, PartialEq, Eq)]
+pub enum BuildError {
+    /// There is a timeout, if only one of zero, and no runtime.
+    NoRuntimeSpecified,
+    /// No memory was found for as many objects.
+    OutOfMemory,
+}
+
+impl fmt::Display for BuildError {
+    fn fmt(&self, f: &mut fmt::Formatter<'_>) -> fmt::Result {
+        f.write_str("Error occurred while building the pool: ")?;
+        f.write_str(match self {
+            BuildError::NoRuntimeSpecified => "Timeouts require a runtime",
+            BuildError::OutOfMemory => "Out of memory",
+        })
+    }
+}
+
+impl Error for BuildError {}
+
+/// Has a builder set a field of its own.
+macro_rules! setters {
+    ($($(#[$doc:meta])* $name:ident: $type:ty => $($field:ident).+;)*) => {
+        $($(#[$doc])* pub fn $name(mut self, value: $type) -> Self {
+            self.$($field).+ = value;
+            self
+        })*
+    };
+}
+
+/// What a pool is built by.
+#[must_use]
+pub struct PoolBuilder<M: Manager, W: From<Object<M>> = Object<M>> {
+    manager: M,
+    config: PoolConfig,
+    runtime: Option<Runtime>,
+    hooks: Hooks<M>,
+    min_idle: usize,
+    entries: usize,
+    wrapper: PhantomData<fn() -> W>,
+}
+
+impl<M: Manager, W: From<Object<M>>> PoolBuilder<M, W> {
+    pub(super) fn new(manager: M) -> Self {
+        PoolBuilder {
+            manager,
+            config: PoolConfig::default(),
+            runtime: None,
+            hooks: Hooks { post_create: Vec::new(), pre_recycle: Vec::new(), post_recycle: Vec::new() },
+            min_idle: 0,
+            entries: 0,
+            wrapper: PhantomData,
+        }
+    }
+
+    /// Builds the pool.
+    ///
+    /// # Errors
+    ///
+    /// If a timeout is set and no runtime, or if no memory is found.
+    pub fn build(self) -> Result<Pool<M, W>, BuildError> {
+        let PoolConfig { max_size, timeouts, queue_mode } = self.config;
+        if timeouts.is_any_set() && self.runtime.is_none() {
+            return Err(BuildError::NoRuntimeSpecified);
+        }
+        let is_lifo = queue_mode == QueueMode::Lifo;
+        let desk = ManagedDesk::new(max_size, is_lifo, self.entries, self.min_idle).ok_or(BuildError::OutOfMemory)?;
+        Ok(Pool::counted(Arc::new(Shared {
+            manager: self.manager,
+            hooks: self.hooks,
+            timeouts,
+            runtime: self.runtime,
+            state: Locked::new(State { desk, idle: Table::new(), wakers: Wakers::default() }),
+        })))
+    }
+
+    setters! {
+        /// Sets what the configuration has.
+        config: PoolConfig => config;
+        /// Sets the greatest number of objects.
+        max_size: usize => config.max_size;
+        /// Sets all timeouts.
+        timeouts: Timeouts => config.timeouts;
+        /// Sets the timeout of the wait for a place.
+        wait_timeout: Option<Duration> => config.timeouts.wait;
+        /// Sets the timeout of a creation.
+        create_timeout: Option<Duration> => config.timeouts.create;
+        /// Sets the timeout of a recycling.
+        recycle_timeout: Option<Duration> => config.timeouts.recycle;
+        /// Sets which idle object is handed out next.
+        queue_mode: QueueMode => config.queue_mode;
+        /// Sets how many idle objects a resize and a retain leave, if as many are idle. It is this crate's own.
+        min_idle: usize => min_idle;
+        /// Sets how many steps the pool's journal has room for, 0 at first. It is this crate's own.
+        journal: usize => entries;
+    }
+
+    /// Adds a hook that sees a new object.
+    pub fn post_create(mut self, hook: impl Into<Hook<M>>) -> Self {
+        self.hooks.post_create.push(hook.into());
+        self
+    }
+
+    /// Adds a hook that sees an idle object before it is recycled.
+    pub fn pre_recycle(mut self, hook: impl Into<Hook<M>>) -> Self {
+        self.hooks.pre_recycle.push(hook.into());
+        self
+    }
+
+    /// Adds a hook that sees an idle object after it was recycled.
+    pub fn post_recycle(mut self, hook: impl Into<Hook<M>>) -> Self {
+        self.hooks.post_recycle.push(hook.into());
+        self
+    }
+
+    /// Sets where the pool has its timers from.
+    pub fn runtime(mut self, value: Runtime) -> Self {
+        self.runtime = Some(value);
+        self
+    }
+}
+
+impl<M: Manager, W: From<Object<M>>> fmt::Debug for PoolBuilder<M, W> {
+    fn fmt(&self, f: &mut fmt::Formatter<'_>) -> fmt::Result {
+        f.debug_struct("PoolBuilder")
+            .field("config", &self.config)
+            .field("runtime", &self.runtime)
+            .finish_non_exhaustive()
+    }
+}

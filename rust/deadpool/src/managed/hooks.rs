@@ -1,0 +1,69 @@
+//! Code of a user's that sees each object at a point of its life, and may refuse it.
+use super::{HookError, Manager, Metrics};
+use std::fmt;
+use std::future::Future;
+use std::pin::Pin;
+
+/// How a hook ended.
+pub type HookResult<E> = Result<(), HookError<E>>;
+
+/// What a hook with a future gives.
+pub type HookFuture<'a, E> = Pin<Box<dyn Future<Output = HookResult<E>> + Send + 'a>>;
+
+type SyncFn<M> = dyn Fn(&mut <M as Manager>::Type, &Metrics) -> HookResult<<M as Manager>::Error> + Sync + Send;
+
+type AsyncFn<M> =
+    dyn for<'a> Fn(&'a mut <M as Manager>::Type, &'a Metrics) -> HookFuture<'a, <M as Manager>::Error> + Sync + Send;
+
+/// A hook, which sees an object and what is known of its past.
+pub enum Hook<M: Manager> {
+    /// One that ends at once.
+    Fn(Box<SyncFn<M>>),
+    /// One that gives a future.
+    AsyncFn(Box<AsyncFn<M>>),
+}
+
+impl<M: Manager> Hook<M> {
+    /// A hook that ends at once.
+    pub fn sync_fn(f: impl Fn(&mut M::Type, &Metrics) -> HookResult<M::Error> + Sync + Send + 'static) -> Self {
+        Hook::Fn(Box::new(f))
+    }
+
+    /// A hook that gives a future.
+    pub fn async_fn(
+        f: impl for<'a> Fn(&'a mut M::Type, &'a Metrics) -> HookFuture<'a, M::Error> + Sync + Send + 'static,
+    ) -> Self {
+        Hook::AsyncFn(Box::new(f))
+    }
+}
+
+impl<M: Manager> fmt::Debug for Hook<M> {
+    fn fmt(&self, f: &mut fmt::Formatter<'_>) -> fmt::Result {
+        f.write_str(match self {
+            Hook::Fn(_) => "Fn",
+            Hook::AsyncFn(_) => "AsyncFn",
+        })
+    }
+}
+
+/// The hooks of a pool, in three lists.
+pub(super) struct Hooks<M: Manager> {
+    pub(super) post_create: Vec<Hook<M>>,
+    pub(super) pre_recycle: Vec<Hook<M>>,
+    pub(super) post_recycle: Vec<Hook<M>>,
+}
+
+/// The hooks of a list see an object in turn, up to the first that refuses it.
+pub(super) async fn pass<M: Manager>(
+    hooks: &[Hook<M>],
+    value: &mut M::Type,
+    metrics: &Metrics,
+) -> HookResult<M::Error> {
+    for hook in hooks {
+        match hook {
+            Hook::Fn(f) => f(value, metrics)?,
+            Hook::AsyncFn(f) => f(value, metrics).await?,
+        }
+    }
+    Ok(())
+}

@@ -1,0 +1,64 @@
+//! What a pool asks of its backend.
+use super::RecycleError;
+use std::future::Future;
+use std::time::{Duration, Instant};
+
+/// How a recycling ended.
+pub type RecycleResult<E> = Result<(), RecycleError<E>>;
+
+/// Makes the objects of a pool, and says of each that came back whether it can be used again.
+pub trait Manager: Sync + Send {
+    /// The values of the objects.
+    type Type: Send;
+
+    /// Why an object is not made, or not used again.
+    type Error: Send;
+
+    /// Makes a value.
+    fn create(&self) -> impl Future<Output = Result<Self::Type, Self::Error>> + Send;
+
+    /// Makes a value ready to be handed out once more, or refuses it: then the pool gives it up.
+    fn recycle(
+        &self,
+        obj: &mut Self::Type,
+        metrics: &Metrics,
+    ) -> impl Future<Output = RecycleResult<Self::Error>> + Send;
+
+    /// Is told of each value that the pool gives up, but not of those that a resize, a close or the last handle takes.
+    fn detach(&self, _obj: &mut Self::Type) {}
+}
+
+/// What is known of an object's past.
+#[derive(Clone, Copy, Debug)]
+#[must_use]
+pub struct Metrics {
+    /// When it was created.
+    pub created: Instant,
+    /// When it was last handed out again.
+    pub recycled: Option<Instant>,
+    /// How often it was handed out again.
+    pub recycle_count: usize,
+}
+
+impl Metrics {
+    /// How long ago it was created.
+    pub fn age(&self) -> Duration {
+        self.created.elapsed()
+    }
+
+    /// How long ago it was last handed out.
+    pub fn last_used(&self) -> Duration {
+        self.recycled.unwrap_or(self.created).elapsed()
+    }
+
+    pub(super) fn recycled_now(&mut self) {
+        self.recycled = Some(Instant::now());
+        self.recycle_count = self.recycle_count.saturating_add(1);
+    }
+}
+
+impl Default for Metrics {
+    fn default() -> Self {
+        Metrics { created: Instant::now(), recycled: None, recycle_count: 0 }
+    }
+}

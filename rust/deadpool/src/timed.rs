@@ -1,0 +1,68 @@
+//! Futures that are polled beside something else.
+#![forbid(unsafe_code)]
+
+use crate::runtime::Sleep;
+use std::future::{Future, poll_fn};
+use std::pin::pin;
+use std::task::{Context, Poll};
+
+/// A sleep, if there is one, which is not polled any more once it is over.
+#[derive(Default)]
+pub(crate) struct Alarm {
+    sleep: Option<Sleep>,
+    is_over: bool,
+}
+
+impl Alarm {
+    pub(crate) fn new(sleep: Sleep) -> Self {
+        let sleep = Some(sleep);
+        Alarm { sleep, is_over: false }
+    }
+
+    pub(crate) fn is_over(&mut self, cx: &mut Context<'_>) -> bool {
+        if let Some(sleep) = &mut self.sleep
+            && sleep.as_mut().poll(cx).is_ready()
+        {
+            self.sleep = None;
+            self.is_over = true;
+        }
+        self.is_over
+    }
+}
+
+/// What a future gives, or none if its time is over before that.
+pub(crate) async fn in_time<F: Future>(mut alarm: Alarm, future: F) -> Option<F::Output> {
+    let mut future = pin!(future);
+    poll_fn(|cx| match future.as_mut().poll(cx) {
+        Poll::Ready(output) => Poll::Ready(Some(output)),
+        Poll::Pending if alarm.is_over(cx) => Poll::Ready(None),
+        Poll::Pending => Poll::Pending,
+    })
+    .await
+}
+
+/// What a future gives, and whether it was ever pending: then another poll has begun since.
+pub(crate) async fn noting_polls<F: Future>(future: F) -> (F::Output, bool) {
+    let mut was_pending = false;
+    let mut future = pin!(future);
+    let output = poll_fn(|cx| {
+        let polled = future.as_mut().poll(cx);
+        was_pending |= polled.is_pending();
+        polled
+    })
+    .await;
+    (output, was_pending)
+}
+
+/// Ends this poll, and asks for another one.
+pub(crate) async fn poll_again() {
+    let mut has_ended = false;
+    poll_fn(|cx| {
+        if std::mem::replace(&mut has_ended, true) {
+            return Poll::Ready(());
+        }
+        cx.waker().wake_by_ref();
+        Poll::Pending
+    })
+    .await;
+}

@@ -1,0 +1,58 @@
+//! What a pool is opened with, and why its calls are refused.
+use crate::managed::PoolConfig as Managed;
+use crate::runtime::Runtime;
+use std::error::Error;
+use std::fmt;
+use std::time::Duration;
+
+/// How many objects there may be, and how long a get waits.
+#[derive(Clone, Copy, Debug)]
+pub struct PoolConfig {
+    /// The greatest number of objects.
+    pub max_size: usize,
+    /// How long a get waits; none is without an end. Zero is not to wait, and needs no runtime.
+    pub timeout: Option<Duration>,
+    /// Where the pool has its timers from.
+    pub runtime: Option<Runtime>,
+}
+
+impl PoolConfig {
+    /// So many objects, no timeout and no runtime.
+    #[must_use]
+    pub fn new(max_size: usize) -> Self {
+        PoolConfig { max_size, timeout: None, runtime: None }
+    }
+}
+
+/// Twice as many objects as there are processors.
+impl Default for PoolConfig {
+    fn default() -> Self {
+        PoolConfig::new(Managed::default().max_size)
+    }
+}
+
+/// Why a call was refused. It then holds nothing.
+#[derive(Clone, Copy, Debug, PartialEq, Eq)]
+pub enum PoolError {
+    /// No object, or no room, was free in time.
+    Timeout,
+    /// The pool was closed.
+    Closed,
+    /// A wait above zero is set, and there is no runtime.
+    NoRuntimeSpecified,
+    /// The entry in the queue, its waker or the object's place in the table found no memory.
+    OutOfMemory,
+}
+
+impl fmt::Display for PoolError {
+    fn fmt(&self, f: &mut fmt::Formatter<'_>) -> fmt::Result {
+        f.write_str(match self {
+            PoolError::Timeout => "Timeout occurred while waiting for an object to become available",
+            PoolError::Closed => "Pool has been closed",
+            PoolError::NoRuntimeSpecified => "No runtime specified",
+            PoolError::OutOfMemory => "Out of memory",
+        })
+    }
+}
+
+impl Error for PoolError {}

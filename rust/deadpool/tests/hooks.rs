@@ -1,0 +1,113 @@
+//! Hooks of the three lists.
+mod common;
+
+use common::{Numbers, block_on, pause};
+use deadpool::managed::{Hook, HookError, HookResult, Metrics, Pool, PoolBuilder, PoolError};
+use std::convert::Infallible;
+use std::sync::atomic::{AtomicUsize, Ordering};
+
+type Answer = HookResult<Infallible>;
+
+fn builder(first: usize) -> PoolBuilder<Numbers> {
+    Pool::builder(Numbers::from(first)).max_size(1)
+}
+
+fn add_one(value: &mut usize, _: &Metrics) -> Answer {
+    *value += 1;
+    Ok(())
+}
+
+fn refuse_used(_: &mut usize, metrics: &Metrics) -> Answer {
+    if metrics.recycle_count > 0 { Err(HookError::message("used")) } else { Ok(()) }
+}
+
+#[test]
+fn post_create_changes_a_new_object() {
+    let pool = builder(42).post_create(Hook::sync_fn(add_one)).build().expect("a pool");
+    assert_eq!(*block_on(pool.get()).expect("an object"), 43);
+}
+
+#[test]
+fn an_async_post_create_has_a_state() {
+    let calls = AtomicUsize::new(0);
+    let hook = Hook::async_fn(move |value: &mut usize, _: &Metrics| {
+        calls.fetch_add(1, Ordering::SeqCst);
+        Box::pin(async move {
+            pause().await;
+            *value += 1;
+            Ok(())
+        })
+    });
+    let pool = builder(42).post_create(hook).build().expect("a pool");
+    assert_eq!(*block_on(pool.get()).expect("an object"), 43);
+}
+
+#[test]
+fn post_create_refuses_a_new_object() {
+    let refuse_odd = |value: &mut usize, _: &Metrics| -> Answer {
+        if *value % 2 == 1 { Err(HookError::message("odd")) } else { Ok(()) }
+    };
+    let pool = builder(0).max_size(3).post_create(Hook::sync_fn(refuse_odd)).build().expect("a pool");
+    let mut kept = Vec::new();
+    for expected in [Some(0), None, Some(2), None, Some(4)] {
+        match (block_on(pool.get()), expected) {
+            (Ok(object), Some(value)) => {
+                assert_eq!(*object, value);
+                kept.push(object);
+            }
+            (Err(PoolError::PostCreateHook(HookError::Message(text))), None) => assert_eq!(text, "odd"),
+            (other, _) => panic!("{other:?}"),
+        }
+    }
+    assert_eq!((pool.status().size, pool.manager().detached()), (3, 2));
+}
+
+fn counts_up(builder: PoolBuilder<Numbers>) {
+    let pool = builder.build().expect("a pool");
+    for value in 42..46 {
+        assert_eq!(*block_on(pool.get()).expect("an object"), value);
+    }
+}
+
+#[test]
+fn pre_recycle_sees_an_object_that_came_back() {
+    counts_up(builder(42).pre_recycle(Hook::sync_fn(add_one)));
+}
+
+#[test]
+fn post_recycle_sees_an_object_that_came_back() {
+    counts_up(builder(42).post_recycle(Hook::sync_fn(add_one)));
+}
+
+fn each_is_used_twice(builder: PoolBuilder<Numbers>) {
+    let pool = builder.build().expect("a pool");
+    for value in [0, 0, 1, 1, 2, 2] {
+        assert_eq!(*block_on(pool.get()).expect("an object"), value);
+        let status = pool.status();
+        assert_eq!((status.size, status.available), (1, 1));
+    }
+}
+
+#[test]
+fn pre_recycle_refuses_an_object() {
+    each_is_used_twice(builder(0).pre_recycle(Hook::sync_fn(refuse_used)));
+}
+
+#[test]
+fn post_recycle_refuses_an_object() {
+    each_is_used_twice(builder(0).post_recycle(Hook::sync_fn(refuse_used)));
+}
+
+#[test]
+fn errors_have_their_texts_and_causes() {
+    use std::error::Error;
+    use std::io;
+    let cause = || io::Error::other("broken");
+    let backend: PoolError<io::Error> = PoolError::Backend(cause());
+    assert_eq!(backend.to_string(), "Error occurred while creating a new object: broken");
+    assert_eq!(backend.source().expect("a source").to_string(), "broken");
+    let hook: PoolError<io::Error> = PoolError::PostCreateHook(HookError::Backend(cause()));
+    assert_eq!(hook.to_string(), "`post_create` hook failed: broken\n");
+    assert_eq!(hook.source().and_then(Error::source).expect("a source").to_string(), "broken");
+    assert!(PoolError::<io::Error>::Closed.source().is_none());
+}

@@ -1,0 +1,117 @@
+#!/usr/bin/env python3
+"""make.py POOLRUN COUNT: writes COUNT random scripts of each kind with the replies of the program POOLRUN.
+
+managed.txt and unmanaged.txt were made with a COUNT of 1500 over a build of crates/poolrun without a proof; `rt run` there leaves a
+proved one, out/poolrun. The lines are chosen by a generator with a fixed seed, which knows nothing of a pool: only how many parties
+it has started, and how many handles it has taken. The replies are those of poolrun, none is written by hand.
+"""
+import os
+import random
+import subprocess
+import sys
+
+MANAGED = ["start"] * 6 + ["timed"] * 2 + ["poll"] * 12 + ["cancel"] * 2 + ["back"] * 6 + ["take", "put", "resize", "resize",
+           "retain", "status", "status", "status", "clone", "drop", "upgrade"] + ["answer"] * 4 + ["rare"]
+UNMANAGED = ["get"] * 4 + ["timed"] * 2 + ["add"] * 5 + ["poll"] * 10 + ["tryget"] * 3 + ["tryadd"] * 3 + ["cancel"] * 2 + \
+            ["back"] * 6 + ["take"] * 2 + ["status"] * 3 + ["clone", "drop", "rare"]
+WORDS = {"create": ["ok", "pending", "refuse"], "recycle": ["ok", "pending", "refuse", "add"], "pre": ["ok", "pending", "refuse", "add"],
+         "post": ["ok", "pending", "refuse", "add"], "postcreate": ["ok", "pending", "refuse", "add"]}
+
+
+class Script:
+    def __init__(self, dice):
+        self.dice, self.parties, self.now, self.handles = dice, 0, 0, 1
+
+    def party(self):
+        return self.dice.randrange(max(1, self.parties + (self.dice.random() < 0.05)))
+
+    def object(self):
+        return self.dice.randrange(8) + self.first
+
+    def wait(self):
+        return self.dice.choice(["-", "-", "0", "1", "5", "20"])
+
+    def common(self, kind):
+        dice = self.dice
+        if kind == "poll":
+            self.now += dice.choice([0, 0, 1, 3, 10])
+            return f"poll {self.party()} {self.now}"
+        if kind in ("back", "take"):
+            return f"{kind} {self.object()}"
+        if kind == "drop":
+            # (the last handle mostly stays)
+            if self.handles > 1 or dice.random() < 0.1:
+                self.handles -= 1
+                return "drop"
+            return "status"
+        if kind == "clone":
+            self.handles += 1
+            return "clone"
+        if kind == "rare":
+            return "close" if dice.random() < 0.15 else "status"
+        return f"cancel {self.party()}" if kind == "cancel" else kind
+
+
+class Managed(Script):
+    kinds = MANAGED
+
+    def opening(self):
+        dice = self.dice
+        self.first = dice.choice([0, 0, 0, 7])
+        floor = dice.choice(["", "", f" {dice.randrange(3)}"])
+        return f"pool {dice.randrange(5)} {dice.choice(['fifo', 'lifo'])} {dice.choice(['none', 'clock'])} {self.first}{floor}"
+
+    def line(self):
+        dice, kind = self.dice, self.dice.choice(self.kinds)
+        if kind in ("start", "timed"):
+            self.parties += 1
+            return "start" if kind == "start" else f"start {self.wait()} {self.wait()} {self.wait()}"
+        if kind == "put":
+            return f"put {self.object()} {dice.randrange(100)}"
+        if kind == "resize":
+            return f"resize {dice.randrange(6)}"
+        if kind == "retain":
+            return " ".join(["retain", *[str(self.object()) for _ in range(dice.randrange(4))]])
+        if kind == "upgrade":
+            self.handles += self.handles > 0
+            return kind
+        if kind == "answer":
+            of = dice.choice(list(WORDS))
+            return " ".join(["answer", of, *[dice.choice(WORDS[of]) for _ in range(dice.randrange(1, 4))]])
+        return self.common(kind)
+
+
+class Unmanaged(Script):
+    kinds = UNMANAGED
+    first = 0
+
+    def opening(self):
+        return f"unmanaged {self.dice.randrange(5)} {self.dice.choice(['none', 'clock'])}"
+
+    def line(self):
+        kind = self.dice.choice(self.kinds)
+        if kind in ("get", "timed", "add"):
+            self.parties += 1
+            return {"get": "get", "timed": f"get {self.wait()}", "add": f"add {self.dice.randrange(100)}"}[kind]
+        if kind == "tryadd":
+            return f"tryadd {self.dice.randrange(100)}"
+        return self.common(kind)
+
+
+def made(program, kind, seed):
+    script = kind(random.Random(seed))
+    lines = [script.opening(), *[script.line() for _ in range(script.dice.randrange(10, 45))]]
+    ran = subprocess.run([program], input="\n".join(lines) + "\n", capture_output=True, text=True)
+    replies = ran.stdout.split("\n")[:-1]
+    assert ran.returncode == 0 and len(replies) == len(lines), (lines, ran)
+    return "".join(f"{line} => {reply}\n" for line, reply in zip(lines, replies))
+
+
+def main():
+    program, count = sys.argv[1], int(sys.argv[2])
+    for name, kind in (("managed", Managed), ("unmanaged", Unmanaged)):
+        with open(os.path.join(os.path.dirname(__file__), f"{name}.txt"), "w", encoding="utf-8") as it:
+            it.write("\n".join(made(os.path.abspath(program), kind, f"{name} {seed}") for seed in range(count)))
+
+
+main()

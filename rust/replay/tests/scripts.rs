@@ -1,0 +1,117 @@
+//! Scripts that stand with the replies of `poolrun`: those of its own tests, and random ones.
+use replay::{Player, Reply};
+use std::fs;
+use std::path::{Path, PathBuf};
+
+/// How scripts came out: those that were played to their end, those that were left at a line that the crate cannot express,
+/// and those lines.
+#[derive(Default, Debug)]
+struct Outcome {
+    whole: usize,
+    left: usize,
+    lines: usize,
+}
+
+/// The lines of one script, each with its reply.
+type Script = Vec<(String, String)>;
+
+fn play(name: &str, script: &Script, outcome: &mut Outcome) {
+    let mut player = Player::default();
+    for (at, (line, expected)) in script.iter().enumerate() {
+        match player.play(line) {
+            Some(Reply::Said(reply)) => {
+                assert_eq!(reply.trim_end_matches('\n'), expected, "{name}, line {}: {line}", at + 1);
+            }
+            Some(Reply::NotExpressible) => {
+                println!("{name}, line {}: {line}: not to be expressed", at + 1);
+                outcome.left += 1;
+                return;
+            }
+            other => panic!("{name}, line {}: {line}: {other:?}", at + 1),
+        }
+        outcome.lines += 1;
+    }
+    outcome.whole += 1;
+}
+
+/// The scripts of a text: lines with their replies, which a pool line begins.
+fn scripts_of(text: &str) -> Vec<Script> {
+    let mut scripts: Vec<Script> = Vec::new();
+    for line in text.lines() {
+        let Some((line, reply)) = line.split_once(" => ") else {
+            continue;
+        };
+        let is_opening = ["pool ", "unmanaged ", "config "].iter().any(|word| line.starts_with(word));
+        if is_opening {
+            scripts.push(Script::new());
+        }
+        if let Some(script) = scripts.last_mut() {
+            script.push((line.into(), reply.into()));
+        }
+    }
+    scripts
+}
+
+fn below(folder: &Path, found: &mut Vec<PathBuf>) {
+    for entry in fs::read_dir(folder).expect("a folder").flatten() {
+        let path = entry.path();
+        if path.is_dir() {
+            below(&path, found);
+        } else if path.extension().is_some_and(|it| it == "rt") {
+            found.push(path);
+        }
+    }
+}
+
+/// The text literals of a source of Rattle that have scripts: each is a constant's.
+fn literals_of(source: &str) -> Vec<String> {
+    let begins = source.match_indices(": &str = \"\\\n").map(|(at, word)| at + word.len());
+    begins
+        .filter_map(|begin| source[begin..].split_once("\n\";"))
+        .map(|(text, _)| text.replace("\\n", "\n").replace("\\\"", "\"").replace("\\\\", "\\"))
+        .collect()
+}
+
+/// A text once, or once for each kind of call on an idle object that its K stands for.
+fn kinds_of(text: String) -> Vec<String> {
+    if !text.contains("answer K ") {
+        return vec![text];
+    }
+    ["pre", "recycle", "post"].iter().map(|kind| text.replace("answer K ", &format!("answer {kind} "))).collect()
+}
+
+#[test]
+fn the_scripts_of_its_tests_have_their_replies() {
+    let folder = Path::new(env!("CARGO_MANIFEST_DIR")).join("../../crates/poolrun_tests/src");
+    let mut files = Vec::new();
+    below(&folder, &mut files);
+    let mut outcome = Outcome::default();
+    for file in files {
+        let source = fs::read_to_string(&file).expect("a source");
+        let texts = literals_of(&source).into_iter().flat_map(kinds_of);
+        for script in texts.flat_map(|text| scripts_of(&text)) {
+            // (the player of tests has lines of its own, which are no moves of the language)
+            let is_of_tests = |line: &str| ["calls", "woken", "list", "stop"].iter().any(|it| line.starts_with(it));
+            if script.iter().any(|(line, reply)| is_of_tests(line) || reply == "not a move") {
+                continue;
+            }
+            play(&file.display().to_string(), &script, &mut outcome);
+        }
+    }
+    println!("{outcome:?}");
+    assert!(outcome.whole >= 90, "{outcome:?}");
+}
+
+#[test]
+fn random_scripts_have_their_replies() {
+    let folder = Path::new(env!("CARGO_MANIFEST_DIR")).join("scripts");
+    let mut outcome = Outcome::default();
+    for name in ["managed.txt", "unmanaged.txt"] {
+        let text = fs::read_to_string(folder.join(name)).expect("stored scripts");
+        for (number, script) in scripts_of(&text).iter().enumerate() {
+            play(&format!("{name}, script {number}"), script, &mut outcome);
+        }
+    }
+    println!("{outcome:?}");
+    assert!(outcome.whole >= 2900, "{outcome:?}");
+}
