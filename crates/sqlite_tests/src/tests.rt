@@ -6,3 +6,4 @@ mod left_open;
 mod recycling;
 mod schemas;
 mod scripts;
+mod waits;
