@@ -1,5 +1,4 @@
 //! Which tasks a step wakes, what goes with the last holder of a pool, and which code runs with the lock given back.
-mod borrowing;
 mod holders;
 mod outside;
 mod steps;

@@ -88,7 +88,9 @@ impl Watched {
 fn polled<R: Wait + Drop, L: Ledgers, G: Future<Output = Result<Number<R, L>, PoolError<()>>>>(
     task: &MockTask,
     get: &mut G,
-) -> (Seen, Option<Number<R, L>>) {
+) -> (Seen, Option<Number<R, L>>)
+    requires { (get : _) → G.can_poll get }
+{
     match task.poll(get) {
         Poll::Pending => (Seen::Pending, None),
         Poll::Ready(Ok(object)) => (Seen::Value(*object), Some(object)),
@@ -103,7 +105,9 @@ fn three<
     R: Wait + Drop,
     L: Ledgers,
     G: Future<Output = Result<Number<R, L>, PoolError<()>>> + Drop,
->(watched: &mut Watched, mut first: G, mut second: G, mut third: G) -> Result<(), AllocError> {
+>(watched: &mut Watched, mut first: G, mut second: G, mut third: G) -> Result<(), AllocError>
+    requires { (get : _) → G.can_poll get }
+{
     let (seen, object) = polled(&watched.here, &mut first);
     watched.see(seen)?;
     let (seen, _) = polled(&watched.there, &mut second);
@@ -136,7 +140,9 @@ fn two<R: Wait + Drop, L: Ledgers, G: Future<Output = Result<Number<R, L>, PoolE
     pool: &Numbers<R, L>,
     mut hasty: G,
     mut patient: G,
-) -> Result<(), AllocError> {
+) -> Result<(), AllocError>
+    requires { (get : _) → G.can_poll get }
+{
     pool.resize(0)?;
     let (seen, _) = polled(&watched.here, &mut hasty);
     watched.see(seen)?;
