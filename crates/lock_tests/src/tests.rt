@@ -1,7 +1,6 @@
-//! Which tasks a step wakes, what goes with the last holder of a pool, and which code runs with the lock given back.
+//! What goes with the last holder of a pool, and which code runs with the lock given back.
 mod holders;
 mod outside;
-mod steps;
 
 use std::process::Abort;
 use std::random::RandomSource;
