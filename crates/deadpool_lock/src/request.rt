@@ -85,6 +85,7 @@ impl<Q: Request<S>, S: Counted + Drop> RequestFuture<Q, S> {
         ensures gives { IfReady result Q.gives }
         ensures ended { IfReady result (λ _. IsOver self.new.handle self.new.request self.new.refusal) }
         ensures waits { OnPending result (is_some self.new.request ≡ is_some self.old.request) }
+        ensures told { OnPending result (IsNone self.old.handle → IsNone self.old.refusal) }
         ensures stays { IsOver self.old.handle self.old.request self.old.refusal → result ≡ Poll.Pending }
         ensures over { IsOver self.old.handle self.old.request self.old.refusal → IsOver self.new.handle self.new.request self.new.refusal }
         ensures handle { self.new.handle ≡ self.old.handle }
@@ -229,6 +230,7 @@ impl<'a, Q: Request<S>, S: Counted + Drop> RequestRef<'a, Q, S> {
         ensures begun { IfReady result (λ _. (is_some self.old.request || is_some self.old.refusal) ≡ true) }
         ensures ended { IfReady result (λ _. IsNone self.new.request × IsNone self.new.refusal) }
         ensures waits { OnPending result (is_some self.new.request ≡ is_some self.old.request) }
+        ensures told { OnPending result (IsNone self.old.refusal) }
         ensures handle { self.new.handle.now ≡ self.old.handle.now }
         ensures armed { OnPending result (IsArmed cx.new) }
         ensures heard { OnPending result (Hears cx.new (S.source_of self.old.handle.now)) }

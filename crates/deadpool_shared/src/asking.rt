@@ -111,7 +111,7 @@ impl<M: Manager, F: SyncHook<M>, A: AsyncHook<M>, C: Clock, R: Wait + Drop, L: L
         cx: &mut Context<'_>,
     ) -> Poll<Result<W, PoolError<M::Error>>>
         ensures begun { IfReady result (λ _. is_some self.old.refusal ≡ true) }
-        ensures stays { OnPending result (is_some self.new.refusal ≡ is_some self.old.refusal) }
+        ensures told { OnPending result ((self.old.refusal ≡ None) × (self.new.refusal ≡ None)) }
         ensures home { self.new.home ≡ self.old.home }
         ensures gives { IfReady result (λ ended. IfOk ended (λ _. ⊥)) }
         ensures armed { OnPending result (IsArmed cx.new) }
