@@ -47,6 +47,7 @@ impl<T> Model for PoolState<T> {
 }
 
 impl<T: Drop> PoolState<T> {
+    /// An open pool with nothing idle and one handle.
     pub fn new(
         alloc: Global,
         limit: usize,
@@ -72,24 +73,28 @@ impl<T: Drop> PoolState<T> {
         })
     }
 
+    /// Whether a handle is left.
     pub fn has_handle(&self) -> bool
         ensures { result ≡ nat_lt 0 self.now.desk.handles }
     {
         self.handles > 0
     }
 
+    /// Whether just one handle is left.
     pub fn is_last_handle(&self) -> bool
         ensures { result ≡ (self.now.desk.handles == 1) }
     {
         self.handles == 1
     }
 
+    /// The idle object at this position, front to back.
     pub fn idle_at(&self, at: usize) -> Option<&Slot<T>>
         ensures { option_copied result ≡ slice_get self.now.desk.idle at }
     {
         self.ring.get(at)
     }
 
+    /// How many idle objects a resize to this limit gives up.
     pub fn surplus(&self, limit: usize) -> usize
         ensures { result ≡ surplus limit self.now.desk }
     {
@@ -101,6 +106,7 @@ impl<T: Drop> PoolState<T> {
         excess.min(idle.saturating_sub(self.min_idle.min(limit)))
     }
 
+    /// A retain that notes which objects it removed, by position.
     pub fn retain_noting<R: Retainer<T>>(
         &mut self,
         retainer: &mut R,
@@ -118,30 +124,35 @@ impl<T: Drop> PoolState<T> {
         Ok((result, Removals::new(noted)))
     }
 
+    /// Whether the pool has closed.
     pub fn is_closed(&self) -> bool
         ensures { result ≡ not self.now.desk.is_open }
     {
         self.gate.is_closed()
     }
 
+    /// The next get in the queue that is due to be told and was not.
     pub fn take_wake(&mut self) -> Option<Ticket>
         ensures { Tells self.old result self.new }
     {
         self.gate.take_wake()
     }
 
+    /// Whether there is such a get.
     pub fn is_wake_due(&self) -> bool
         ensures { result ≡ is_some (due_now self.now) }
     {
         self.gate.is_wake_due()
     }
 
+    /// Whether a get that is willing to wait would join the queue.
     pub fn would_queue(&self) -> bool
         ensures { result ≡ (self.now.desk.is_open && nat_le self.now.desk.limit (places self.now.desk)) }
     {
         !self.gate.is_closed() && self.room() == 0
     }
 
+    /// The number of the next ticket.
     pub fn next_ticket(&self) -> usize
         ensures { result ≡ self.now.next_ticket }
     {
@@ -215,6 +226,7 @@ impl<T: Drop> PoolState<T> {
         }
     }
 
+    /// A new get is served, joins the queue, or is refused.
     #[inline(always)]
     pub fn enter(&mut self, wait: bool) -> EnterReply<Slot<T>>
         ensures { Enters self.old wait result self.new }
@@ -232,6 +244,7 @@ impl<T: Drop> PoolState<T> {
         }
     }
 
+    /// A queued get is served, stays, or leaves the queue.
     pub fn ask(&mut self, ticket: Ticket, expired: bool) -> AskReply<Slot<T>>
         ensures { Asks self.old ticket expired result self.new }
     {
@@ -250,6 +263,7 @@ impl<T: Drop> PoolState<T> {
         }
     }
 
+    /// A get that holds a place goes on.
     pub fn again(&mut self, allowance: Option<usize>) -> AgainReply<Slot<T>>
         ensures served { AsksAgain self.old allowance result self.new }
         ensures allowed { IsWithinAllowance allowance result }
@@ -261,6 +275,7 @@ impl<T: Drop> PoolState<T> {
         AgainReply::Served(self.serve(allowance))
     }
 
+    /// An object under preparation is given up. Its get keeps the place.
     pub fn discard(&mut self) -> StepReply
         ensures { Discards self.old result self.new }
     {
@@ -272,6 +287,7 @@ impl<T: Drop> PoolState<T> {
         StepReply::Done
     }
 
+    /// A creation has ended well: its place is that of an object.
     pub fn created(&mut self) -> CreatedReply
         ensures { Creates self.old result self.new }
     {
@@ -285,6 +301,7 @@ impl<T: Drop> PoolState<T> {
         CreatedReply::Created(number)
     }
 
+    /// A creation has ended without an object, and its place is free.
     pub fn failed(&mut self) -> StepReply
         ensures { Fails self.old result self.new }
     {
@@ -296,6 +313,7 @@ impl<T: Drop> PoolState<T> {
         StepReply::Done
     }
 
+    /// An object is given up, and its place is free.
     pub fn refused(&mut self) -> StepReply
         ensures { Refuses self.old result self.new }
     {
@@ -307,6 +325,7 @@ impl<T: Drop> PoolState<T> {
         StepReply::Done
     }
 
+    /// An object comes back: it is idle, or there are too many, or no handle is left.
     pub fn back(&mut self, slot: Slot<T>) -> BackReply<Slot<T>>
         ensures { TakesBack self.old slot result self.new }
     {
@@ -328,6 +347,7 @@ impl<T: Drop> PoolState<T> {
         BackReply::Kept
     }
 
+    /// A get gives back what it holds.
     pub fn cancel(&mut self, held: Held) -> StepReply
         ensures { Cancels self.old held result self.new }
     {
@@ -352,6 +372,7 @@ impl<T: Drop> PoolState<T> {
         }
     }
 
+    /// How the pool stands. A get without an object counts against the idle ones, and waits if none is left for it.
     pub fn status(&mut self) -> Status
         ensures { Stands self.old result self.new }
     {
@@ -365,6 +386,7 @@ impl<T: Drop> PoolState<T> {
         }
     }
 
+    /// An object leaves for good.
     pub fn take(&mut self) -> TakeReply
         ensures { Takes self.old result self.new }
     {
@@ -377,6 +399,7 @@ impl<T: Drop> PoolState<T> {
         TakeReply::Taken { detach }
     }
 
+    /// Sets the limit of an open pool, and gives up what is beyond it, from the front.
     pub fn resize(&mut self, limit: usize) -> Result<(), AllocError>
         ensures { Resizes self.old limit result self.new }
     {
@@ -395,6 +418,7 @@ impl<T: Drop> PoolState<T> {
         Ok(())
     }
 
+    /// Gives up the idle objects that are not kept.
     pub fn retain<R: Retainer<T>>(
         &mut self,
         retainer: &mut R,
@@ -409,6 +433,7 @@ impl<T: Drop> PoolState<T> {
         }
     }
 
+    /// Refuses those that wait, and drops what is idle.
     pub fn close(&mut self)
         ensures { Closes self.old self.new }
     {
@@ -417,6 +442,7 @@ impl<T: Drop> PoolState<T> {
         self.gate.close();
     }
 
+    /// One handle more, if one is left.
     pub fn clone_handle(&mut self) -> HandleReply
         ensures { Clones self.old result self.new }
     {
@@ -427,6 +453,7 @@ impl<T: Drop> PoolState<T> {
         HandleReply::Done
     }
 
+    /// One handle less. The last takes what is idle with it.
     pub fn drop_handle(&mut self) -> HandleReply
         ensures { DropsHandle self.old result self.new }
     {
@@ -442,6 +469,7 @@ impl<T: Drop> PoolState<T> {
         HandleReply::Done
     }
 
+    /// Whether there is one handle more, as one is left.
     pub fn upgrade(&mut self) -> bool
         ensures { Upgrades self.old result self.new }
     {

@@ -38,6 +38,7 @@ impl<M: Manager, F: SyncHook<M>, A: AsyncHook<M>, C: Clock, R: Wait + Drop, L: L
     R,
     L,
 > {
+    /// Whether there is one handle more, as one is left.
     pub fn upgrade(&self) -> bool {
         let mut step = self.lock.begin();
         let is_counted = step.kept().upgrade();
@@ -45,26 +46,31 @@ impl<M: Manager, F: SyncHook<M>, A: AsyncHook<M>, C: Clock, R: Wait + Drop, L: L
         is_counted
     }
 
+    /// How the pool stands. A look, which makes nobody due.
     pub fn status(&self) -> Status {
         self.lock.look().status()
     }
 
+    /// Whether the pool was closed. A look.
     pub fn is_closed(&self) -> bool {
         self.lock.look().is_closed()
     }
 
+    /// A copy of the journal. A look.
     pub fn journal(&self) -> Result<Journal, AllocError>
         ensures { IfOk result HasSteps }
     {
         self.lock.look().journal()
     }
 
+    /// Closes the pool. What is idle is dropped with the lock taken.
     pub fn close(&self) {
         let mut step = self.lock.begin();
         step.kept().close();
         self.lock.end(step);
     }
 
+    /// Sets the limit. What is given up is dropped with the lock taken.
     pub fn resize(&self, limit: usize) -> Result<(), AllocError> {
         let mut step = self.lock.begin();
         let resized = step.kept().resize(limit);
@@ -72,6 +78,7 @@ impl<M: Manager, F: SyncHook<M>, A: AsyncHook<M>, C: Clock, R: Wait + Drop, L: L
         resized
     }
 
+    /// Gives up the idle objects that are not kept. The retainer is asked with the lock taken.
     pub fn retain<K: Retainer<M::Type>>(
         &self,
         retainer: &mut K,

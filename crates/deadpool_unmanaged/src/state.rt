@@ -69,54 +69,63 @@ impl<T: Drop> PoolState<T> {
         }
     }
 
+    /// Whether the pool has closed.
     pub fn is_closed(&self) -> bool
         ensures { result ≡ not self.now.pool.is_open }
     {
         self.gets.is_closed()
     }
 
+    /// The number of the ticket that the next get has.
     pub fn next_get(&self) -> usize
         ensures { result ≡ self.now.next_get }
     {
         self.gets.next_number()
     }
 
+    /// The number of the ticket that the next add has.
     pub fn next_add(&self) -> usize
         ensures { result ≡ self.now.next_add }
     {
         self.adds.next_number()
     }
 
+    /// The next get that is due to be told and was not.
     pub fn take_get_wake(&mut self) -> Option<Ticket>
         ensures { TakesGetWake self.old.pool result self.new.pool }
     {
         self.gets.take_wake()
     }
 
+    /// The next add that is due to be told and was not.
     pub fn take_add_wake(&mut self) -> Option<Ticket>
         ensures { TakesAddWake self.old.pool result self.new.pool }
     {
         self.adds.take_wake()
     }
 
+    /// Whether there is a get or an add of these.
     pub fn is_wake_due(&self) -> bool
         ensures { result ≡ has_due self.now.pool }
     {
         self.gets.is_wake_due() || self.adds.is_wake_due()
     }
 
+    /// Whether a handle is left.
     pub fn has_handle(&self) -> bool
         ensures { result ≡ nat_lt 0 self.now.pool.handles }
     {
         self.handles > 0
     }
 
+    /// Whether just one handle is left.
     pub fn is_last_handle(&self) -> bool
         ensures { result ≡ (self.now.pool.handles == 1) }
     {
         self.handles == 1
     }
 
+    /// The idle object at this position. The last is the next to go out.
     pub fn idle_at(&self, at: usize) -> Option<&T>
         ensures { option_copied result ≡ slice_get self.now.pool.idle at }
     {
@@ -138,12 +147,14 @@ impl<T: Drop> PoolState<T> {
         self.limit.saturating_sub(used)
     }
 
+    /// Whether a get that is willing to wait would join the queue.
     pub fn get_would_queue(&self) -> bool
         ensures { result ≡ get_would_queue self.now.pool }
     {
         !self.gets.is_closed() && self.free_objects() == 0
     }
 
+    /// Whether an add would join the queue.
     pub fn add_would_queue(&self) -> bool
         ensures { result ≡ add_would_queue self.now.pool }
     {
@@ -184,6 +195,7 @@ impl<T: Drop> PoolState<T> {
         }
     }
 
+    /// A new get has an object, joins its queue, or is refused.
     pub fn get_enter(&mut self, wait: bool) -> GetEnterReply<T>
         ensures enters { GetEnters self.old.pool wait result self.new.pool }
         ensures memory { result ≡ GetEnterReply.OutOfMemory → IsFull self.old.gets_room self.old.pool.gets }
@@ -205,6 +217,7 @@ impl<T: Drop> PoolState<T> {
         }
     }
 
+    /// A queued get has an object, stays, or leaves the queue.
     pub fn get_ask(&mut self, ticket: Ticket, expired: bool) -> GetAskReply<T>
         ensures { GetAsks self.old.pool ticket expired result self.new.pool }
     {
@@ -230,6 +243,7 @@ impl<T: Drop> PoolState<T> {
         }
     }
 
+    /// A queued get leaves. What it was granted goes to the next.
     pub fn get_cancel(&mut self, ticket: Ticket) -> StepReply
         ensures { GetCancels self.old.pool ticket result self.new.pool }
     {
@@ -242,6 +256,7 @@ impl<T: Drop> PoolState<T> {
         }
     }
 
+    /// A new add leaves its object, joins its queue, or has the object back.
     pub fn add_enter(&mut self, value: T, wait: bool) -> AddEnterReply<T>
         ensures enters { AddEnters self.old.pool value wait result self.new.pool }
         ensures memory { result ≡ AddEnterReply.OutOfMemory value → IsFull self.old.adds_room self.old.pool.adds }
@@ -260,6 +275,7 @@ impl<T: Drop> PoolState<T> {
         }
     }
 
+    /// A queued add leaves its object, stays, or has the object back.
     pub fn add_ask(&mut self, ticket: Ticket, value: T) -> AddAskReply<T>
         ensures { AddAsks self.old.pool ticket value result self.new.pool }
     {
@@ -274,6 +290,7 @@ impl<T: Drop> PoolState<T> {
         }
     }
 
+    /// A queued add leaves. What it was granted goes to the next.
     pub fn add_cancel(&mut self, ticket: Ticket) -> StepReply
         ensures { AddCancels self.old.pool ticket result self.new.pool }
     {
@@ -286,6 +303,7 @@ impl<T: Drop> PoolState<T> {
         }
     }
 
+    /// An object comes back: it is idle, or the pool has no use for it.
     pub fn back(&mut self, value: T) -> BackReply<T>
         ensures { TakesBack self.old.pool value result self.new.pool }
     {
@@ -301,6 +319,7 @@ impl<T: Drop> PoolState<T> {
         BackReply::Kept
     }
 
+    /// An object leaves for good, and its room is free.
     pub fn take(&mut self) -> TakeReply
         ensures { Takes self.old.pool result self.new.pool }
     {
@@ -312,6 +331,7 @@ impl<T: Drop> PoolState<T> {
         TakeReply::Taken
     }
 
+    /// Refuses those that wait, and drops what is idle.
     pub fn close(&mut self)
         ensures { self.new.pool ≡ closed_pool self.old.pool }
     {
@@ -320,6 +340,7 @@ impl<T: Drop> PoolState<T> {
         self.idle.clear();
     }
 
+    /// How the pool stands.
     pub fn status(&self) -> Status
         ensures { result ≡ status_of self.now.pool }
     {
@@ -332,6 +353,7 @@ impl<T: Drop> PoolState<T> {
         }
     }
 
+    /// One handle more, if one is left.
     pub fn clone_handle(&mut self) -> HandleReply
         ensures { Clones self.old.pool result self.new.pool }
     {
@@ -342,6 +364,7 @@ impl<T: Drop> PoolState<T> {
         HandleReply::Done
     }
 
+    /// One handle less. The last takes what is idle with it.
     pub fn drop_handle(&mut self) -> HandleReply
         ensures { DropsHandle self.old.pool result self.new.pool }
     {
@@ -358,6 +381,7 @@ impl<T: Drop> PoolState<T> {
         HandleReply::Done
     }
 
+    /// Whether there is one handle more, as one is left.
     pub fn upgrade(&mut self) -> bool
         ensures { Upgrades self.old.pool result self.new.pool }
     {

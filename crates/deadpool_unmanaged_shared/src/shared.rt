@@ -33,6 +33,7 @@ impl<T: Drop, C: Clock, R: Wait + Drop> Shared<T, C, R> {
         }
     }
 
+    /// An object at once, or why there is none.
     pub fn try_get(&self) -> Result<T, PoolError> {
         let mut step = self.lock.begin();
         let got = step.kept().try_get();
@@ -40,6 +41,7 @@ impl<T: Drop, C: Clock, R: Wait + Drop> Shared<T, C, R> {
         got
     }
 
+    /// Adds an object at once, or gives it back with the reason.
     pub fn try_add(&self, value: T) -> Result<(), (T, PoolError)> {
         let mut step = self.lock.begin();
         let added = step.kept().try_add(value);
@@ -63,16 +65,19 @@ impl<T: Drop, C: Clock, R: Wait + Drop> Shared<T, C, R> {
         reply
     }
 
+    /// Closes the pool. What is idle is dropped with the lock taken.
     pub fn close(&self) {
         let mut step = self.lock.begin();
         step.kept().close();
         self.lock.end(step);
     }
 
+    /// How the pool stands. A look, which makes nobody due.
     pub fn status(&self) -> Status {
         self.lock.look().status()
     }
 
+    /// Whether the pool was closed. A look.
     pub fn is_closed(&self) -> bool {
         self.lock.look().is_closed()
     }
