@@ -1,9 +1,9 @@
 //! Puts each line of the input into a buffer of a pool of one.
 use deadpool::NoTime;
 use deadpool::managed::{Ledgers, NoHook, Object, PoolBuilder};
+use deadpool_buffers::{BufferPool, Buffers, fill};
 use deadpool_threads::{Plain, PoolUser, Waiter, lend};
 use pool_scripts::{Fault, read_line, without_line_feed, write_out};
-use poolrun_buffers::{BufferPool, Buffers, fill};
 use std::alloc::Global;
 use std::io::{BufRead, Write};
 use std::random::RandomSource;

@@ -82,7 +82,7 @@ fn kinds_of(text: String) -> Vec<String> {
 
 #[test]
 fn the_scripts_of_its_tests_have_their_replies() {
-    let folder = Path::new(env!("CARGO_MANIFEST_DIR")).join("../../crates/poolrun_tests/src");
+    let folder = Path::new(env!("CARGO_MANIFEST_DIR")).join("../../crates/test_poolrun/src");
     let mut files = Vec::new();
     below(&folder, &mut files);
     let mut outcome = Outcome::default();

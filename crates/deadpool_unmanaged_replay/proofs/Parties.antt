@@ -1,0 +1,130 @@
+-- Parties that start, are cancelled, or were never there.
+use Rattle.std.proofs.Common.{◌≡◌, ◌≢◌, ℕ, ◌+◌, List, [], ◌∷◌, ◌++◌, Bool, true, false, eqb, nat_lt, length, set, map, refl, sym, ap, ◌∙◌, subst, arith, Option, Some, None, eq-eqb}
+use Rattle.std.specs.List.{slice_get}
+use Rattle.std.specs.declared.time.Duration.{Duration}
+use Rattle.std.proofs.lemmas.Bool.Decides.{nat_tests}
+use Rattle.std.proofs.lemmas.List.{map-append}
+use Rattle.deadpool_gate.specs.Numbers.{largest_usize}
+use Rattle.deadpool_parts.specs.declared.moment.Runtime.{Runtime}
+use Rattle.deadpool_gate.proofs.Owners.{NoTicket, owned-push, renamed-push}
+use Rattle.deadpool_unmanaged_replay.specs.Image.{image, party_of, has_get, has_add, IsCounted}
+use Rattle.deadpool_unmanaged_replay.specs.RunLaws.{IsWell}
+use Rattle.deadpool_unmanaged_replay.specs.Moves.{NobodyWaits, unsettled, by_party}
+use Rattle.deadpool_unmanaged_replay.specs.Pool.{Pool}
+use Rattle.deadpool_unmanaged.specs.State.{State}
+use Rattle.deadpool_unmanaged.specs.StateSteps.{without_get, without_add}
+use Rattle.deadpool_unmanaged_replay.specs.Steps.{cancelled}
+use Rattle.deadpool_unmanaged_replay.specs.TrialFields.{CancelsVisitor}
+use Rattle.deadpool_unmanaged.specs.declared.add.AddStage.TheVariants as add
+use Rattle.deadpool_unmanaged.specs.declared.get.GetStage.TheVariants as get
+use Rattle.deadpool_unmanaged_replay.specs.declared.moves.Item.{Item}
+use Rattle.deadpool_unmanaged_replay.specs.declared.moves.Move.{Move}
+use Rattle.deadpool_unmanaged_replay.specs.declared.moves.Move.TheVariants as move
+use Rattle.deadpool_unmanaged_replay.specs.declared.moves.Reply.{Reply}
+use Rattle.deadpool_unmanaged_replay.specs.declared.moves.Reply.TheVariants as reply
+use Rattle.deadpool_unmanaged_replay.specs.declared.trial.Visitor.{Visitor}
+use Rattle.deadpool_unmanaged_replay.specs.declared.trial.Visitor.TheVariants as visitor
+use Rattle.deadpool_parts.specs.declared.replies.StepReply.TheVariants.{Done, Unknown}
+use Rattle.deadpool_unmanaged_replay.proofs.Follows.{Follows, by_settling, by_resting}
+use Rattle.deadpool_unmanaged_replay.proofs.Visitors.{party-here, counted-set, image-set, left-none, nobody-set, counted-without_get, image-without_get, counted-without_add, image-without_add}
+
+-- no handle is left
+pub no_handle : (b : Bool) (n : ℕ) → b ≡ nat_lt 0 n → b ≡ false → eqb n 0 ≡ true
+no_handle b n e h = grind (arith, nat_tests)
+
+-- one is left
+pub some_handle : (b : Bool) (n : ℕ) → b ≡ nat_lt 0 n → b ≡ true → eqb n 0 ≡ false
+some_handle b n e h = grind (arith, nat_tests)
+
+-- two numbers are not the same
+pub differs : (n m : ℕ) → n ≢ m → eqb n m ≡ false
+differs n m h = grind (arith, nat_tests)
+
+module _ {V : Type 0} (runtime : Option Runtime) (most next : ℕ) (d : State (Item V)) (visitors : List (Option (Visitor V))) (out : List (Item V)) (k : IsCounted d visitors out)
+    (well : IsWell (image runtime most next d visitors out)) where
+  abbrev pool : Pool V
+  pool = image runtime most next d visitors out
+
+  -- a move that changes nothing
+  pub stays : (m : Move V) (answer : Reply V) → unsettled true m pool ≡ (answer, pool) → Follows m pool answer d visitors out pool
+  stays m answer makes = by_resting m pool well answer runtime most next d visitors out k true makes d refl well.lawful.nobody_waits
+
+  -- ---- a party starts
+
+  module _ (new : Option (Visitor V)) (no_get : NoTicket has_get new) (no_add : NoTicket has_add new) where
+    counted-push : IsCounted d (visitors ++ new ∷ []) out
+    counted-push = record { gets = owned-push has_get d.gets visitors k.gets new no_get; adds = owned-push has_add d.adds visitors k.adds new no_add; outside = k.outside }
+
+    image-push : (later : ℕ) → image runtime most later d (visitors ++ new ∷ []) out ≡ record (image runtime most later d visitors out) { parties = map party_of visitors ++ party_of new ∷ [] }
+    image-push later = rw (map-append party_of visitors (new ∷ []), renamed-push has_get d.gets visitors k.gets new, renamed-push has_add d.adds visitors k.adds new) refl
+
+    starts : (m : Move V) (number later : ℕ) → number ≡ length (map party_of visitors)
+        → unsettled true m pool ≡ (reply.Started (length (map party_of visitors)), record (image runtime most later d visitors out) { parties = map party_of visitors ++ party_of new ∷ [] })
+        → Follows m pool (reply.Started number) d (visitors ++ new ∷ []) out (image runtime most later d (visitors ++ new ∷ []) out)
+    starts m number later is makes =
+        let after = image-push later in
+        let nobody = well.lawful.nobody_waits in
+        rw is
+        (by_resting m pool well (reply.Started (length (map party_of visitors))) runtime most later d (visitors ++ new ∷ []) out counted-push true
+        (makes ∙ ap (λ (q : Pool V). (reply.Started (length (map party_of visitors)), q)) (sym after)) d refl
+        (subst NobodyWaits (sym after) (record { objects = nobody.objects; room = nobody.room })))
+
+  module _ (some : eqb d.handles 0 ≡ false) (few : nat_lt (length (map party_of visitors)) most ≡ true) (number : ℕ) (is : number ≡ length (map party_of visitors)) where
+    pub get_started : (wait : Option Duration)
+        → Follows (move.Get wait) pool (reply.Started number) d (visitors ++ Some (visitor.Get (get.Unpolled wait)) ∷ []) out (image runtime most next d (visitors ++ Some (visitor.Get (get.Unpolled wait)) ∷ []) out)
+    get_started wait = starts (Some (visitor.Get (get.Unpolled wait))) (λ u. refl) (λ u. refl) (move.Get wait) number next is (rw (some, few) refl)
+
+    pub add_started : (v : V) (item : Item V) (later : ℕ) → eqb next largest_usize ≡ false → item ≡ record { number = next; value = v } → later ≡ next + 1
+        → Follows (move.Add v) pool (reply.Started number) d (visitors ++ Some (visitor.Add (add.Unpolled item)) ∷ []) out (image runtime most later d (visitors ++ Some (visitor.Add (add.Unpolled item)) ∷ []) out)
+    add_started v item later left named more =
+        rw (named, more)
+        (starts (Some (visitor.Add (add.Unpolled (record { number = next; value = v })))) (λ u. refl) (λ u. refl) (move.Add v) number (next + 1) is (rw (some, few, left) refl))
+
+  -- ---- a party is cancelled
+
+  module _ (n : ℕ) where
+    abbrev Cancelled : State (Item V) → Type 0
+    Cancelled d' = Follows (move.Cancel n) pool reply.Cancelled d' (set visitors n None) out (image runtime most next d' (set visitors n None) out)
+
+    makes_cancelled : (old : Visitor V) → slice_get visitors n ≡ Some (Some old) → unsettled true (move.Cancel n) pool ≡ (reply.Cancelled, cancelled n pool)
+    makes_cancelled (visitor.Get stage) here =
+        ap (λ o. by_party o (λ party q. (reply.Cancelled, cancelled n q)) pool) (party-here runtime most next d visitors out k n (Some (visitor.Get stage)) None here)
+    makes_cancelled (visitor.Add stage) here =
+        ap (λ o. by_party o (λ party q. (reply.Cancelled, cancelled n q)) pool) (party-here runtime most next d visitors out k n (Some (visitor.Add stage)) None here)
+
+    -- one that is in no queue
+    unqueued : (old : Visitor V) → slice_get visitors n ≡ Some (Some old) → NoTicket has_get (Some old) → NoTicket has_add (Some old) → (d' : State (Item V)) → d' ≡ d → Cancelled d'
+    unqueued old here no_get no_add d' same =
+        let gone = left-none runtime most next d visitors out k n (Some old) None here no_get no_add in
+        let after : image runtime most next d (set visitors n None) out ≡ cancelled n pool =
+        image-set runtime most next d visitors out k n (Some old) None here no_get (λ u. refl) no_add (λ u. refl) ∙ ap (λ (q : Pool V). record q { parties = set (map party_of visitors) n None }) (sym gone) in
+        let makes = makes_cancelled old here ∙ ap (λ (q : Pool V). (reply.Cancelled, q)) (sym after) in
+        by_resting (move.Cancel n) pool well reply.Cancelled runtime most next d (set visitors n None) out
+        (counted-set runtime most next d visitors out k n (Some old) None here no_get (λ u. refl) no_add (λ u. refl)) true makes d' same
+        (nobody-set runtime most next d visitors out k n (Some old) None here no_get (λ u. refl) no_add (λ u. refl) well.lawful.nobody_waits)
+
+    pub cancels : (old : Visitor V) → slice_get visitors n ≡ Some (Some old) → (d' : State (Item V)) → CancelsVisitor old d d' → Cancelled d'
+    cancels (visitor.Get (get.Unpolled wait)) here d' same = unqueued (visitor.Get (get.Unpolled wait)) here (λ u. refl) (λ u. refl) d' same
+    cancels (visitor.Get get.Finished) here d' same = unqueued (visitor.Get get.Finished) here (λ u. refl) (λ u. refl) d' same
+    cancels (visitor.Add (add.Unpolled item)) here d' same = unqueued (visitor.Add (add.Unpolled item)) here (λ u. refl) (λ u. refl) d' same
+    cancels (visitor.Add add.Finished) here d' same = unqueued (visitor.Add add.Finished) here (λ u. refl) (λ u. refl) d' same
+    cancels (visitor.Get (get.Queued t deadline)) here d' (Unknown, e) =
+        let mine = k.gets.listed n t (Some (visitor.Get (get.Queued t deadline))) here (eq-eqb t t refl) in
+        absurd (let differ : true ≡ false = sym mine.0 ∙ e.0 in cc)
+    cancels (visitor.Get (get.Queued t deadline)) here d' (Done, e) =
+        let old : Visitor V = visitor.Get (get.Queued t deadline) in
+        let mine = k.gets.listed n t (Some old) here (eq-eqb t t refl) in
+        let after = image-without_get runtime most next d visitors out k n (Some old) None here t mine.1 (λ u. refl) (λ u. refl) (λ u. refl) (λ u. refl) in
+        let makes = makes_cancelled old here ∙ ap (λ (q : Pool V). (reply.Cancelled, q)) (sym after) in
+        by_settling (move.Cancel n) pool well reply.Cancelled runtime most next (without_get t d) (set visitors n None) out
+        (counted-without_get runtime most next d visitors out k n (Some old) None here t mine.1 (λ u. refl) (λ u. refl) (λ u. refl) (λ u. refl)) true makes d' e.1
+    cancels (visitor.Add (add.Queued t item)) here d' (Unknown, e) =
+        let mine = k.adds.listed n t (Some (visitor.Add (add.Queued t item))) here (eq-eqb t t refl) in
+        absurd (let differ : true ≡ false = sym mine.0 ∙ e.0 in cc)
+    cancels (visitor.Add (add.Queued t item)) here d' (Done, e) =
+        let old : Visitor V = visitor.Add (add.Queued t item) in
+        let mine = k.adds.listed n t (Some old) here (eq-eqb t t refl) in
+        let after = image-without_add runtime most next d visitors out k n (Some old) None here t mine.1 (λ u. refl) (λ u. refl) (λ u. refl) (λ u. refl) in
+        let makes = makes_cancelled old here ∙ ap (λ (q : Pool V). (reply.Cancelled, q)) (sym after) in
+        by_settling (move.Cancel n) pool well reply.Cancelled runtime most next (without_add t d) (set visitors n None) out
+        (counted-without_add runtime most next d visitors out k n (Some old) None here t mine.1 (λ u. refl) (λ u. refl) (λ u. refl) (λ u. refl)) true makes d' e.1

@@ -1,0 +1,6 @@
+use Rattle.deadpool_unmanaged_replay.proofs.Well.{each_state}
+use Rattle.deadpool_unmanaged_replay.specs.RunLaws.{IsEmptyIfClosed}
+use Rattle.deadpool_unmanaged_replay.proofs.laws.closed_is_empty.Goals as goal
+
+pub returns : goal.returns
+returns g c = each_state IsEmptyIfClosed (λ p well. well.closed)

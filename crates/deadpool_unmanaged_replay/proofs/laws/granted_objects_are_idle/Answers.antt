@@ -1,0 +1,6 @@
+use Rattle.deadpool_unmanaged_replay.proofs.Well.{each_state}
+use Rattle.deadpool_unmanaged_replay.specs.RunLaws.{KeepsPromises}
+use Rattle.deadpool_unmanaged_replay.proofs.laws.granted_objects_are_idle.Goals as goal
+
+pub returns : goal.returns
+returns g c = each_state KeepsPromises (λ p well. well.promises)

@@ -1,0 +1,6 @@
+use Rattle.deadpool_unmanaged_replay.proofs.Well.{each_state, room_for_all}
+use Rattle.deadpool_unmanaged_replay.specs.RunLaws.{HasRoomForAll}
+use Rattle.deadpool_unmanaged_replay.proofs.laws.granted_room_within_limit.Goals as goal
+
+pub returns : goal.returns
+returns g c = each_state HasRoomForAll room_for_all

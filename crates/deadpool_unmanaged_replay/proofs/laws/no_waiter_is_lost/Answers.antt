@@ -1,0 +1,9 @@
+use Rattle.deadpool_unmanaged_replay.specs.RunLaws.{OthersStayQueued, OthersStand}
+use Rattle.deadpool_unmanaged_replay.proofs.Well.{each_move, moved_queued, moved_parties}
+use Rattle.deadpool_unmanaged_replay.proofs.laws.no_waiter_is_lost.Goals as goal
+
+pub returns-clause-queues : goal.returns-clause-queues
+returns-clause-queues g c = each_move OthersStayQueued moved_queued
+
+pub returns-clause-parties : goal.returns-clause-parties
+returns-clause-parties g c = each_move OthersStand moved_parties

@@ -1,0 +1,6 @@
+use Rattle.deadpool_unmanaged_replay.proofs.Well.{each_state}
+use Rattle.deadpool_unmanaged_replay.specs.RunLaws.{IsNumbered}
+use Rattle.deadpool_unmanaged_replay.proofs.laws.numbers_stand_once.Goals as goal
+
+pub returns : goal.returns
+returns g c = each_state IsNumbered (λ p well. well.numbered)

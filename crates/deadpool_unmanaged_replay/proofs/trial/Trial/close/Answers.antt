@@ -1,0 +1,27 @@
+use Rattle.std.proofs.Common.{arith}
+use Rattle.deadpool_unmanaged_replay.specs.declared.moves.Move.TheVariants as move
+use Rattle.deadpool_unmanaged_replay.specs.declared.moves.Reply.TheVariants as reply
+use Rattle.deadpool_unmanaged_replay.proofs.OtherMoves.{closes}
+use Rattle.deadpool_unmanaged_replay.proofs.Parties.{no_handle, some_handle, stays}
+use Rattle.deadpool_unmanaged_replay.proofs.trial.Trial.close.Goals as goal
+
+pub returns-then-not-has_handle : goal.returns-then-not-has_handle
+returns-then-not-has_handle g c =
+    let f = c.self.inside in
+    let none = no_handle c.has_handle.result f.core.pool.handles c.has_handle.ensures c.if-not-has_handle.true in
+    let all = stays f.runtime f.most_parties f.next f.core.pool f.visitors.items f.out.items c.self.invariant.counted c.self.invariant.well move.Close reply.NoHandle (rw none) in
+    rw (← c.self.view_is) all.gives
+
+pub invariant_of-self : goal.invariant_of-self
+invariant_of-self g c =
+    let f = c.self.inside in
+    let some = some_handle c.has_handle.result f.core.pool.handles c.has_handle.ensures c.if-not-has_handle.false in
+    let all = closes f.runtime f.most_parties f.next f.core.pool f.visitors.items f.out.items c.self.invariant.counted c.self.invariant.well some c.close.new.self.pool c.close.ensures in
+    record { counted = all.counted; well = all.well; parties = c.self.invariant.parties; places = c.self.invariant.places; hands = omega (arith, all.limit, c.self.invariant.hands) }
+
+pub returns : goal.returns
+returns g c =
+    let f = c.self.inside in
+    let some = some_handle c.has_handle.result f.core.pool.handles c.has_handle.ensures c.if-not-has_handle.false in
+    let all = closes f.runtime f.most_parties f.next f.core.pool f.visitors.items f.out.items c.self.invariant.counted c.self.invariant.well some c.close.new.self.pool c.close.ensures in
+    rw (← c.self.view_is) all.gives

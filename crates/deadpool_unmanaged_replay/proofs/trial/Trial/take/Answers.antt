@@ -1,0 +1,44 @@
+use Rattle.std.proofs.Common.{◌≡◌, ◌∙◌, Some, None, sym, arith}
+use Rattle.deadpool_unmanaged_replay.specs.Steps.{find_item, item_number}
+use Rattle.deadpool_unmanaged_replay.specs.declared.moves.Move.TheVariants as move
+use Rattle.deadpool_unmanaged_replay.specs.declared.moves.Reply.TheVariants as reply
+use Rattle.deadpool_unmanaged_replay.proofs.OtherMoves.{take_known, taken}
+use Rattle.deadpool_unmanaged_replay.proofs.Parties.{stays}
+use Rattle.deadpool_parts.proofs.Numbered.{none_there}
+use Rattle.deadpool_unmanaged_replay.proofs.trial.Trial.take.Goals as goal
+
+pub invariant_of-self : goal.invariant_of-self
+invariant_of-self g c =
+    let f = c.self.inside in
+    let none : find_item c.args.number f.out.items ≡ None = sym c.take_out.ensures.item ∙ c.in-None.is in
+    let same = c.take_out.ensures.items ∙ none_there item_number c.args.number f.out.items none in
+    let i = c.self.invariant in
+    rw same record { counted = i.counted; well = i.well; parties = i.parties; places = i.places; hands = rw c.take_out.ensures.capacity i.hands }
+
+pub returns-in-None : goal.returns-in-None
+returns-in-None g c =
+    let f = c.self.inside in
+    let none : find_item c.args.number f.out.items ≡ None = sym c.take_out.ensures.item ∙ c.in-None.is in
+    let same = c.take_out.ensures.items ∙ none_there item_number c.args.number f.out.items none in
+    let all = stays f.runtime f.most_parties f.next f.core.pool f.visitors.items f.out.items c.self.invariant.counted c.self.invariant.well (move.Take c.args.number) reply.NoSuch (rw none) in
+    rw (← c.self.view_is, same) all.gives
+
+pub after_take-requires : goal.after_take-requires
+after_take-requires g c =
+    let f = c.self.inside in
+    let here : find_item c.args.number f.out.items ≡ Some c.in-Some.item = sym c.take_out.ensures.item ∙ c.in-Some.is in
+    take_known f.runtime f.most_parties f.next f.core.pool f.visitors.items f.out.items c.self.invariant.counted c.self.invariant.well c.args.number c.in-Some.item here c.take-reply.new.self.pool c.take-reply.result c.take-reply.ensures
+
+pub invariant_of-self-in-Some : goal.invariant_of-self-in-Some
+invariant_of-self-in-Some g c =
+    let f = c.self.inside in
+    let here : find_item c.args.number f.out.items ≡ Some c.in-Some.item = sym c.take_out.ensures.item ∙ c.in-Some.is in
+    let all = taken f.runtime f.most_parties f.next f.core.pool f.visitors.items f.out.items c.self.invariant.counted c.self.invariant.well c.args.number c.in-Some.item here c.take-reply.new.self.pool c.take-reply.result c.take-reply.ensures in
+    rw c.take_out.ensures.items record { counted = all.counted; well = all.well; parties = c.self.invariant.parties; places = c.self.invariant.places; hands = omega (arith, all.limit, c.self.invariant.hands, c.take_out.ensures.capacity) }
+
+pub returns-in-Some : goal.returns-in-Some
+returns-in-Some g c =
+    let f = c.self.inside in
+    let here : find_item c.args.number f.out.items ≡ Some c.in-Some.item = sym c.take_out.ensures.item ∙ c.in-Some.is in
+    let all = taken f.runtime f.most_parties f.next f.core.pool f.visitors.items f.out.items c.self.invariant.counted c.self.invariant.well c.args.number c.in-Some.item here c.take-reply.new.self.pool c.take-reply.result c.take-reply.ensures in
+    rw (← c.self.view_is, c.take_out.ensures.items, c.after_take.ensures) all.gives

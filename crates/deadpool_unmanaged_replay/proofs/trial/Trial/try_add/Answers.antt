@@ -1,0 +1,48 @@
+use Rattle.std.proofs.Common.{arith, eq-eqb}
+use Rattle.deadpool_gate.specs.Numbers.{largest_usize}
+use Rattle.deadpool_unmanaged_replay.specs.declared.moves.Move.TheVariants as move
+use Rattle.deadpool_unmanaged_replay.specs.declared.moves.Reply.TheVariants as reply
+use Rattle.deadpool_unmanaged_replay.proofs.OtherMoves.{at_once, tried_add}
+use Rattle.deadpool_unmanaged_replay.proofs.Parties.{no_handle, some_handle, differs, stays}
+use Rattle.deadpool_unmanaged_replay.proofs.trial.Trial.try_add.Goals as goal
+
+pub returns-then-not-has_handle : goal.returns-then-not-has_handle
+returns-then-not-has_handle g c =
+    let f = c.self.inside in
+    let none = no_handle c.has_handle.result f.core.pool.handles c.has_handle.ensures c.if-not-has_handle.true in
+    let all = stays f.runtime f.most_parties f.next f.core.pool f.visitors.items f.out.items c.self.invariant.counted c.self.invariant.well (move.TryAdd c.args.value) reply.NoHandle (rw none) in
+    rw (← c.self.view_is) all.gives
+
+pub returns-in-Err : goal.returns-in-Err
+returns-in-Err g c =
+    let f = c.self.inside in
+    let some = some_handle c.has_handle.result f.core.pool.handles c.has_handle.ensures c.if-not-has_handle.false in
+    let full = eq-eqb f.next largest_usize c.in-Err.ensures.0 in
+    let all = stays f.runtime f.most_parties f.next f.core.pool f.visitors.items f.out.items c.self.invariant.counted c.self.invariant.well (move.TryAdd c.args.value) (reply.Exhausted c.args.value) (rw (some, full)) in
+    rw (← c.self.view_is, c.in-Err.ensures.1, c.in-Err.ensures.2) all.gives
+
+pub after_try_add-requires : goal.after_try_add-requires
+after_try_add-requires g c =
+    let f = c.self.inside in
+    let some = some_handle c.has_handle.result f.core.pool.handles c.has_handle.ensures c.if-not-has_handle.false in
+    let left = differs f.next largest_usize c.in-Ok.ensures.0 in
+    at_once f.runtime f.most_parties f.next f.core.pool f.visitors.items f.out.items c.self.invariant.counted c.self.invariant.well some c.add_enter-reply.new.self.pool c.args.value left c.add_enter-reply.result (rw c.in-Ok.ensures.1 at c.add_enter-reply.ensures.enters)
+
+pub invariant_of-self : goal.invariant_of-self
+invariant_of-self g c = rw c.in-Err.ensures.2 c.self.invariant
+
+pub invariant_of-self-2 : goal.invariant_of-self-2
+invariant_of-self-2 g c =
+    let f = c.self.inside in
+    let some = some_handle c.has_handle.result f.core.pool.handles c.has_handle.ensures c.if-not-has_handle.false in
+    let left = differs f.next largest_usize c.in-Ok.ensures.0 in
+    let all = tried_add f.runtime f.most_parties f.next f.core.pool f.visitors.items f.out.items c.self.invariant.counted c.self.invariant.well some c.add_enter-reply.new.self.pool c.args.value left c.add_enter-reply.result (rw c.in-Ok.ensures.1 at c.add_enter-reply.ensures.enters) in
+    rw c.in-Ok.ensures.2 record { counted = all.counted; well = all.well; parties = c.self.invariant.parties; places = c.self.invariant.places; hands = omega (arith, all.limit, c.self.invariant.hands) }
+
+pub returns : goal.returns
+returns g c =
+    let f = c.self.inside in
+    let some = some_handle c.has_handle.result f.core.pool.handles c.has_handle.ensures c.if-not-has_handle.false in
+    let left = differs f.next largest_usize c.in-Ok.ensures.0 in
+    let all = tried_add f.runtime f.most_parties f.next f.core.pool f.visitors.items f.out.items c.self.invariant.counted c.self.invariant.well some c.add_enter-reply.new.self.pool c.args.value left c.add_enter-reply.result (rw c.in-Ok.ensures.1 at c.add_enter-reply.ensures.enters) in
+    rw (← c.self.view_is, c.after_try_add.ensures, c.in-Ok.ensures.2, c.in-Ok.ensures.1) all.gives

@@ -1,0 +1,111 @@
+-- What a trial makes of what a party comes to.
+use Rattle.std.specs.Prelude.{◌≡◌, ℕ, ⊤, List, Option, Some, None, Result, Ok, Err}
+use Rattle.futures.specs.declared.task.Poll.{Poll}
+use Rattle.futures.specs.declared.task.Poll.TheVariants as poll
+use Rattle.deadpool_parts.specs.declared.moment.Moment.{Moment}
+use Rattle.deadpool_parts.specs.declared.moment.Runtime.{Runtime}
+use Rattle.deadpool_unmanaged.specs.Adds.{PollsAdd, CancelsAdd, held_by}
+use Rattle.deadpool_unmanaged.specs.Gets.{PollsGet, CancelsGet}
+use Rattle.deadpool_unmanaged.specs.State.{State}
+use Rattle.deadpool_unmanaged_replay.specs.Steps.{with_item}
+use Rattle.deadpool_unmanaged.specs.declared.add.AddStage.{AddStage}
+use Rattle.deadpool_unmanaged.specs.declared.error.PoolError.{PoolError}
+use Rattle.deadpool_unmanaged.specs.declared.get.GetStage.{GetStage}
+use Rattle.deadpool_unmanaged_replay.specs.declared.moves.Item.{Item}
+use Rattle.deadpool_unmanaged_replay.specs.declared.moves.Reply.{Reply}
+use Rattle.deadpool_unmanaged_replay.specs.declared.moves.Reply.TheVariants as reply
+use Rattle.deadpool_unmanaged_replay.specs.declared.trial.Visitor.{Visitor}
+use Rattle.deadpool_unmanaged_replay.specs.declared.trial.Visitor.TheVariants as visitor
+use Rattle.deadpool_unmanaged_replay.specs.declared.trial.Turn.{Turn}
+use Rattle.deadpool_unmanaged_replay.specs.declared.trial.Turn.TheVariants as turn
+use Rattle.deadpool_unmanaged.specs.declared.error.PoolError.TheVariants.{Closed, Timeout}
+use Rattle.deadpool_unmanaged.specs.declared.steps.AddEnterReply.{AddEnterReply}
+use Rattle.deadpool_unmanaged.specs.declared.steps.AddEnterReply.TheVariants as add
+use Rattle.deadpool_unmanaged.specs.declared.steps.BackReply.{BackReply}
+use Rattle.deadpool_unmanaged.specs.declared.steps.BackReply.TheVariants as back
+use Rattle.deadpool_parts.specs.declared.replies.HandleReply.{HandleReply}
+use Rattle.deadpool_parts.specs.declared.replies.HandleReply.TheVariants as handle
+
+module _ {V : Type 0} where
+  -- what a get's poll comes to
+  abbrev pub got : Poll (Result (Item V) PoolError) → Turn V
+  got poll.Pending = turn.Pending
+  got (poll.Ready (Ok item)) = turn.Object item
+  got (poll.Ready (Err cause)) = turn.Failed cause
+
+  -- an object is named by its number
+  abbrev pub stored : Option (Item V) → Turn V
+  stored (Some item) = turn.Added item.number
+  stored None = turn.Pending
+
+  -- what an add's poll comes to, by the object that it had
+  abbrev pub added : Option (Item V) → Poll (Result (Unit {0}) (Item V × PoolError)) → Turn V
+  added held poll.Pending = turn.Pending
+  added held (poll.Ready (Ok done)) = stored held
+  added held (poll.Ready (Err (item, cause))) = turn.Refused cause item.value
+
+  -- the objects out, with the one that a turn gives
+  abbrev pub given : Turn V → List (Item V) → List (Item V)
+  given (turn.Object item) out = with_item item out
+  given _ out = out
+
+  abbrev pub reply_to : Turn V → Reply V
+  reply_to turn.Pending = reply.Pending
+  reply_to (turn.Object item) = reply.Object item.number
+  reply_to (turn.Added number) = reply.Added number
+  reply_to (turn.Failed cause) = reply.Failed cause
+  reply_to (turn.Refused cause v) = reply.Refused cause v
+
+  -- an add that does not wait is stored or refused
+  abbrev pub IsAtOnce : AddEnterReply (Item V) → Type 0
+  IsAtOnce (add.Waiting ticket item) = ⊥
+  IsAtOnce (add.OutOfMemory item) = ⊥
+  IsAtOnce _ = ⊤
+
+  abbrev pub reply_to_try_add : ℕ → AddEnterReply (Item V) → Reply V
+  reply_to_try_add number add.Stored = reply.Added number
+  reply_to_try_add number (add.Closed item) = reply.Refused Closed item.value
+  reply_to_try_add number (add.Full item) = reply.Refused Timeout item.value
+  reply_to_try_add number (add.Waiting ticket item) = reply.Pending
+  reply_to_try_add number (add.OutOfMemory item) = reply.Pending
+
+  -- the pool knew of the object that came back
+  abbrev pub IsKnown : BackReply (Item V) → Type 0
+  IsKnown (back.Unknown item) = ⊥
+  IsKnown _ = ⊤
+
+  abbrev pub reply_to_back : BackReply (Item V) → Reply V
+  reply_to_back back.Kept = reply.Kept
+  reply_to_back (back.Dropped item) = reply.Dropped
+  reply_to_back (back.Unknown item) = reply.NoSuch
+
+  -- a step that needs a handle is done, or there is none
+  abbrev pub reply_to_handle : HandleReply → Reply V
+  reply_to_handle handle.Done = reply.Done
+  reply_to_handle handle.NoHandle = reply.NoHandle
+
+  -- one poll of a get: what it comes to, the visitor and the state after it
+  pub record PolledGet (runtime : Option Runtime) (now : Moment) (stage : GetStage) (d : State (Item V)) (came_to : Option (Turn V)) (after : Option (Visitor V)) (d' : State (Item V)) : Type 0 where
+    pub polled : Poll (Result (Item V) PoolError)
+    pub left : GetStage
+    pub polls : PollsGet runtime now stage d polled left d'
+    pub turn_is : came_to ≡ Some (got polled)
+    pub visitor_is : after ≡ Some (visitor.Get left)
+
+  -- the same of an add
+  pub record PolledAdd (stage : AddStage (Item V)) (d : State (Item V)) (came_to : Option (Turn V)) (after : Option (Visitor V)) (d' : State (Item V)) : Type 0 where
+    pub polled : Poll (Result (Unit {0}) (Item V × PoolError))
+    pub left : AddStage (Item V)
+    pub polls : PollsAdd stage d polled left d'
+    pub turn_is : came_to ≡ Some (added (held_by stage) polled)
+    pub visitor_is : after ≡ Some (visitor.Add left)
+
+  -- a poll of a party that was cancelled changes nothing
+  abbrev pub PollsVisitor : Option Runtime → Moment → Option (Visitor V) → State (Item V) → Option (Turn V) → Option (Visitor V) → State (Item V) → Type 0
+  PollsVisitor runtime now None d came_to after d' = (came_to ≡ None) × (after ≡ None) × (d' ≡ d)
+  PollsVisitor runtime now (Some (visitor.Get stage)) d came_to after d' = PolledGet runtime now stage d came_to after d'
+  PollsVisitor runtime now (Some (visitor.Add stage)) d came_to after d' = PolledAdd stage d came_to after d'
+
+  abbrev pub CancelsVisitor : Visitor V → State (Item V) → State (Item V) → Type 0
+  CancelsVisitor (visitor.Get stage) d d' = CancelsGet stage d d'
+  CancelsVisitor (visitor.Add stage) d d' = CancelsAdd stage d d'

@@ -1,4 +1,0 @@
-use Rattle.lock_tests.proofs.tests.holders.builds.is_refused.Given as goal
-
-abbrev pub ghosts-cause_of : goal.ghosts-cause_of
-ghosts-cause_of g a = record { names = a.blanks }

@@ -1,4 +1,0 @@
-use Rattle.lock_tests.proofs.tests.outside.calls.watch.Given as goal
-
-abbrev pub ghosts-watched : goal.ghosts-watched
-ghosts-watched g a = record { names = a.blanks }

@@ -1,4 +1,0 @@
-use Rattle.lock_tests.proofs.tests.outside.drops.try_way.Given as goal
-
-abbrev pub ghosts-answered : goal.ghosts-answered
-ghosts-answered g a = record { names = a.blanks }

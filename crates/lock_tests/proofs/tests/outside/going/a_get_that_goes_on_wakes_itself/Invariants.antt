@@ -1,4 +1,0 @@
-use Rattle.lock_tests.proofs.tests.outside.going.a_get_that_goes_on_wakes_itself.Given as goal
-
-abbrev pub ghosts-goes_on : goal.ghosts-goes_on
-ghosts-goes_on g a = record { names = a.blanks }

@@ -1,4 +1,0 @@
-use Rattle.refused_memory_tests.proofs.tests.hostile.shared_pools.play_one.Given as goal
-
-abbrev pub ghosts-play_with : goal.ghosts-play_with
-ghosts-play_with g a = record { names = a.blanks }

@@ -1,4 +1,0 @@
-use Rattle.refused_memory_tests.proofs.tests.scarce.shared_pools.try_once.Given as goal
-
-abbrev pub ghosts-try_over : goal.ghosts-try_over
-ghosts-try_over g a = record { names = a.blanks }

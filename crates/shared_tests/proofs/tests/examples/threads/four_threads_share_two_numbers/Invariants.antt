@@ -1,4 +1,0 @@
-use Rattle.shared_tests.proofs.tests.examples.threads.four_threads_share_two_numbers.Given as goal
-
-abbrev pub ghosts-share : goal.ghosts-share
-ghosts-share g a = record { names = a.blanks }

@@ -1,4 +1,0 @@
-use Rattle.shared_tests.proofs.tests.replays.oracle.difference.Given as goal
-
-abbrev pub ghosts-difference_with : goal.ghosts-difference_with
-ghosts-difference_with g a = record { names = a.blanks }

@@ -1,4 +1,0 @@
-use Rattle.shared_tests.proofs.tests.replays.play.play.Given as goal
-
-abbrev pub ghosts-play_with : goal.ghosts-play_with
-ghosts-play_with g a = record { names = a.blanks }

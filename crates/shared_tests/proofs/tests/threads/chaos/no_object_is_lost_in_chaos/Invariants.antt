@@ -1,4 +1,0 @@
-use Rattle.shared_tests.proofs.tests.threads.chaos.no_object_is_lost_in_chaos.Given as goal
-
-abbrev pub ghosts-chaos : goal.ghosts-chaos
-ghosts-chaos g a = record { names = a.blanks }

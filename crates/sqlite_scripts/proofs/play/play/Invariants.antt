@@ -1,4 +1,0 @@
-use Rattle.sqlite_scripts.proofs.play.play.Given as goal
-
-abbrev pub ghosts-over : goal.ghosts-over
-ghosts-over g a = record { names = a.blanks }

@@ -1,4 +1,0 @@
-use Rattle.steps_tests.proofs.tests.play.play_over.Given as goal
-
-abbrev pub ghosts-play_script : goal.ghosts-play_script
-ghosts-play_script g a = record { names = a.blanks }

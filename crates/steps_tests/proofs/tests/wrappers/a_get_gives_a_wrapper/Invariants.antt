@@ -1,4 +1,0 @@
-use Rattle.steps_tests.proofs.tests.wrappers.a_get_gives_a_wrapper.Given as goal
-
-abbrev pub ghosts-hands_out_wrappers : goal.ghosts-hands_out_wrappers
-ghosts-hands_out_wrappers g a = record { names = a.blanks }

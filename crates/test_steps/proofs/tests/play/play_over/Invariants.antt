@@ -1,0 +1,4 @@
+use Rattle.test_steps.proofs.tests.play.play_over.Given as goal
+
+abbrev pub ghosts-play_script : goal.ghosts-play_script
+ghosts-play_script g a = record { names = a.blanks }

@@ -1,6 +1,0 @@
-use Rattle.unmanaged_replay.proofs.Well.{each_state}
-use Rattle.unmanaged_replay.specs.RunLaws.{IsEmptyIfClosed}
-use Rattle.unmanaged_replay.proofs.laws.closed_is_empty.Goals as goal
-
-pub returns : goal.returns
-returns g c = each_state IsEmptyIfClosed (λ p well. well.closed)

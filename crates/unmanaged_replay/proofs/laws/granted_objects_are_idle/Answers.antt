@@ -1,6 +1,0 @@
-use Rattle.unmanaged_replay.proofs.Well.{each_state}
-use Rattle.unmanaged_replay.specs.RunLaws.{KeepsPromises}
-use Rattle.unmanaged_replay.proofs.laws.granted_objects_are_idle.Goals as goal
-
-pub returns : goal.returns
-returns g c = each_state KeepsPromises (λ p well. well.promises)

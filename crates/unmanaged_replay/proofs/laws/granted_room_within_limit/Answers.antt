@@ -1,6 +1,0 @@
-use Rattle.unmanaged_replay.proofs.Well.{each_state, room_for_all}
-use Rattle.unmanaged_replay.specs.RunLaws.{HasRoomForAll}
-use Rattle.unmanaged_replay.proofs.laws.granted_room_within_limit.Goals as goal
-
-pub returns : goal.returns
-returns g c = each_state HasRoomForAll room_for_all

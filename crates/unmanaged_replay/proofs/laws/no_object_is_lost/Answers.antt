@@ -1,6 +1,0 @@
-use Rattle.unmanaged_replay.specs.RunLaws.{OthersStayInPool}
-use Rattle.unmanaged_replay.proofs.Well.{each_move, moved_objects}
-use Rattle.unmanaged_replay.proofs.laws.no_object_is_lost.Goals as goal
-
-pub returns : goal.returns
-returns g c = each_move OthersStayInPool moved_objects

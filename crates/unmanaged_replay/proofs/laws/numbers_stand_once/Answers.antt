@@ -1,6 +1,0 @@
-use Rattle.unmanaged_replay.proofs.Well.{each_state}
-use Rattle.unmanaged_replay.specs.RunLaws.{IsNumbered}
-use Rattle.unmanaged_replay.proofs.laws.numbers_stand_once.Goals as goal
-
-pub returns : goal.returns
-returns g c = each_state IsNumbered (λ p well. well.numbered)

@@ -1,6 +1,0 @@
-use Rattle.unmanaged_replay.proofs.Well.{each_state, listed_once}
-use Rattle.unmanaged_replay.specs.RunLaws.{IsListedOnce}
-use Rattle.unmanaged_replay.proofs.laws.party_in_one_list.Goals as goal
-
-pub returns : goal.returns
-returns g c = each_state IsListedOnce listed_once

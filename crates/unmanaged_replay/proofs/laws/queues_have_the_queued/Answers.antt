@@ -1,6 +1,0 @@
-use Rattle.unmanaged_replay.proofs.Well.{each_state}
-use Rattle.unmanaged_replay.specs.RunLaws.{HasTheQueued}
-use Rattle.unmanaged_replay.proofs.laws.queues_have_the_queued.Goals as goal
-
-pub returns : goal.returns
-returns g c = each_state HasTheQueued (λ p well. record { gets = well.gets.marks; adds = well.adds.marks })

@@ -1,5 +1,0 @@
-use Rattle.unmanaged_replay.proofs.Well.{ends_well}
-use Rattle.unmanaged_replay.proofs.laws.run_ends_well.Goals as goal
-
-pub returns : goal.returns
-returns g c = ends_well
