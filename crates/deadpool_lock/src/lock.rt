@@ -60,7 +60,7 @@ impl<L: Wakes, R: Wait> StepLock<L, R> {
         Step { kept: self.look() }
     }
 
-    /// Takes the lock for a look, which leaves what it keeps as it is and so tells nobody.
+    /// Takes the lock for what makes nobody due, such as a status, and so tells nobody.
     #[inline]
     pub fn look(&self) -> MutexGuard<'_, L> {
         match self.kept.try_lock() {

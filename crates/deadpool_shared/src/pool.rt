@@ -52,13 +52,13 @@ pub struct WeakPool<
 
 // Asks a predicate about the idle objects, and has the manager told of those that it rejects.
 #[derive(Drop)]
-struct Asking<'a, P, M> {
+struct ByPredicate<'a, P, M> {
     predicate: P,
     manager: &'a M,
 }
 
 impl<M: Manager, P: FnMut(&M::Type, Metrics) -> bool + Drop> Retainer<M::Type>
-    for Asking<'_, P, M> {
+    for ByPredicate<'_, P, M> {
     ghost can_call = { λ r. P.IsAlwaysCallable r.predicate };
 
     fn keeps(&mut self, _number: usize, value: &M::Type, metrics: &Metrics) -> bool {
@@ -168,11 +168,11 @@ impl<M: Manager, F: SyncHook<M>, A: AsyncHook<M>, C: Clock, R: Wait + Drop, L: L
     ) -> Result<RetainResult<M::Type>, AllocError>
         requires { P.IsAlwaysCallable predicate }
     {
-        let mut asking = Asking {
+        let mut retainer = ByPredicate {
             predicate,
             manager: self.manager(),
         };
-        self.handle.shared().retain(&mut asking)
+        self.handle.shared().retain(&mut retainer)
     }
 
     /// The timeouts that the pool was built with.

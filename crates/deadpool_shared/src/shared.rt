@@ -46,17 +46,17 @@ impl<M: Manager, F: SyncHook<M>, A: AsyncHook<M>, C: Clock, R: Wait + Drop, L: L
         is_counted
     }
 
-    /// How the pool stands. A look, which makes nobody due.
+    /// How the pool stands, which the journal notes. It makes nobody due.
     pub fn status(&self) -> Status {
         self.lock.look().status()
     }
 
-    /// Whether the pool was closed. A look.
+    /// Whether the pool was closed. It is no step.
     pub fn is_closed(&self) -> bool {
         self.lock.look().is_closed()
     }
 
-    /// A copy of the journal. A look.
+    /// A copy of the journal. It is no step.
     pub fn journal(&self) -> Result<Journal, AllocError>
         ensures { IfOk result HasSteps }
     {

@@ -72,12 +72,12 @@ impl<T: Drop, C: Clock, R: Wait + Drop> Shared<T, C, R> {
         self.lock.end(step);
     }
 
-    /// How the pool stands. A look, which makes nobody due.
+    /// How the pool stands. It makes nobody due.
     pub fn status(&self) -> Status {
         self.lock.look().status()
     }
 
-    /// Whether the pool was closed. A look.
+    /// Whether the pool was closed.
     pub fn is_closed(&self) -> bool {
         self.lock.look().is_closed()
     }
