@@ -1,5 +1,5 @@
--- The steps of a managed pool with its journal, by their replies as plain numbers: some reply of the step is the one that is
--- given.
+-- The steps of a managed pool with its journal, by their replies as plain numbers: some reply of the step is the one
+-- that is given.
 use Rattle.std.specs.Prelude.{◌≡◌, ℕ, Bool, Option, Some, None, Result, Ok, Err, if◌then◌else◌}
 use Rattle.std.specs.declared.alloc.AllocError.{AllocError}
 use Rattle.deadpool_parts.specs.declared.config.QueueMode.{QueueMode}

@@ -13,7 +13,8 @@ use deadpool_journal::Entry;
 pub struct NotedStep {
     /// One of the constants of this module.
     pub step: u64,
-    /// Of `ENTER` whether the get may wait, of `ASK` whether it has waited long enough, of `AGAIN` whether an allowance is set.
+    /// Of `ENTER` whether the get may wait, of `ASK` whether it has waited long enough, of `AGAIN` whether an
+    /// allowance is set.
     pub is_set: bool,
     /// The ticket, the allowance, the number of an object, or the limit that the step was given.
     pub number: usize,

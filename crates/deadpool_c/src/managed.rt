@@ -12,9 +12,9 @@ use crate::reply::{Reply, Standing};
 use core::mem::replace_with;
 use std::alloc::Global;
 
-/// Makes a pool of so many objects at most, with one handle and room for so many entries of its journal: `false` if memory is
-/// wanting. `min_idle` is how many objects a resize and a retain leave idle. The block has to be empty, with a null
-/// pointer: what it led to before is forgotten.
+/// Makes a pool of so many objects at most, with one handle and room for so many entries of its journal: `false` if
+/// memory is wanting. `min_idle` is how many objects a resize and a retain leave idle. The block has to be empty,
+/// with a null pointer: what it led to before is forgotten.
 #[unsafe(no_mangle)]
 pub extern "C" fn deadpool_managed_new(
     pool: &mut ManagedPool,
@@ -52,8 +52,9 @@ pub extern "C" fn deadpool_managed_free(pool: ManagedPool)
     drop(pool.into_state());
 }
 
-/// A new get asks for a place, and joins the queue if none is free and `wait` says so: `OBJECT` with its number, its key and in
-/// `left` how many more this poll may take, `CREATE`, `EXHAUSTED`, `CLOSED`, `FULL`, `WAITING` with a ticket, or `OUT_OF_MEMORY`.
+/// A new get asks for a place, and joins the queue if none is free and `wait` says so: `OBJECT` with its number, its
+/// key and in `left` how many more this poll may take, `CREATE`, `EXHAUSTED`, `CLOSED`, `FULL`, `WAITING` with a
+/// ticket, or `OUT_OF_MEMORY`.
 #[unsafe(no_mangle)]
 pub extern "C" fn deadpool_managed_enter(pool: &mut ManagedPool, wait: bool) -> Reply
     requires { InBlock pool.old.at }
@@ -63,8 +64,8 @@ pub extern "C" fn deadpool_managed_enter(pool: &mut ManagedPool, wait: bool) -> 
     replace_with(pool, wait, managed_steps::enter)
 }
 
-/// A get in the queue asks for its place. `expired` says that it has waited long enough. `OBJECT`, `CREATE`, `EXHAUSTED`,
-/// `CLOSED`, `EXPIRED`, `WAITING` or `UNKNOWN`.
+/// A get in the queue asks for its place. `expired` says that it has waited long enough. `OBJECT`, `CREATE`,
+/// `EXHAUSTED`, `CLOSED`, `EXPIRED`, `WAITING` or `UNKNOWN`.
 #[unsafe(no_mangle)]
 pub extern "C" fn deadpool_managed_ask(
     pool: &mut ManagedPool,
@@ -78,8 +79,8 @@ pub extern "C" fn deadpool_managed_ask(
     replace_with(pool, (ticket, expired), managed_steps::ask)
 }
 
-/// A get that holds a place is served. It may take so many idle objects; as many as are idle if `is_set` is false. `OBJECT`,
-/// `CREATE`, `GOING`, `EXHAUSTED` or `UNKNOWN`.
+/// A get that holds a place is served. It may take so many idle objects; as many as are idle if `is_set` is false.
+/// `OBJECT`, `CREATE`, `GOING`, `EXHAUSTED` or `UNKNOWN`.
 #[unsafe(no_mangle)]
 pub extern "C" fn deadpool_managed_again(
     pool: &mut ManagedPool,
@@ -203,8 +204,8 @@ pub extern "C" fn deadpool_managed_status(pool: &mut ManagedPool) -> Standing
     replace_with(pool, (), managed_steps::status)
 }
 
-/// The next get in the queue that is due to be woken, and counts as told from then on: `DONE` with its ticket, `UNKNOWN`. It is no
-/// step.
+/// The next get in the queue that is due to be woken, and counts as told from then on: `DONE` with its ticket,
+/// `UNKNOWN`. It is no step.
 #[unsafe(no_mangle)]
 pub extern "C" fn deadpool_managed_take_wake(pool: &mut ManagedPool) -> Reply
     requires { InBlock pool.old.at }

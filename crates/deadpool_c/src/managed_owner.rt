@@ -1,5 +1,6 @@
-//! The steps of a managed pool's owner, and what is read without a step. A step that gives idle objects up writes their keys, in
-//! the order in which they stood, to the front of `keys`, as far as it reaches. Room for as many keys as are idle is enough.
+//! The steps of a managed pool's owner, and what is read without a step. A step that gives idle objects up writes
+//! their keys, in the order in which they stood, to the front of `keys`, as far as it reaches. Room for as many keys
+//! as are idle is enough.
 ghost use Rattle.std.specs.Prelude.{◌≡◌, ◌==◌, not, slice_get, take};
 ghost use denote.RawPtr.{InBlock};
 ghost use Rattle.deadpool_journal.specs.Steps.{ClosesNoted, UpgradesNoted};
@@ -46,8 +47,8 @@ fn write_all_keys(pool: &mut ManagedPool, keys: &mut [u64]) -> usize
     write_keys(pool, room, keys)
 }
 
-/// The pool gets another limit: `DONE` with how many keys were written, or `OUT_OF_MEMORY`, and the pool is as it was. The objects
-/// above the limit go, but for those that are to stay idle.
+/// The pool gets another limit: `DONE` with how many keys were written, or `OUT_OF_MEMORY`, and the pool is as it
+/// was. The objects above the limit go, but for those that are to stay idle.
 #[unsafe(no_mangle)]
 pub extern "C" fn deadpool_managed_resize(
     pool: &mut ManagedPool,
@@ -64,9 +65,9 @@ pub extern "C" fn deadpool_managed_resize(
     replace_with(pool, (limit, count), managed_owner_steps::resize)
 }
 
-/// Asks about each idle object once, front to back: those go whose byte of `keep` is 0, if more are idle than are to stay, and
-/// the others stay, also those beyond it. `DONE` with how many went and in `left` how many stay, or `OUT_OF_MEMORY`, and nothing
-/// has changed.
+/// Asks about each idle object once, front to back: those go whose byte of `keep` is 0, if more are idle than are to
+/// stay, and the others stay, also those beyond it. `DONE` with how many went and in `left` how many stay, or
+/// `OUT_OF_MEMORY`, and nothing has changed.
 #[unsafe(no_mangle)]
 pub extern "C" fn deadpool_managed_retain(
     pool: &mut ManagedPool,
@@ -115,8 +116,8 @@ pub extern "C" fn deadpool_managed_clone_handle(pool: &mut ManagedPool) -> Reply
     replace_with(pool, (), managed_owner_steps::clone_handle)
 }
 
-/// There is one handle less: `DONE`, `NO_HANDLE`. The last one takes all that is idle with it, and `written` is how many keys of
-/// that were written.
+/// There is one handle less: `DONE`, `NO_HANDLE`. The last one takes all that is idle with it, and `written` is how
+/// many keys of that were written.
 #[unsafe(no_mangle)]
 pub extern "C" fn deadpool_managed_drop_handle(
     pool: &mut ManagedPool,
@@ -194,8 +195,8 @@ pub extern "C" fn deadpool_managed_entry(pool: &mut ManagedPool, at: usize) -> N
     replace_with(pool, at, managed_owner_steps::entry)
 }
 
-/// Of the entry at a position, that of a retain, the object that was removed at an index: `DONE`, its number and in `left`
-/// where it stood. `UNKNOWN` if there is none. It is no step.
+/// Of the entry at a position, that of a retain, the object that was removed at an index: `DONE`, its number and in
+/// `left` where it stood. `UNKNOWN` if there is none. It is no step.
 #[unsafe(no_mangle)]
 pub extern "C" fn deadpool_managed_removal(pool: &mut ManagedPool, at: usize, index: usize) -> Reply
     requires { InBlock pool.old.at }

@@ -1,5 +1,5 @@
-//! The steps of an unmanaged pool. A step that gives idle objects up writes their keys, in the order in which they stood, to the
-//! front of `keys`, as far as it reaches. Room for as many keys as are idle is enough.
+//! The steps of an unmanaged pool. A step that gives idle objects up writes their keys, in the order in which they
+//! stood, to the front of `keys`, as far as it reaches. Room for as many keys as are idle is enough.
 ghost use Rattle.std.specs.Prelude.{◌≡◌, ◌==◌, true, [], not};
 ghost use denote.RawPtr.{InBlock};
 ghost use Rattle.deadpool_unmanaged.specs.State.{opened, status_of};
@@ -14,8 +14,8 @@ use crate::unmanaged_steps::{self, key_at};
 use core::mem::replace_with;
 use std::alloc::Global;
 
-/// Makes an open pool of so many objects at most, with one handle: `false` if memory is wanting. The block has to be empty,
-/// with a null pointer: what it led to before is forgotten.
+/// Makes an open pool of so many objects at most, with one handle: `false` if memory is wanting. The block has to be
+/// empty, with a null pointer: what it led to before is forgotten.
 #[unsafe(no_mangle)]
 pub extern "C" fn deadpool_unmanaged_new(
     pool: &mut UnmanagedPool,
@@ -60,8 +60,8 @@ fn write_keys(pool: &mut UnmanagedPool, keys: &mut [u64]) -> usize
     room
 }
 
-/// A new get asks for an object, and joins the queue if none is free and `wait` says so: `OBJECT` with its key, `CLOSED`, `FULL`,
-/// `WAITING` with a ticket, or `OUT_OF_MEMORY`.
+/// A new get asks for an object, and joins the queue if none is free and `wait` says so: `OBJECT` with its key,
+/// `CLOSED`, `FULL`, `WAITING` with a ticket, or `OUT_OF_MEMORY`.
 #[unsafe(no_mangle)]
 pub extern "C" fn deadpool_unmanaged_get_enter(pool: &mut UnmanagedPool, wait: bool) -> Reply
     requires { InBlock pool.old.at }
@@ -71,8 +71,8 @@ pub extern "C" fn deadpool_unmanaged_get_enter(pool: &mut UnmanagedPool, wait: b
     replace_with(pool, wait, unmanaged_steps::get_enter)
 }
 
-/// A get in the queue asks for its object. `expired` says that it has waited long enough. `OBJECT`, `CLOSED`, `EXPIRED`,
-/// `WAITING` or `UNKNOWN`.
+/// A get in the queue asks for its object. `expired` says that it has waited long enough. `OBJECT`, `CLOSED`,
+/// `EXPIRED`, `WAITING` or `UNKNOWN`.
 #[unsafe(no_mangle)]
 pub extern "C" fn deadpool_unmanaged_get_ask(
     pool: &mut UnmanagedPool,
@@ -96,8 +96,8 @@ pub extern "C" fn deadpool_unmanaged_get_cancel(pool: &mut UnmanagedPool, ticket
     replace_with(pool, ticket, unmanaged_steps::get_cancel)
 }
 
-/// A new add brings an object by its key, and joins the queue if there is no room and `wait` says so: `STORED`, or with the key
-/// `CLOSED`, `FULL`, `WAITING` with a ticket, or `OUT_OF_MEMORY`.
+/// A new add brings an object by its key, and joins the queue if there is no room and `wait` says so: `STORED`, or
+/// with the key `CLOSED`, `FULL`, `WAITING` with a ticket, or `OUT_OF_MEMORY`.
 #[unsafe(no_mangle)]
 pub extern "C" fn deadpool_unmanaged_add_enter(
     pool: &mut UnmanagedPool,
@@ -179,8 +179,8 @@ pub extern "C" fn deadpool_unmanaged_clone_handle(pool: &mut UnmanagedPool) -> R
     replace_with(pool, (), unmanaged_steps::clone_handle)
 }
 
-/// There is one handle less: `DONE`, `NO_HANDLE`. The last one takes all that is idle with it, and `written` is how many keys of
-/// that were written.
+/// There is one handle less: `DONE`, `NO_HANDLE`. The last one takes all that is idle with it, and `written` is how
+/// many keys of that were written.
 #[unsafe(no_mangle)]
 pub extern "C" fn deadpool_unmanaged_drop_handle(
     pool: &mut UnmanagedPool,
@@ -211,8 +211,8 @@ pub extern "C" fn deadpool_unmanaged_upgrade(pool: &mut UnmanagedPool) -> bool
     replace_with(pool, (), unmanaged_steps::upgrade)
 }
 
-/// The next get in the queue that is due to be woken, and counts as told from then on: `DONE` with its ticket, `UNKNOWN`. Nothing
-/// else changes.
+/// The next get in the queue that is due to be woken, and counts as told from then on: `DONE` with its ticket,
+/// `UNKNOWN`. Nothing else changes.
 #[unsafe(no_mangle)]
 pub extern "C" fn deadpool_unmanaged_take_get_wake(pool: &mut UnmanagedPool) -> Reply
     requires { InBlock pool.old.at }
@@ -222,8 +222,8 @@ pub extern "C" fn deadpool_unmanaged_take_get_wake(pool: &mut UnmanagedPool) -> 
     replace_with(pool, (), unmanaged_steps::take_get_wake)
 }
 
-/// The next add in the queue that is due to be woken, and counts as told from then on: `DONE` with its ticket, `UNKNOWN`. Nothing
-/// else changes.
+/// The next add in the queue that is due to be woken, and counts as told from then on: `DONE` with its ticket,
+/// `UNKNOWN`. Nothing else changes.
 #[unsafe(no_mangle)]
 pub extern "C" fn deadpool_unmanaged_take_add_wake(pool: &mut UnmanagedPool) -> Reply
     requires { InBlock pool.old.at }
