@@ -1,8 +1,9 @@
 //! The steps of both pools for programs that are not Rattle: one call a step, on a pool behind a pointer.
 //!
-//! An object is a key of the caller's, any `u64`, and in a managed pool its number too. The caller keeps the values by key, the
-//! wakers by ticket, and a lock: it makes one call at a time on a pool. `deadpool_managed_new` and `deadpool_unmanaged_new`
-//! make a pool in a block whose pointer is null; each other call wants a block in which a pool was made.
+//! An object is a key of the caller's, any `u64`, and in a managed pool its number too. The caller keeps the values
+//! by key, the wakers by ticket, and a lock: it makes one call at a time on a pool. `deadpool_managed_new` and
+//! `deadpool_unmanaged_new` make a pool in a block whose pointer is null; each other call wants a block in which a
+//! pool was made.
 #![tactic(auto)]
 
 mod choice;
@@ -16,7 +17,6 @@ mod managed_owner_steps;
 mod managed_reply;
 mod managed_state;
 mod managed_steps;
-mod parts;
 mod reply;
 pub mod unmanaged;
 mod unmanaged_block;

@@ -5,7 +5,6 @@ ghost use Rattle.deadpool_c.specs.declared.managed_state.ManagedState.{ManagedSt
 ghost use Rattle.deadpool_c.specs.ManagedOwned.{managed_coded, managed_owns};
 
 use crate::managed_state::ManagedState;
-use crate::parts::Parts;
 use std::alloc::Global;
 use std::marker::Model;
 
@@ -28,35 +27,19 @@ impl ManagedPool {
         ensures made { InBlock result.at }
         ensures state { result.state ≡ state.value }
     {
-        ManagedPool::of_parts(Parts::of(state))
+        let (state, alloc) = Box::into_raw_with_allocator(state);
+        ManagedPool {
+            at: state as *mut u8,
+            alloc,
+        }
     }
 
     pub fn into_state(self) -> Box<ManagedState>
         requires { InBlock self.at }
         ensures { result.value ≡ self.state }
     {
-        self.into_parts().into_box()
-    }
-
-    fn of_parts(parts: Parts<ManagedState, Global>) -> ManagedPool
-        ensures { InBlock result.at × (result.state ≡ parts.value) }
-    {
-        let Parts { ptr, alloc } = parts;
-        ManagedPool {
-            at: ptr as *mut u8,
-            alloc,
-        }
-    }
-
-    fn into_parts(self) -> Parts<ManagedState, Global>
-        requires { InBlock self.at }
-        ensures { result.value ≡ self.state }
-    {
         let ManagedPool { at, alloc } = self;
-        Parts {
-            ptr: at as *mut ManagedState,
-            alloc,
-        }
+        unsafe { Box::from_raw(alloc, at as *mut ManagedState) }
     }
 }
 

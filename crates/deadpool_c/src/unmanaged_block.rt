@@ -4,13 +4,12 @@ ghost use denote.RawPtr.{InBlock};
 ghost use Rattle.deadpool_c.specs.declared.unmanaged_state.UnmanagedState.{UnmanagedState};
 ghost use Rattle.deadpool_c.specs.UnmanagedOwned.{unmanaged_coded, unmanaged_owns};
 
-use crate::parts::Parts;
 use crate::unmanaged_state::UnmanagedState;
 use std::alloc::Global;
 use std::marker::Model;
 
-/// An unmanaged pool, which the caller passes back unchanged. It owns its state, which lies where `at` points. With a null
-/// pointer it is no pool, and owns nothing.
+/// An unmanaged pool, which the caller passes back unchanged. It owns its state, which lies where `at` points. With a
+/// null pointer it is no pool, and owns nothing.
 #[repr(C)]
 #[derive(Drop)]
 pub struct UnmanagedPool {
@@ -28,35 +27,19 @@ impl UnmanagedPool {
         ensures made { InBlock result.at }
         ensures state { result.state ≡ state.value }
     {
-        UnmanagedPool::of_parts(Parts::of(state))
+        let (state, alloc) = Box::into_raw_with_allocator(state);
+        UnmanagedPool {
+            at: state as *mut u8,
+            alloc,
+        }
     }
 
     pub fn into_state(self) -> Box<UnmanagedState>
         requires { InBlock self.at }
         ensures { result.value ≡ self.state }
     {
-        self.into_parts().into_box()
-    }
-
-    fn of_parts(parts: Parts<UnmanagedState, Global>) -> UnmanagedPool
-        ensures { InBlock result.at × (result.state ≡ parts.value) }
-    {
-        let Parts { ptr, alloc } = parts;
-        UnmanagedPool {
-            at: ptr as *mut u8,
-            alloc,
-        }
-    }
-
-    fn into_parts(self) -> Parts<UnmanagedState, Global>
-        requires { InBlock self.at }
-        ensures { result.value ≡ self.state }
-    {
         let UnmanagedPool { at, alloc } = self;
-        Parts {
-            ptr: at as *mut UnmanagedState,
-            alloc,
-        }
+        unsafe { Box::from_raw(alloc, at as *mut UnmanagedState) }
     }
 }
 

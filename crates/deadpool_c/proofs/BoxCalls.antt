@@ -1,0 +1,166 @@
+-- The two calls between a box and its parts, as steps of a walk that has the parts as an `Unboxed`, at an S that has
+-- no lifetime in it.
+--     opens, opened      `into_raw_with_allocator`: a box is passed as its parts, and parts are returned
+--     closes, closed     `from_raw`: the parts are passed, and a box is returned
+--     lets_go            the `drop` of an S, as a call is handed it that may let an S go
+use mathlib.Core.Path.{◌≡◌, refl, sym, ap, subst, ◌∙◌}
+use mathlib.Core.List.{List, [], ◌∷◌}
+use seplogic.Ra.Ura.{Ura}
+use base.Fraction.{full_share}
+use base.Fml.{Fml, ftrue, fsep, flft}
+use base.Logic.{SProp, ent, sep, emp, via, id⊢}
+use contract.BorrowLft.{◌⊑◌, ⊑_static}
+use contract.Monad.{Fun, fact, fact_i, fm→mono}
+use contract.Running.{Running, tables}
+use denote.Builtin.{unit}
+use denote.Exit.{yes, Last, left}
+use denote.Param.{bounded}
+use denote.Param.Glue as Glue
+use denote.Param.Laws.{Laws}
+use denote.RattleType.{RattleType}
+use denote.RawPtr.{Ptr, RawPtr, block_ptr}
+use denote.Signature.{plain}
+use denote.Steps.{heard, nothing, only}
+use denote.Struct.Tuple.{Tuple}
+use denote.Triple.Call.{calls_at, calls_at_last}
+use denote.Triple.Carry.{grown, spared}
+use denote.Triple.Clauses.{Ended, Clauses, closing}
+use denote.Triple.Spec.{Back, Meets, triple_of}
+use denote.Triple.Statement.{Contract, Triple, FmF}
+use mir.Syntax.{Callee, Opd as Operand, Place, Body, Dict, a_type, dcons, dnil, seq, call}
+use mir.Val.{Val, vptr}
+use prog.Memory.{Memory}
+use prog.Model.{Model}
+use prog.Routine.{Routine}
+use prog.Wired.{Wired}
+use prog.Wp.{Env, Calls, Loops}
+use sound.WpLaws.{FmC}
+use types.Kit.{Goal, Seq, Step, step, Post, Item, ‵, raw, ◌⊛◌, some, later, runs, lands, settles, ◌$◌, ◌∵◌, !, qed, done, move, drop, use0, use1, split, split3, join, pick, fsplit, fjoin, frame, feq_i, show, await, updating, now, rewrite}
+use types.Logic.{Logic, sem}
+use types.Run.{Opds}
+use Rattle.std.specs.Box.Ownership.{box_owns}
+use Rattle.std_alloc.proofs.BoxSteps.Form.{R, P, args}
+use Rattle.std_alloc.proofs.boxed.Box.from_raw.Met as from_raw
+use Rattle.std_alloc.proofs.boxed.Box.from_raw.Symbol as from_raw_symbol
+use Rattle.std_alloc.proofs.boxed.Box.into_raw_with_allocator.Met as into_raw
+use Rattle.std_alloc.proofs.boxed.Box.into_raw_with_allocator.Symbol as into_raw_symbol
+use Rattle.std_alloc.specs.contracts.boxed.Box.from_raw as FromRaw
+use Rattle.std_alloc.specs.contracts.boxed.Box.into_raw_with_allocator as IntoRaw
+use Rattle.std_heap.proofs.GlobalAllocator.TheImpl.Met as allocator
+use Rattle.std_heap.proofs.GlobalAllocator.allocate.Symbol as allocate
+use Rattle.std_heap.proofs.GlobalAllocator.deallocate.Symbol as deallocate
+use Rattle.std_heap.proofs.GlobalAllocator.grow.Symbol as grow
+use Rattle.std_heap.proofs.GlobalAllocator.shrink.Symbol as shrink
+use Rattle.std_heap.specs.contracts.GlobalAllocator.TheImpl.{ghosts, dict}
+use Rattle.deadpool_c.proofs.Destruct++none.drop.Symbol as no_drop
+use Rattle.deadpool_c.proofs.Unboxed.{Handle, handle_laws, E, Boxed, owned, Boxlike, Unboxed, parts, Sound, parts_sound, Loose, boxed, unboxes, boxes}
+
+module _ (S : RattleType) (L : Laws S) where
+  abbrev Box : Type 0
+  Box = Boxed S L
+
+  abbrev Parts : Type 0
+  Parts = Unboxed S L
+
+  abbrev none : Dict
+  none = (E S L).al.drops
+
+  -- of each call: what its contract says, and at which parts
+  module _ {M : Type 1} {𝓤 : Ura M} (𝓛 : Logic 𝓤) (at_mem : Memory → SProp 𝓤) (run : Routine → Fun 𝓤) where
+    abbrev pub Opens : Dict → Contract 𝓤
+    Opens dx = triple_of 𝓛 (IntoRaw.signature S Handle ghosts dict none dx) (IntoRaw.spec S Handle ghosts dict none dx 𝓛 at_mem run)
+
+    abbrev pub opens_at : (dx : Dict) → Parts → (Opens dx).Ghost
+    opens_at dx k = ((([], ([], tt)), (full_share, (full_share, tt)), tt, (boxed S L k, tt), (parts S L k ∷ [], tt)), tt)
+
+    abbrev pub Closes : Contract 𝓤
+    Closes = triple_of 𝓛 (FromRaw.signature S Handle ghosts dict none) (FromRaw.spec S Handle ghosts dict none 𝓛 at_mem run)
+
+    abbrev pub closes_at : Parts → (Closes).Ghost
+    closes_at k = ((([], ([], tt)), (full_share, (full_share, tt)), tt, (k.alloc, (block_ptr k.block k.offset, tt)), (k.freeing ∷ [], (vptr k.block k.offset ∷ [], tt))), k.value)
+
+    -- the tokens of the lifetimes of S and of the handle, and that both are alive so long
+    abbrev Tokens : Item 𝓤
+    Tokens = ‵ (flft [] full_share) ⊛ ‵ (flft [] full_share) ⊛ ‵ ftrue
+
+    abbrev Lasting : Fml → Item 𝓤
+    Lasting asked = raw (fact 𝓤 ([] ⊑ S.lives)) ⊛ raw (fact 𝓤 ([] ⊑ Handle.lives)) ⊛ ‵ asked
+
+  module _ (lasting : [] ⊑ S.lives) {M : Type 1} {𝓤 : Ura M} {𝓛 : Logic 𝓤} (at_mem : Memory → SProp 𝓤) (run : Routine → Fun 𝓤) where
+    open 𝓛 use {H}
+
+    -- with no lifetime they are had for nothing
+    lasts : {K : Type 0} {Γ : List (Item 𝓤)} {G : Goal 𝓤 H} → K → (asked : Fml) → Step K 𝓛 (Tokens 𝓛 at_mem run ∷ Lasting 𝓛 at_mem run asked ∷ Γ) G (‵ asked ∷ Γ) G
+    lasts t asked = step (λ s.
+        use0 𝓛 (raw (fact 𝓤 ([] ⊑ Handle.lives))) (fact_i 𝓤 ([] ⊑ Handle.lives) (emp 𝓤) (⊑_static [])) $ join t $
+        use0 𝓛 (raw (fact 𝓤 ([] ⊑ S.lives))) (fact_i 𝓤 ([] ⊑ S.lives) (emp 𝓤) lasting) $ join t $ nothing t $
+        use0 𝓛 (‵ (flft [] full_share)) (𝓛.lfts.lft-nil full_share) $ join t $ use0 𝓛 (‵ (flft [] full_share)) (𝓛.lfts.lft-nil full_share) $ join t $ s)
+
+    module _ {K : Type 0} {Γ : List (Item 𝓤)} {C : Calls 𝓤 H} {Λ : Loops 𝓤 H} {F : Env 𝓤 H} {f : Callee} {xs : List Operand} {p : Place} {q : Post 𝓤 H} where
+      -- The pair that is returned owns, with the memory, what a box at these two fields owns.
+      pub opens : K → FmC 𝓤 H 𝓛.laws C → {rest : Body} (dx : Dict) → Triple 𝓤 (C f) (Opens 𝓛 at_mem run dx) → (k : Parts)
+          → Opds K 𝓛 (raw ((Opens 𝓛 at_mem run dx).pre (opens_at 𝓛 at_mem run dx k)) ∷ Γ) F xs (parts S L k ∷ [])
+          → ((u : Val) (j : Parts) → u ≡ parts S L j → j.value ≡ k.value → Sound S L j → Seq K 𝓛 (‵ (Loose S L j) ∷ Γ) (lands C Λ F p u rest q))
+          → Seq K 𝓛 (‵ (Loose S L k) ∷ Γ) (runs C Λ F (seq (call f xs p) rest) q)
+      opens t fm dx known k passed next =
+          boxes S L t k $ nothing t $ lasts t ftrue $ nothing t $ move t (3 ∷ 0 ∷ []) $ fjoin t $ move t (1 ∷ 0 ∷ []) $ join t $ join t $
+          use1 𝓛 (raw ((Opens 𝓛 at_mem run dx).pre (opens_at 𝓛 at_mem run dx k))) (id⊢ 𝓤 _) $ calls_at t fm (Opens 𝓛 at_mem run dx) known (opens_at 𝓛 at_mem run dx k) passed (λ u.
+          use1 𝓛 (later (some (λ (r : Ptr × Handle.Denot). (Tokens 𝓛 at_mem run ⊛ ‵ ((Tuple (RawPtr ∷ P (E S L) ∷ [])).own_val r (u ∷ []))) ⊛
+          some (λ (ws : (Unit {0} × (Unit {0} × Unit {0})) × Unit {0}). ‵ (fsep (fsep ftrue (fsep ftrue ftrue)) ftrue) ⊛
+          (raw (fact 𝓤 (r.1 ≡ k.alloc)) ⊛ ‵ (box_owns (ghosts.dealloc_token k.alloc) (R (E S L)) r.0 k.value)))))) (id⊢ 𝓤 _) $ await t tt $
+          pick t (λ r. split t $ split t $ drop t $ move t (1 ∷ []) $ pick t (λ _. split3 t $ drop t $ drop t $ move t (1 ∷ []) $ fjoin t $
+          let d : Box = record { ptr = r.0; alloc = r.1; value = k.value } in
+          use1 𝓛 (‵ (owned S L d (u ∷ []))) (id⊢ 𝓤 _) $ unboxes S L t d (u ∷ []) (λ j its is. next u j (ap only is) its))))
+
+      pub closes : K → FmC 𝓤 H 𝓛.laws C → Triple 𝓤 (C f) (Closes 𝓛 at_mem run) → (k : Parts)
+          → Opds K 𝓛 (raw ((Closes 𝓛 at_mem run).pre (closes_at 𝓛 at_mem run k)) ∷ Γ) F xs (k.freeing ∷ vptr k.block k.offset ∷ [])
+          → ((u : Val) (d : Box) → d.value ≡ k.value → Boxlike S L u → Seq K 𝓛 (‵ (owned S L d (u ∷ [])) ∷ Γ) (settles F p u q))
+          → Seq K 𝓛 (‵ (Loose S L k) ∷ Γ) (runs C Λ F (call f xs p) q)
+      closes t fm known k passed next =
+          fsplit t $ lasts t (box_owns (ghosts.dealloc_token k.alloc) (R (E S L)) (block_ptr k.block k.offset) k.value) $ nothing t $
+          feq_i t (List Val) (vptr k.block k.offset ∷ []) (vptr k.block k.offset ∷ []) refl $ fjoin t $ move t (3 ∷ 0 ∷ []) $ fjoin t $ move t (1 ∷ 0 ∷ []) $ join t $ join t $
+          use1 𝓛 (raw ((Closes 𝓛 at_mem run).pre (closes_at 𝓛 at_mem run k))) (id⊢ 𝓤 _) $ calls_at_last t fm (Closes 𝓛 at_mem run) known (closes_at 𝓛 at_mem run k) passed (λ u.
+          use1 𝓛 (later (some (λ (d : Box). (Tokens 𝓛 at_mem run ⊛ ‵ (owned S L d (u ∷ []))) ⊛ some (λ (ws : Unit {0} × (Unit {0} × Unit {0})). ‵ (fsep ftrue (fsep ftrue ftrue)) ⊛
+          (raw (fact 𝓤 (d.value ≡ k.value)) ⊛ raw (fact 𝓤 (d.alloc ≡ k.alloc))))))) (id⊢ 𝓤 _) $ await t tt $
+          pick t (λ d. split t $ split t $ drop t $ move t (1 ∷ []) $ pick t (λ _. split3 t $ drop t $ heard t (d.value ≡ k.value) (λ same. drop t $
+          unboxes S L t d (u ∷ []) (λ j its is sound. boxes S L t j $ rewrite t 0 (λ (us : List Val). ‵ (owned S L (boxed S L j) us)) (sym is) refl $
+          next u (boxed S L j) (its ∙ same) (subst (Boxlike S L) (sym (ap only is)) (parts_sound S L j sound)))))))
+
+  -- that each call meets its contract, from the code of the function that makes it: the methods that the call is handed
+  module _ {M : Type 1} (𝓤 : Ura M) (𝓛 : Logic 𝓤) (𝓜 : Model 𝓤 𝓛.H) (𝓡 : Running 𝓤 𝓛.H 𝓜) (al : Wired 𝓡.env allocate.code) (de : Wired 𝓡.env deallocate.code)
+      (gr : Wired 𝓡.env grow.code) (sh : Wired 𝓡.env shrink.code) (nd : Wired 𝓡.env no_drop.code) where
+    abbrev table : Calls 𝓤 𝓛.H
+    table = (tables 𝓤 𝓛.H 𝓜 𝓡 𝓡.env).C
+
+    pub opened : (dx : Dict) → Glue.Met 𝓛 𝓜 𝓡 𝓡.env S dx → Wired 𝓡.env into_raw_symbol.code
+        → Triple 𝓤 (table (into_raw_symbol.name (bounded (a_type ∷ a_type ∷ []) (S, (Handle, tt)) (dcons dict (dcons none (dcons dx dnil)))))) (Opens 𝓛 𝓜.mem 𝓡.returns dx)
+    opened dx glue w = into_raw.met 𝓤 𝓛 𝓜 𝓡 w S Handle L handle_laws ghosts dict none dx (allocator.passed 𝓡.env al de gr sh M 𝓤 𝓛 𝓜 𝓡) (no_drop.glues 𝓡.env nd Handle handle_laws M 𝓤 𝓛 𝓜 𝓡) glue
+
+    pub closed : Wired 𝓡.env from_raw_symbol.code → Triple 𝓤 (table (from_raw_symbol.name (args (E S L)))) (Closes 𝓛 𝓜.mem 𝓡.returns)
+    closed w = from_raw.met 𝓤 𝓛 𝓜 𝓡 w S Handle L handle_laws ghosts dict none (allocator.passed 𝓡.env al de gr sh M 𝓤 𝓛 𝓜 𝓡) (no_drop.glues 𝓡.env nd Handle handle_laws M 𝓤 𝓛 𝓜 𝓡)
+
+-- A `drop` that asks nothing and promises nothing says more of an S at its end than a call asks: that is let go.
+module _ (S : RattleType) {M : Type 1} {𝓤 : Ura M} (𝓛 : Logic 𝓤) where
+  abbrev Dropping : Ended
+  Dropping = record { signature = record { lifetimes = 0; outlives = []; params = plain (λ _. S) ∷ []; result = plain (λ _. unit) }; kept = (yes, tt) }
+
+  abbrev silent : Clauses 𝓤 Dropping
+  silent κs a = record { ghost = Unit {0}; requires = λ _. emp 𝓤; ensures = λ _ r e. emp 𝓤 }
+
+  abbrev Drops : Contract 𝓤
+  Drops = grown 𝓛 Dropping.signature 1 (S.lives, tt) (closing 𝓛 Dropping silent)
+
+  abbrev Spends : Contract 𝓤
+  Spends = triple_of 𝓛 (Glue.signature S) (Glue.spent 𝓛 S)
+
+  spends : (y : (Spends).Ghost) (u : Val) → ent 𝓤 ((Drops).post y u) ((Spends).post y u)
+  spends y u = qed 𝓛 (raw ((Drops).post y u) ∷ []) ∵ updating ! $
+      use1 𝓛 (later (some (λ (r : Unit {0}). ((‵ (flft y.0.0.0 y.0.1.0) ⊛ ‵ ftrue) ⊛ ‵ ((unit).own_val r (u ∷ []))) ⊛
+      some (λ (ws : Last (S.exit yes) y.0.3.0 × Unit {0}). ‵ (fsep (left (S.exit yes) y.0.3.0 ws.0) ftrue) ⊛ ‵ ftrue)))) (id⊢ 𝓤 _) $ await ! tt $
+      pick ! (λ r. split ! $ move ! (1 ∷ []) $ drop ! $ now ! $
+      show ! (λ (r' : Unit {0}). sep 𝓤 (Back 𝓛 (Glue.signature S) y.0 u r') ((Glue.spent 𝓛 S y.0.0 y.0.3).ensures y.1 r')) r $ frame ! $
+      show ! (λ (ws : Unit {0} × Unit {0}). sep 𝓤 (sem 𝓛 (fsep ftrue ftrue)) (emp 𝓤)) (tt, tt) $ nothing ! $ nothing ! $ nothing ! $ fjoin ! $ join ! $ done !)
+
+  pub lets_go : (run : Fun 𝓤) → FmF 𝓤 run → Meets 𝓛 Dropping.signature run (closing 𝓛 Dropping silent) → Meets 𝓛 (Glue.signature S) run (Glue.spent 𝓛 S)
+  lets_go run fm met y = via 𝓤 (run ((Drops).args y) ((Drops).post y)) (spared 𝓛 Dropping.signature run fm 1 (S.lives, tt) (closing 𝓛 Dropping silent) met y)
+      (fm→mono 𝓤 (run ((Drops).args y)) (fm ((Drops).args y)) ((Drops).post y) ((Spends).post y) (spends y))
