@@ -6,14 +6,16 @@
 #![deny(unsafe_code)]
 #![warn(missing_docs)]
 
-mod locked;
+mod errors;
+mod lends;
 pub mod managed;
 mod runtime;
+mod shared;
 mod sys;
 mod table;
 mod timed;
 pub mod unmanaged;
-mod wakers;
+mod waiting;
 
 pub use runtime::{Runtime, Sleep, Timers};
 pub use sys::Status;

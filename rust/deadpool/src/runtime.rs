@@ -3,11 +3,12 @@
 
 use std::collections::BTreeMap;
 use std::fmt;
-use std::future::Future;
+use std::future::{Future, pending};
 use std::pin::Pin;
+use std::sync::atomic::{AtomicU64, Ordering};
 use std::sync::{Condvar, Mutex, MutexGuard, OnceLock, PoisonError};
 use std::task::{Context, Poll, Waker};
-use std::thread;
+use std::thread::{self, JoinHandle};
 use std::time::{Duration, Instant};
 
 /// A future that is ready once its time has passed.
@@ -41,7 +42,11 @@ impl Runtime {
     /// A future that is ready after so long.
     pub fn sleep(&self, duration: Duration) -> Sleep {
         match self {
-            Runtime::Thread => Box::pin(Alarm::new(duration)),
+            Runtime::Thread => match Instant::now().checked_add(duration) {
+                Some(at) => Box::pin(Alarm { at, number: None }),
+                // (it is too far away to have a moment)
+                None => Box::pin(pending()),
+            },
             Runtime::Timers(timers) => timers.sleep(duration),
         }
     }
@@ -56,95 +61,65 @@ impl fmt::Debug for Runtime {
     }
 }
 
-/// What the thread waits for.
-#[derive(Default)]
-struct Due {
-    waiting: Mutex<Waiting>,
-    changed: Condvar,
+/// Wakers by the moment at which they are due, and by the number of their alarm.
+type Wakers = BTreeMap<(Instant, u64), Waker>;
+
+static WAKERS: Mutex<Wakers> = Mutex::new(BTreeMap::new());
+static HAVE_CHANGED: Condvar = Condvar::new();
+static ALARMS: AtomicU64 = AtomicU64::new(0);
+static THREAD: OnceLock<JoinHandle<()>> = OnceLock::new();
+
+fn wakers() -> MutexGuard<'static, Wakers> {
+    WAKERS.lock().unwrap_or_else(PoisonError::into_inner)
 }
 
-/// Wakers by the moment at which they are due, and by the number of their alarm; and the last of these numbers.
-#[derive(Default)]
-struct Waiting {
-    wakers: BTreeMap<(Instant, u64), Waker>,
-    last: u64,
-}
-
-fn due() -> &'static Due {
-    static DUE: OnceLock<&'static Due> = OnceLock::new();
-    DUE.get_or_init(|| {
-        let due: &Due = Box::leak(Box::default());
-        let thread = thread::Builder::new().name("deadpool timers".into());
-        thread.spawn(|| due.serve()).expect("a thread for timers starts");
-        due
-    })
-}
-
-impl Due {
-    fn lock(&self) -> MutexGuard<'_, Waiting> {
-        self.waiting.lock().unwrap_or_else(PoisonError::into_inner)
-    }
-
-    fn serve(&self) {
-        let mut waiting = self.lock();
-        loop {
-            let now = Instant::now();
-            let later = waiting.wakers.split_off(&(now, u64::MAX));
-            let reached = std::mem::replace(&mut waiting.wakers, later);
-            if reached.is_empty() {
-                let next = waiting.wakers.first_key_value();
-                let left = next.map_or(Duration::MAX, |((at, _), _)| *at - now);
-                let waited = self.changed.wait_timeout(waiting, left);
-                waiting = waited.unwrap_or_else(PoisonError::into_inner).0;
-                continue;
-            }
+/// Wakes, on the thread, each alarm at its moment.
+fn serve() {
+    let mut waiting = wakers();
+    loop {
+        let next = waiting.first_key_value().map(|((at, _), _)| at.saturating_duration_since(Instant::now()));
+        let left = next.unwrap_or(Duration::MAX);
+        if left.is_zero() {
+            let reached = waiting.pop_first();
             drop(waiting);
-            reached.into_values().for_each(Waker::wake);
-            waiting = self.lock();
+            reached.into_iter().for_each(|(_, waker)| waker.wake());
+            waiting = wakers();
+        } else {
+            let waited = HAVE_CHANGED.wait_timeout(waiting, left);
+            waiting = waited.unwrap_or_else(PoisonError::into_inner).0;
         }
     }
 }
 
-/// A sleep by the thread. One that is too far away to have a moment is never ready.
+/// A sleep by the thread.
 struct Alarm {
-    at: Option<Instant>,
+    at: Instant,
     number: Option<u64>,
-}
-
-impl Alarm {
-    fn new(duration: Duration) -> Self {
-        let at = Instant::now().checked_add(duration);
-        Alarm { at, number: None }
-    }
 }
 
 impl Future for Alarm {
     type Output = ();
 
     fn poll(mut self: Pin<&mut Self>, cx: &mut Context<'_>) -> Poll<()> {
-        let Some(at) = self.at else {
-            return Poll::Pending;
-        };
-        if at <= Instant::now() {
+        if self.at <= Instant::now() {
             return Poll::Ready(());
         }
-        let due = due();
-        let mut waiting = due.lock();
-        let number = *self.number.get_or_insert_with(|| {
-            waiting.last += 1;
-            waiting.last
+        THREAD.get_or_init(|| {
+            let thread = thread::Builder::new().name("deadpool timers".into());
+            thread.spawn(serve).expect("a thread for timers starts")
         });
-        waiting.wakers.insert((at, number), cx.waker().clone());
-        due.changed.notify_one();
+        let number = *self.number.get_or_insert_with(|| ALARMS.fetch_add(1, Ordering::Relaxed));
+        let waker = cx.waker().clone();
+        let _replaced = wakers().insert((self.at, number), waker);
+        HAVE_CHANGED.notify_one();
         Poll::Pending
     }
 }
 
 impl Drop for Alarm {
     fn drop(&mut self) {
-        if let (Some(at), Some(number)) = (self.at, self.number) {
-            let waker = due().lock().wakers.remove(&(at, number));
-            drop(waker);
+        if let Some(number) = self.number {
+            let _removed = wakers().remove(&(self.at, number));
         }
     }
 }

@@ -9,13 +9,9 @@ struct Block {
     at: *mut u8,
 }
 
-impl Block {
-    const EMPTY: Block = Block { at: std::ptr::null_mut() };
-}
-
 /// A reply: its kind, and what comes with it.
 #[repr(C)]
-#[derive(Clone, Copy, Debug)]
+#[derive(Clone, Copy, Debug, Default)]
 pub(crate) struct Reply {
     pub(crate) kind: u64,
     pub(crate) number: usize,
@@ -24,14 +20,9 @@ pub(crate) struct Reply {
 }
 
 impl Reply {
-    /// The number that a look has found.
-    pub(crate) fn named(self) -> Option<usize> {
-        (self.kind == DONE).then_some(self.number)
-    }
-
-    /// The key that a look has found.
-    pub(crate) fn keyed(self) -> Option<u64> {
-        (self.kind == DONE).then_some(self.key)
+    /// The reply, if the step was made or the look has found something.
+    pub(crate) fn done(self) -> Option<Self> {
+        (self.kind == DONE).then_some(self)
     }
 }
 
@@ -74,18 +65,48 @@ pub(crate) const KEPT: u64 = 12;
 pub(crate) const DETACH: u64 = 13;
 pub(crate) const STORED: u64 = 16;
 
+/// The steps that both pools have.
+pub(crate) trait Desk {
+    fn enter(&mut self, wait: bool) -> Reply;
+    fn ask(&mut self, ticket: usize, expired: bool) -> Reply;
+    fn cancel_ticket(&mut self, ticket: usize) -> Reply;
+    fn status(&mut self) -> Status;
+    fn clone_handle(&mut self) -> Reply;
+    fn is_closed(&mut self) -> bool;
+    fn take_wake(&mut self) -> Reply;
+    fn close(&mut self, keys: &mut [u64]) -> usize;
+    fn drop_handle(&mut self, keys: &mut [u64], written: &mut usize) -> Reply;
+
+    /// A managed pool has no adds.
+    fn take_add_wake(&mut self) -> Reply {
+        Reply::default()
+    }
+}
+
 // SAFETY of each call: the block is one in which the library made a pool, or an empty one in which it is to make one, and `&mut`
 // lends it to this call alone. A slice is handed over as its pointer and its length.
+macro_rules! steps {
+    ($seen:vis $($name:ident: $export:ident(
+        $($given:ident: $type:ty),* $(; $keys:ident $(, $also:ident: $out:ty)?)?
+    ) $(-> $reply:ty)?;)*) => {
+        $($seen fn $name(&mut self, $($given: $type,)* $($keys: &mut [u64], $($also: $out)?)?) $(-> $reply)? {
+            unsafe extern "C" {
+                fn $export(
+                    pool: &mut Block, $($given: $type,)* $($keys: *mut u64, room: usize, $($also: $out)?)?
+                ) $(-> $reply)?;
+            }
+            unsafe { $export(&mut self.0, $($given,)* $($keys.as_mut_ptr(), $keys.len(), $($also)?)?) }
+        })*
+    };
+}
+
 macro_rules! desk {
-    ($desk:ident, made by $new:ident($($of:ident: $kind_of:ty),*), freed by $free:ident, with
-     steps { $($name:ident: $export:ident($($given:ident: $type:ty),*) $(-> $reply:ty)?;)* }
-     and steps that write
-     keys { $($step:ident: $by:ident($($with:ident: $kind:ty),*; keys $(, $also:ident: $out:ty)?) $(-> $gives:ty)?;)* }) => {
+    ($desk:ident, made by $new:ident($($of:ident: $type:ty),*), freed by $free:ident, with
+     steps { $($own:tt)* }
+     and those of both pools { $($common:tt)* }) => {
         unsafe extern "C" {
-            fn $new(pool: &mut Block, $($of: $kind_of),*) -> bool;
+            fn $new(pool: &mut Block, $($of: $type),*) -> bool;
             fn $free(pool: Block);
-            $(fn $export(pool: &mut Block, $($given: $type),*) $(-> $reply)?;)*
-            $(fn $by(pool: &mut Block, $($with: $kind,)* keys: *mut u64, room: usize, $($also: $out)?) $(-> $gives)?;)*
         }
 
         pub(crate) struct $desk(Block);
@@ -95,24 +116,22 @@ macro_rules! desk {
 
         impl $desk {
             /// A new pool, or none if memory is wanting.
-            pub(crate) fn new($($of: $kind_of),*) -> Option<Self> {
-                let mut block = Block::EMPTY;
+            pub(crate) fn new($($of: $type),*) -> Option<Self> {
+                let mut block = Block { at: std::ptr::null_mut() };
                 let is_made = unsafe { $new(&mut block, $($of),*) };
                 is_made.then(|| $desk(block))
             }
 
-            $(pub(crate) fn $name(&mut self, $($given: $type),*) $(-> $reply)? {
-                unsafe { $export(&mut self.0, $($given),*) }
-            })*
-            $(pub(crate) fn $step(&mut self, $($with: $kind,)* keys: &mut [u64], $($also: $out)?) $(-> $gives)? {
-                unsafe { $by(&mut self.0, $($with,)* keys.as_mut_ptr(), keys.len(), $($also)?) }
-            })*
+            steps! { pub(crate) $($own)* }
+        }
+
+        impl Desk for $desk {
+            steps! { $($common)* }
         }
 
         impl Drop for $desk {
             fn drop(&mut self) {
-                let block = std::mem::replace(&mut self.0, Block::EMPTY);
-                unsafe { $free(block) }
+                unsafe { $free(Block { at: self.0.at }) }
             }
         }
     };
@@ -121,8 +140,6 @@ macro_rules! desk {
 desk! { ManagedDesk,
     made by deadpool_managed_new(limit: usize, is_lifo: bool, most_entries: usize, min_idle: usize),
     freed by deadpool_managed_free, with steps {
-    enter: deadpool_managed_enter(wait: bool) -> Reply;
-    ask: deadpool_managed_ask(ticket: usize, expired: bool) -> Reply;
     again: deadpool_managed_again(is_set: bool, allowance: usize) -> Reply;
     discard: deadpool_managed_discard() -> Reply;
     created: deadpool_managed_created() -> Reply;
@@ -130,21 +147,23 @@ desk! { ManagedDesk,
     refused: deadpool_managed_refused() -> Reply;
     back: deadpool_managed_back(number: usize, key: u64) -> Reply;
     take: deadpool_managed_take() -> Reply;
-    cancel_ticket: deadpool_managed_cancel_ticket(ticket: usize) -> Reply;
     cancel_place: deadpool_managed_cancel_place() -> Reply;
     cancel_creation: deadpool_managed_cancel_creation() -> Reply;
     cancel_object: deadpool_managed_cancel_object() -> Reply;
-    status: deadpool_managed_status() -> Status;
-    clone_handle: deadpool_managed_clone_handle() -> Reply;
+    resize: deadpool_managed_resize(limit: usize; keys) -> Reply;
     upgrade: deadpool_managed_upgrade() -> bool;
-    is_closed: deadpool_managed_is_closed() -> bool;
-    take_wake: deadpool_managed_take_wake() -> Reply;
     key: deadpool_managed_key(at: usize) -> Reply;
     is_full: deadpool_managed_is_full() -> bool;
     entry: deadpool_managed_entry(at: usize) -> NotedStep;
     removal: deadpool_managed_removal(at: usize, index: usize) -> Reply;
-} and steps that write keys {
-    resize: deadpool_managed_resize(limit: usize; keys) -> Reply;
+} and those of both pools {
+    enter: deadpool_managed_enter(wait: bool) -> Reply;
+    ask: deadpool_managed_ask(ticket: usize, expired: bool) -> Reply;
+    cancel_ticket: deadpool_managed_cancel_ticket(ticket: usize) -> Reply;
+    status: deadpool_managed_status() -> Status;
+    clone_handle: deadpool_managed_clone_handle() -> Reply;
+    is_closed: deadpool_managed_is_closed() -> bool;
+    take_wake: deadpool_managed_take_wake() -> Reply;
     close: deadpool_managed_close(; keys) -> usize;
     drop_handle: deadpool_managed_drop_handle(; keys, written: &mut usize) -> Reply;
 } }
@@ -152,20 +171,20 @@ desk! { ManagedDesk,
 desk! { UnmanagedDesk,
     made by deadpool_unmanaged_new(limit: usize),
     freed by deadpool_unmanaged_free, with steps {
-    get_enter: deadpool_unmanaged_get_enter(wait: bool) -> Reply;
-    get_ask: deadpool_unmanaged_get_ask(ticket: usize, expired: bool) -> Reply;
-    get_cancel: deadpool_unmanaged_get_cancel(ticket: usize) -> Reply;
     add_enter: deadpool_unmanaged_add_enter(key: u64, wait: bool) -> Reply;
     add_ask: deadpool_unmanaged_add_ask(ticket: usize, key: u64) -> Reply;
     add_cancel: deadpool_unmanaged_add_cancel(ticket: usize) -> Reply;
     back: deadpool_unmanaged_back(key: u64) -> Reply;
     take: deadpool_unmanaged_take() -> Reply;
+} and those of both pools {
+    enter: deadpool_unmanaged_get_enter(wait: bool) -> Reply;
+    ask: deadpool_unmanaged_get_ask(ticket: usize, expired: bool) -> Reply;
+    cancel_ticket: deadpool_unmanaged_get_cancel(ticket: usize) -> Reply;
     status: deadpool_unmanaged_status() -> Status;
     clone_handle: deadpool_unmanaged_clone_handle() -> Reply;
     is_closed: deadpool_unmanaged_is_closed() -> bool;
-    take_get_wake: deadpool_unmanaged_take_get_wake() -> Reply;
+    take_wake: deadpool_unmanaged_take_get_wake() -> Reply;
     take_add_wake: deadpool_unmanaged_take_add_wake() -> Reply;
-} and steps that write keys {
     close: deadpool_unmanaged_close(; keys) -> usize;
     drop_handle: deadpool_unmanaged_drop_handle(; keys, written: &mut usize) -> Reply;
 } }

@@ -1,17 +1,8 @@
 //! Values by key. A key is a place in the table; that of an object that is out is kept for it.
 #![forbid(unsafe_code)]
 
-/// No memory was found, and nothing has changed.
-#[derive(Clone, Copy, Debug, PartialEq, Eq)]
-pub struct OutOfMemory;
-
-impl std::fmt::Display for OutOfMemory {
-    fn fmt(&self, f: &mut std::fmt::Formatter<'_>) -> std::fmt::Result {
-        f.write_str("Out of memory")
-    }
-}
-
-impl std::error::Error for OutOfMemory {}
+use crate::errors::OutOfMemory;
+use crate::sys::Reply;
 
 pub(crate) struct Table<V> {
     places: Vec<Option<V>>,
@@ -30,13 +21,13 @@ impl<V> Table<V> {
         if let Some(key) = self.free.pop() {
             return Ok(key);
         }
-        let count = self.places.len() + 1;
+        let key = self.places.len();
         self.places.try_reserve(1).map_err(|_| OutOfMemory)?;
-        self.free.try_reserve(count).map_err(|_| OutOfMemory)?;
+        self.free.try_reserve(key + 1).map_err(|_| OutOfMemory)?;
         self.keys.try_reserve(1).map_err(|_| OutOfMemory)?;
         self.places.push(None);
         self.keys.push(0);
-        Ok(count as u64 - 1)
+        Ok(key as u64)
     }
 
     /// The object with this key has left for good.
@@ -44,31 +35,31 @@ impl<V> Table<V> {
         self.free.push(key);
     }
 
-    /// The value of the object with this key, which is idle now.
-    pub(crate) fn put(&mut self, key: u64, value: V) {
-        self.places[key as usize] = Some(value);
+    /// The object with this key is idle from now on, and its value is put here; or it has left for good, without its value.
+    pub(crate) fn settle(&mut self, key: u64, value: &mut Option<V>, is_idle: bool) {
+        if is_idle {
+            self.places[key as usize] = value.take();
+        } else {
+            self.forget(key);
+        }
     }
 
     /// The value of the idle object with this key, which goes out.
-    pub(crate) fn take(&mut self, key: u64) -> V {
-        self.places[key as usize].take().expect("the value of an idle object is in the table")
+    pub(crate) fn take(&mut self, key: u64) -> Option<V> {
+        self.places[key as usize].take()
     }
 
-    pub(crate) fn get(&self, key: u64) -> &V {
-        self.places[key as usize].as_ref().expect("the value of an idle object is in the table")
+    pub(crate) fn get(&self, key: u64) -> Option<&V> {
+        self.places[key as usize].as_ref()
     }
 
-    /// Makes a step that writes the keys of what it gives up, and gives these values with its reply. The step says how many
-    /// keys it has written.
-    pub(crate) fn give_up<R>(&mut self, step: impl FnOnce(&mut [u64]) -> (usize, R)) -> (Vec<V>, R) {
-        let mut keys = std::mem::take(&mut self.keys);
-        let (count, reply) = step(&mut keys);
-        let gone = keys[..count].iter().map(|&key| {
-            self.forget(key);
-            self.take(key)
-        });
-        let gone = gone.collect();
-        self.keys = keys;
-        (gone, reply)
+    /// Makes a step that writes the keys of what it gives up, and gives these values with its reply. The reply's number is how
+    /// many keys were written.
+    pub(crate) fn give_up(&mut self, step: impl FnOnce(&mut [u64]) -> Reply) -> (Vec<V>, Reply) {
+        let reply = step(&mut self.keys);
+        let gone = &self.keys[..reply.number];
+        self.free.extend(gone);
+        let values = gone.iter().filter_map(|&key| self.places[key as usize].take()).collect();
+        (values, reply)
     }
 }

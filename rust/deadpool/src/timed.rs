@@ -1,10 +1,11 @@
 //! Futures that are polled beside something else.
 #![forbid(unsafe_code)]
 
-use crate::runtime::Sleep;
+use crate::runtime::{Runtime, Sleep};
 use std::future::{Future, poll_fn};
 use std::pin::pin;
 use std::task::{Context, Poll};
+use std::time::Duration;
 
 /// A sleep, if there is one, which is not polled any more once it is over.
 #[derive(Default)]
@@ -14,18 +15,15 @@ pub(crate) struct Alarm {
 }
 
 impl Alarm {
-    pub(crate) fn new(sleep: Sleep) -> Self {
-        let sleep = Some(sleep);
-        Alarm { sleep, is_over: false }
+    /// An alarm after so long, if there is a timeout. None if it needs a runtime and there is none.
+    pub(crate) fn after(timeout: Option<Duration>, runtime: Option<Runtime>) -> Option<Self> {
+        let Some(duration) = timeout else { return Some(Alarm::default()) };
+        Some(Alarm { sleep: Some(runtime?.sleep(duration)), is_over: false })
     }
 
     pub(crate) fn is_over(&mut self, cx: &mut Context<'_>) -> bool {
-        if let Some(sleep) = &mut self.sleep
-            && sleep.as_mut().poll(cx).is_ready()
-        {
-            self.sleep = None;
-            self.is_over = true;
-        }
+        let is_over = |sleep: &mut Sleep| sleep.as_mut().poll(cx).is_ready();
+        self.is_over = self.is_over || self.sleep.as_mut().is_some_and(is_over);
         self.is_over
     }
 }

@@ -2,7 +2,7 @@
 mod common;
 
 use common::{Numbers, Task, block_on, is_answered};
-use deadpool::managed::{Manager, Metrics, Pool, RecycleResult};
+use deadpool::managed::{Manager, Metrics, Pool, RecycleResult, WeakPool};
 use deadpool::unmanaged;
 use std::convert::Infallible;
 use std::future::Future;
@@ -79,6 +79,39 @@ fn a_waker_may_call_an_unmanaged_pool() {
     assert!(get.as_mut().poll(&mut Context::from_waker(&waker)).is_pending());
     drop(held);
     assert!(get.as_mut().poll(&mut Context::from_waker(&waker)).is_ready());
+}
+
+/// A waker that asks the pool how it stands when it is dropped, and notes how often it had an answer.
+struct Parting {
+    pool: WeakPool<Numbers>,
+    answered: Arc<AtomicUsize>,
+}
+
+impl Wake for Parting {
+    fn wake(self: Arc<Self>) {}
+}
+
+impl Drop for Parting {
+    fn drop(&mut self) {
+        let pool = self.pool.clone();
+        let ask = move || _ = pool.upgrade().map(|pool| pool.status());
+        assert!(is_answered(ask), "a waker is dropped under the lock");
+        self.answered.fetch_add(1, Ordering::SeqCst);
+    }
+}
+
+#[test]
+fn a_waker_that_is_not_needed_any_more_is_dropped_without_the_lock() {
+    let pool: Pool<Numbers> = Pool::builder(Numbers::default()).max_size(0).build().expect("a pool");
+    let answered = Arc::new(AtomicUsize::new(0));
+    let waker = || Waker::from(Arc::new(Parting { pool: pool.weak(), answered: answered.clone() }));
+    let mut get = Box::pin(pool.get());
+    for replaced in [0, 1] {
+        assert!(get.as_mut().poll(&mut Context::from_waker(&waker())).is_pending());
+        assert_eq!(answered.load(Ordering::SeqCst), replaced);
+    }
+    drop(get);
+    assert_eq!(answered.load(Ordering::SeqCst), 2);
 }
 
 /// A value that asks its pool how it stands when it is dropped, and notes how often it had an answer.

@@ -1,16 +1,11 @@
 //! How a pool is built.
 use super::hooks::Hooks;
-use super::shared::{Shared, State};
-use super::{Hook, Manager, Object, Pool, PoolConfig, QueueMode, Timeouts};
-use crate::locked::Locked;
+use super::{Handle, Hook, Manager, Object, Pool, PoolConfig, QueueMode, Timeouts};
+use crate::errors::error_texts;
 use crate::runtime::Runtime;
 use crate::sys::ManagedDesk;
-use crate::table::Table;
-use crate::wakers::Wakers;
-use std::error::Error;
 use std::fmt;
 use std::marker::PhantomData;
-use std::sync::Arc;
 use std::time::Duration;
 
 /// Why a pool was not built.
@@ -22,26 +17,33 @@ pub enum BuildError {
     OutOfMemory,
 }
 
-impl fmt::Display for BuildError {
-    fn fmt(&self, f: &mut fmt::Formatter<'_>) -> fmt::Result {
-        f.write_str("Error occurred while building the pool: ")?;
-        f.write_str(match self {
-            BuildError::NoRuntimeSpecified => "Timeouts require a runtime",
-            BuildError::OutOfMemory => "Out of memory",
-        })
-    }
-}
+error_texts! { BuildError {
+    Self::NoRuntimeSpecified => "Error occurred while building the pool: Timeouts require a runtime",
+    Self::OutOfMemory => "Error occurred while building the pool: Out of memory",
+} }
 
-impl Error for BuildError {}
-
-/// Has a builder set a field of its own.
+/// Has a builder set a field of its own, or add to a list of hooks.
 macro_rules! setters {
-    ($($(#[$doc:meta])* $name:ident: $type:ty => $($field:ident).+;)*) => {
+    (fields { $($(#[$doc:meta])* $name:ident: $type:ty => $($field:ident).+;)* }
+     lists { $($(#[$list_doc:meta])* $list:ident;)* }) => {
         $($(#[$doc])* pub fn $name(mut self, value: $type) -> Self {
-            self.$($field).+ = value;
+            self.$($field).+ = value.into();
+            self
+        })*
+
+        $($(#[$list_doc])* pub fn $list(mut self, hook: impl Into<Hook<M>>) -> Self {
+            self.hooks.$list.push(hook.into());
             self
         })*
     };
+}
+
+/// What a pool was built with.
+pub(super) struct Setup<M: Manager> {
+    pub(super) manager: M,
+    pub(super) hooks: Hooks<M>,
+    pub(super) timeouts: Timeouts,
+    pub(super) runtime: Option<Runtime>,
 }
 
 /// What a pool is built by.
@@ -75,64 +77,47 @@ impl<M: Manager, W: From<Object<M>>> PoolBuilder<M, W> {
     ///
     /// If a timeout is set and no runtime, or if no memory is found.
     pub fn build(self) -> Result<Pool<M, W>, BuildError> {
-        let PoolConfig { max_size, timeouts, queue_mode } = self.config;
-        if timeouts.is_any_set() && self.runtime.is_none() {
+        let PoolBuilder { manager, config, runtime, hooks, .. } = self;
+        let PoolConfig { max_size, timeouts, queue_mode } = config;
+        if timeouts.is_any_set() && runtime.is_none() {
             return Err(BuildError::NoRuntimeSpecified);
         }
         let is_lifo = queue_mode == QueueMode::Lifo;
         let desk = ManagedDesk::new(max_size, is_lifo, self.entries, self.min_idle).ok_or(BuildError::OutOfMemory)?;
-        Ok(Pool::counted(Arc::new(Shared {
-            manager: self.manager,
-            hooks: self.hooks,
-            timeouts,
-            runtime: self.runtime,
-            state: Locked::new(State { desk, idle: Table::new(), wakers: Wakers::default() }),
-        })))
+        Ok(Pool::of(Handle::new(Setup { manager, hooks, timeouts, runtime }, desk)))
     }
 
     setters! {
-        /// Sets what the configuration has.
-        config: PoolConfig => config;
-        /// Sets the greatest number of objects.
-        max_size: usize => config.max_size;
-        /// Sets all timeouts.
-        timeouts: Timeouts => config.timeouts;
-        /// Sets the timeout of the wait for a place.
-        wait_timeout: Option<Duration> => config.timeouts.wait;
-        /// Sets the timeout of a creation.
-        create_timeout: Option<Duration> => config.timeouts.create;
-        /// Sets the timeout of a recycling.
-        recycle_timeout: Option<Duration> => config.timeouts.recycle;
-        /// Sets which idle object is handed out next.
-        queue_mode: QueueMode => config.queue_mode;
-        /// Sets how many idle objects a resize and a retain leave, if as many are idle. It is this crate's own.
-        min_idle: usize => min_idle;
-        /// Sets how many steps the pool's journal has room for, 0 at first. It is this crate's own.
-        journal: usize => entries;
-    }
-
-    /// Adds a hook that sees a new object.
-    pub fn post_create(mut self, hook: impl Into<Hook<M>>) -> Self {
-        self.hooks.post_create.push(hook.into());
-        self
-    }
-
-    /// Adds a hook that sees an idle object before it is recycled.
-    pub fn pre_recycle(mut self, hook: impl Into<Hook<M>>) -> Self {
-        self.hooks.pre_recycle.push(hook.into());
-        self
-    }
-
-    /// Adds a hook that sees an idle object after it was recycled.
-    pub fn post_recycle(mut self, hook: impl Into<Hook<M>>) -> Self {
-        self.hooks.post_recycle.push(hook.into());
-        self
-    }
-
-    /// Sets where the pool has its timers from.
-    pub fn runtime(mut self, value: Runtime) -> Self {
-        self.runtime = Some(value);
-        self
+        fields {
+            /// Sets what the configuration has.
+            config: PoolConfig => config;
+            /// Sets the greatest number of objects.
+            max_size: usize => config.max_size;
+            /// Sets all timeouts.
+            timeouts: Timeouts => config.timeouts;
+            /// Sets the timeout of the wait for a place.
+            wait_timeout: Option<Duration> => config.timeouts.wait;
+            /// Sets the timeout of a creation.
+            create_timeout: Option<Duration> => config.timeouts.create;
+            /// Sets the timeout of a recycling.
+            recycle_timeout: Option<Duration> => config.timeouts.recycle;
+            /// Sets which idle object is handed out next.
+            queue_mode: QueueMode => config.queue_mode;
+            /// Sets where the pool has its timers from.
+            runtime: Runtime => runtime;
+            /// Sets how many idle objects a resize and a retain leave, if as many are idle. It is this crate's own.
+            min_idle: usize => min_idle;
+            /// Sets how many steps the pool's journal has room for, 0 at first. It is this crate's own.
+            journal: usize => entries;
+        }
+        lists {
+            /// Adds a hook that sees a new object.
+            post_create;
+            /// Adds a hook that sees an idle object before it is recycled.
+            pre_recycle;
+            /// Adds a hook that sees an idle object after it was recycled.
+            post_recycle;
+        }
     }
 }
 

@@ -1,7 +1,6 @@
 //! What a pool is opened with.
 use super::BuildError;
-use std::error::Error;
-use std::fmt;
+use crate::errors::error_texts;
 use std::time::Duration;
 
 /// How many objects, how long each phase of a get may last, and which idle object is next.
@@ -25,13 +24,9 @@ impl PoolConfig {
 /// Twice as many objects as there are processors.
 impl Default for PoolConfig {
     fn default() -> Self {
-        PoolConfig::new(default_size())
+        let processors = std::thread::available_parallelism();
+        PoolConfig::new(processors.map_or(2, |count| count.get().saturating_mul(2)))
     }
-}
-
-pub(crate) fn default_size() -> usize {
-    let processors = std::thread::available_parallelism();
-    processors.map_or(2, |count| count.get().saturating_mul(2))
 }
 
 /// How long each phase of a get may last; none is without an end.
@@ -80,20 +75,7 @@ pub enum CreatePoolError<C> {
     Build(BuildError),
 }
 
-impl<C: fmt::Display> fmt::Display for CreatePoolError<C> {
-    fn fmt(&self, f: &mut fmt::Formatter<'_>) -> fmt::Result {
-        match self {
-            CreatePoolError::Config(cause) => write!(f, "Config: {cause}"),
-            CreatePoolError::Build(cause) => write!(f, "Build: {cause}"),
-        }
-    }
-}
-
-impl<C: Error + 'static> Error for CreatePoolError<C> {
-    fn source(&self) -> Option<&(dyn Error + 'static)> {
-        match self {
-            CreatePoolError::Config(cause) => Some(cause),
-            CreatePoolError::Build(cause) => Some(cause),
-        }
-    }
-}
+error_texts! { CreatePoolError<C> {
+    Self::Config(cause) => "Config: {cause}" from cause,
+    Self::Build(cause) => "Build: {cause}" from cause,
+} }

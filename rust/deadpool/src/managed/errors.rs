@@ -1,7 +1,6 @@
 //! Why a get or a recycling was refused.
+use crate::errors::error_texts;
 use std::borrow::Cow;
-use std::error::Error;
-use std::fmt;
 
 /// The phase of a get that ran out of time.
 #[derive(Clone, Copy, Debug, PartialEq, Eq)]
@@ -33,35 +32,17 @@ pub enum PoolError<E> {
     NumbersExhausted,
 }
 
-impl<E: fmt::Display> fmt::Display for PoolError<E> {
-    fn fmt(&self, f: &mut fmt::Formatter<'_>) -> fmt::Result {
-        f.write_str(match self {
-            PoolError::Timeout(TimeoutType::Wait) => "Timeout occurred while waiting for a slot to become available",
-            PoolError::Timeout(TimeoutType::Create) => "Timeout occurred while creating a new object",
-            PoolError::Timeout(TimeoutType::Recycle) => "Timeout occurred while recycling an object",
-            PoolError::Backend(cause) => {
-                return write!(f, "Error occurred while creating a new object: {cause}");
-            }
-            PoolError::Closed => "Pool has been closed",
-            PoolError::NoRuntimeSpecified => "No runtime specified",
-            PoolError::PostCreateHook(cause) => {
-                return writeln!(f, "`post_create` hook failed: {cause}");
-            }
-            PoolError::OutOfMemory => "Out of memory",
-            PoolError::NumbersExhausted => "Object numbers are exhausted",
-        })
-    }
-}
-
-impl<E: Error + 'static> Error for PoolError<E> {
-    fn source(&self) -> Option<&(dyn Error + 'static)> {
-        match self {
-            PoolError::Backend(cause) => Some(cause),
-            PoolError::PostCreateHook(cause) => Some(cause),
-            _ => None,
-        }
-    }
-}
+error_texts! { PoolError<E> {
+    Self::Timeout(TimeoutType::Wait) => "Timeout occurred while waiting for a slot to become available",
+    Self::Timeout(TimeoutType::Create) => "Timeout occurred while creating a new object",
+    Self::Timeout(TimeoutType::Recycle) => "Timeout occurred while recycling an object",
+    Self::Backend(cause) => "Error occurred while creating a new object: {cause}" from cause,
+    Self::Closed => "Pool has been closed",
+    Self::NoRuntimeSpecified => "No runtime specified",
+    Self::PostCreateHook(cause) => "`post_create` hook failed: {cause}\n" from cause,
+    Self::OutOfMemory => "Out of memory",
+    Self::NumbersExhausted => "Object numbers are exhausted",
+} }
 
 impl<E> From<E> for PoolError<E> {
     fn from(cause: E) -> Self {
@@ -69,54 +50,50 @@ impl<E> From<E> for PoolError<E> {
     }
 }
 
-/// An error with a text, or with what the backend says.
-macro_rules! refusals {
-    ($($(#[$doc:meta])* $name:ident, after $before:literal;)*) => {$(
-        $(#[$doc])*
-        #[derive(Debug)]
-        pub enum $name<E> {
-            /// A text.
-            Message(Cow<'static, str>),
-            /// What the backend says of it.
-            Backend(E),
-        }
-
-        impl<E> $name<E> {
-            /// A refusal with this text.
-            pub fn message(msg: impl Into<Cow<'static, str>>) -> Self {
-                $name::Message(msg.into())
-            }
-        }
-
-        impl<E: fmt::Display> fmt::Display for $name<E> {
-            fn fmt(&self, f: &mut fmt::Formatter<'_>) -> fmt::Result {
-                match self {
-                    $name::Message(text) => write!(f, "{}{text}", $before),
-                    $name::Backend(cause) => write!(f, "{}{cause}", $before),
-                }
-            }
-        }
-
-        impl<E: Error + 'static> Error for $name<E> {
-            fn source(&self) -> Option<&(dyn Error + 'static)> {
-                match self {
-                    $name::Message(_) => None,
-                    $name::Backend(cause) => Some(cause),
-                }
-            }
-        }
-    )*};
+/// Why an object was not recycled.
+#[derive(Debug)]
+pub enum RecycleError<E> {
+    /// A text.
+    Message(Cow<'static, str>),
+    /// What the backend says of it.
+    Backend(E),
 }
 
-refusals! {
-    /// Why an object was not recycled.
-    RecycleError, after "Error occurred while recycling an object: ";
-    /// Why a hook refused an object.
-    HookError, after "";
+impl<E> RecycleError<E> {
+    /// A refusal with this text.
+    pub fn message(msg: impl Into<Cow<'static, str>>) -> Self {
+        RecycleError::Message(msg.into())
+    }
 }
+
+error_texts! { RecycleError<E> {
+    Self::Message(text) => "Error occurred while recycling an object: {text}",
+    Self::Backend(cause) => "Error occurred while recycling an object: {cause}" from cause,
+} }
 
 impl<E> From<E> for RecycleError<E> {
     fn from(cause: E) -> Self {
         RecycleError::Backend(cause)
     }
 }
+
+/// Why a hook refused an object.
+#[derive(Debug)]
+pub enum HookError<E> {
+    /// A text.
+    Message(Cow<'static, str>),
+    /// What the backend says of it.
+    Backend(E),
+}
+
+impl<E> HookError<E> {
+    /// A refusal with this text.
+    pub fn message(msg: impl Into<Cow<'static, str>>) -> Self {
+        HookError::Message(msg.into())
+    }
+}
+
+error_texts! { HookError<E> {
+    Self::Message(text) => "{text}",
+    Self::Backend(cause) => "{cause}" from cause,
+} }

@@ -1,32 +1,47 @@
-//! A get, from its first poll to its object.
-use super::hooks;
+//! A get, from its first poll to its object. What it holds is given back if it ends without an object or is dropped.
 use super::object::Slot;
-use super::party::{Party, Serving};
-use super::shared::Shared;
-use super::{Manager, PoolError, TimeoutType, Timeouts};
+use super::{Manager, Metrics, OutOfMemory, PoolError, Shared, State, TimeoutType, Timeouts, hooks};
+use crate::sys::{CREATE, CREATED, EXHAUSTED, EXPIRED, FULL, GOING, ManagedDesk, OBJECT, OUT_OF_MEMORY, Reply};
 use crate::timed::{Alarm, in_time, noting_polls, poll_again};
-use std::future::poll_fn;
 use std::time::Duration;
 
 type Given<T, M> = Result<T, PoolError<<M as Manager>::Error>>;
+type Step = fn(&mut ManagedDesk) -> Reply;
 
-impl<M: Manager> Shared<M> {
-    pub(super) async fn get(&self, timeouts: &Timeouts) -> Given<Slot<M>, M> {
-        let mut party = Party::new(self);
-        let mut served = self.place(&mut party, timeouts.wait).await?;
+/// How a get is served. It has its object, and may take so many more in this poll.
+enum Serving {
+    Object(usize),
+    Create,
+    Going,
+}
+
+pub(super) struct Get<'a, M: Manager> {
+    pool: &'a Shared<M>,
+    /// The step that gives back what is held, if anything is.
+    cancel: Option<Step>,
+    slot: Option<Slot<M>>,
+}
+
+impl<'a, M: Manager> Get<'a, M> {
+    pub(super) fn new(pool: &'a Shared<M>) -> Self {
+        Get { pool, cancel: None, slot: None }
+    }
+
+    /// An object, within these timeouts.
+    pub(super) async fn within(mut self, timeouts: &Timeouts) -> Given<Option<Slot<M>>, M> {
+        let mut serving = self.place(timeouts.wait).await?;
         loop {
-            let allowance = match served {
+            let allowance = match serving {
                 Serving::Create => {
-                    self.create(&mut party, timeouts.create).await?;
-                    return Ok(party.done());
+                    self.create(timeouts.create).await?;
+                    break;
                 }
                 Serving::Object(left) => {
-                    let preparation = self.is_ready(party.slot(), timeouts.recycle);
-                    let (is_ready, was_pending) = noting_polls(preparation).await;
-                    if is_ready {
-                        return Ok(party.done());
+                    let (prepared, was_pending) = noting_polls(self.prepare(timeouts.recycle)).await;
+                    if prepared.is_some() {
+                        break;
                     }
-                    party.discard();
+                    self.give_up(ManagedDesk::discard, Some(ManagedDesk::cancel_place));
                     // (each poll has an allowance of its own)
                     if was_pending { None } else { Some(left) }
                 }
@@ -35,63 +50,101 @@ impl<M: Manager> Shared<M> {
                     None
                 }
             };
-            served = party.again(allowance)?;
+            serving = self.pool.step(|state| {
+                let reply = state.desk.again(allowance.is_some(), allowance.unwrap_or(0));
+                self.served(state, reply)
+            })?;
         }
+        self.cancel = None;
+        Ok(self.slot.take())
     }
 
     /// A place, and how it is served.
-    async fn place(&self, party: &mut Party<'_, M>, wait: Option<Duration>) -> Given<Serving, M> {
-        let wait = wait.map(|wait| (!wait.is_zero()).then_some(wait));
-        let mut alarm = self.alarm(wait.flatten())?;
-        let may_wait = wait != Some(None);
-        poll_fn(|cx| party.poll_place(may_wait, &mut alarm, cx)).await
+    async fn place(&mut self, wait: Option<Duration>) -> Given<Serving, M> {
+        let may_wait = wait != Some(Duration::ZERO);
+        let alarm = self.alarm(wait.filter(|_| may_wait))?;
+        self.pool.get(may_wait, alarm, |state, reply| self.served(state, reply)).await
     }
 
-    /// An alarm after so long, if there is a timeout, which needs a runtime.
-    fn alarm(&self, timeout: Option<Duration>) -> Given<Alarm, M> {
-        let Some(duration) = timeout else {
-            return Ok(Alarm::default());
+    /// What a reply serves. The object goes out under the lock.
+    fn served(&mut self, state: &mut State<M>, reply: Reply) -> Given<Serving, M> {
+        self.cancel = None;
+        let (cancel, serving): (Step, _) = match reply.kind {
+            OBJECT => {
+                self.slot = state.idle.take(reply.key);
+                (ManagedDesk::cancel_object, Serving::Object(reply.left))
+            }
+            CREATE => (ManagedDesk::cancel_creation, Serving::Create),
+            GOING => (ManagedDesk::cancel_place, Serving::Going),
+            FULL | EXPIRED => return Err(PoolError::Timeout(TimeoutType::Wait)),
+            OUT_OF_MEMORY => return Err(PoolError::OutOfMemory),
+            EXHAUSTED => return Err(PoolError::NumbersExhausted),
+            _ => return Err(PoolError::Closed),
         };
-        match self.sleep(duration) {
-            Some(sleep) => Ok(Alarm::new(sleep)),
-            None => Err(PoolError::NoRuntimeSpecified),
-        }
+        self.cancel = Some(cancel);
+        Ok(serving)
+    }
+
+    fn alarm(&self, timeout: Option<Duration>) -> Given<Alarm, M> {
+        Alarm::after(timeout, self.pool.setup.runtime).ok_or(PoolError::NoRuntimeSpecified)
     }
 
     /// A new object, which the hooks have accepted.
-    async fn create(&self, party: &mut Party<'_, M>, timeout: Option<Duration>) -> Given<(), M> {
-        let alarm = self.alarm(timeout).map_err(|cause| party.fail(cause))?;
-        let value = match in_time(alarm, self.manager.create()).await {
-            Some(Ok(value)) => value,
-            Some(Err(cause)) => return Err(party.fail(PoolError::Backend(cause))),
-            None => return Err(party.fail(PoolError::Timeout(TimeoutType::Create))),
-        };
-        party.created(value)?;
-        let Slot { value, metrics, .. } = party.slot();
-        if let Err(cause) = hooks::pass(&self.hooks.post_create, value, metrics).await {
-            party.refuse();
-            return Err(PoolError::PostCreateHook(cause));
+    async fn create(&mut self, timeout: Option<Duration>) -> Given<(), M> {
+        let created = self.new_value(timeout).await.and_then(|value| self.created(value));
+        created.inspect_err(|_| self.give_up(ManagedDesk::failed, None))?;
+        let slot = self.slot.as_mut().expect("the get has an object");
+        let passed = hooks::pass(&self.pool.setup.hooks.post_create, slot).await;
+        passed.map_err(PoolError::PostCreateHook).inspect_err(|_| self.give_up(ManagedDesk::refused, None))
+    }
+
+    /// A value that the manager has made, in time.
+    async fn new_value(&mut self, timeout: Option<Duration>) -> Given<M::Type, M> {
+        let made = in_time(self.alarm(timeout)?, self.pool.setup.manager.create()).await;
+        made.ok_or(PoolError::Timeout(TimeoutType::Create))?.map_err(PoolError::Backend)
+    }
+
+    /// The creation ends well, unless the table has no place for the object.
+    fn created(&mut self, value: M::Type) -> Given<(), M> {
+        let made = self.pool.step(|state| Ok((state.idle.new_key()?, state.desk.created())));
+        let (key, reply) = made.map_err(|OutOfMemory| PoolError::OutOfMemory)?;
+        if reply.kind != CREATED {
+            return Err(PoolError::Closed);
         }
+        self.cancel = Some(ManagedDesk::cancel_object);
+        self.slot = Some(Slot { value, metrics: Metrics::default(), number: reply.number, key });
         Ok(())
     }
 
-    /// Whether an idle object can be handed out again: the hooks and the manager have accepted it, in time.
-    async fn is_ready(&self, slot: &mut Slot<M>, timeout: Option<Duration>) -> bool {
-        let Slot { value, metrics, .. } = slot;
-        if hooks::pass(&self.hooks.pre_recycle, value, metrics).await.is_err() {
-            return false;
+    /// Makes an idle object ready to be handed out again. It is not if a hook or the manager refuses it or takes too long.
+    async fn prepare(&mut self, timeout: Option<Duration>) -> Option<()> {
+        let (setup, slot) = (&self.pool.setup, self.slot.as_mut()?);
+        hooks::pass(&setup.hooks.pre_recycle, slot).await.ok()?;
+        let alarm = Alarm::after(timeout, setup.runtime)?;
+        in_time(alarm, setup.manager.recycle(&mut slot.value, &slot.metrics)).await?.ok()?;
+        hooks::pass(&setup.hooks.post_recycle, slot).await.ok()?;
+        slot.metrics.recycled_now();
+        Some(())
+    }
+
+    /// Makes a step that gives up what is held, with the object if there is one. What is held after it has this cancel.
+    fn give_up(&mut self, step: Step, cancel: Option<Step>) {
+        self.cancel = cancel;
+        let slot = self.slot.take();
+        self.pool.step(|state| {
+            slot.iter().for_each(|slot| state.idle.forget(slot.key));
+            step(&mut state.desk)
+        });
+        if let Some(mut slot) = slot {
+            self.pool.setup.manager.detach(&mut slot.value);
         }
-        let Ok(alarm) = self.alarm(timeout) else {
-            return false;
-        };
-        let recycled = in_time(alarm, self.manager.recycle(value, metrics)).await;
-        if !matches!(recycled, Some(Ok(()))) {
-            return false;
+    }
+}
+
+impl<M: Manager> Drop for Get<'_, M> {
+    fn drop(&mut self) {
+        if let Some(cancel) = self.cancel {
+            self.give_up(cancel, None);
         }
-        if hooks::pass(&self.hooks.post_recycle, value, metrics).await.is_err() {
-            return false;
-        }
-        metrics.recycled_now();
-        true
     }
 }

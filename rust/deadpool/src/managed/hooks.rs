@@ -1,4 +1,5 @@
 //! Code of a user's that sees each object at a point of its life, and may refuse it.
+use super::object::Slot;
 use super::{HookError, Manager, Metrics};
 use std::fmt;
 use std::future::Future;
@@ -54,11 +55,8 @@ pub(super) struct Hooks<M: Manager> {
 }
 
 /// The hooks of a list see an object in turn, up to the first that refuses it.
-pub(super) async fn pass<M: Manager>(
-    hooks: &[Hook<M>],
-    value: &mut M::Type,
-    metrics: &Metrics,
-) -> HookResult<M::Error> {
+pub(super) async fn pass<M: Manager>(hooks: &[Hook<M>], slot: &mut Slot<M>) -> HookResult<M::Error> {
+    let Slot { value, metrics, .. } = slot;
     for hook in hooks {
         match hook {
             Hook::Fn(f) => f(value, metrics)?,

@@ -1,5 +1,5 @@
 //! A journal of a pool's steps.
-use crate::sys::{DONE, ManagedDesk, NotedStep, OBJECT, Reply, WAITING};
+use crate::sys::{CREATED, DONE, ManagedDesk, NotedStep, OBJECT, WAITING};
 use std::fmt;
 
 /// The steps that a pool has made, each with its reply, a line each. It begins with the first step.
@@ -23,9 +23,7 @@ fn word(words: &'static str, at: u64) -> &'static str {
 
 impl Journal {
     pub(super) fn read(desk: &mut ManagedDesk) -> Self {
-        let entries = (0..).map_while(|at| line(desk, at)).collect();
-        let is_full = desk.is_full();
-        Journal { entries, is_full }
+        Journal { entries: (0..).map_while(|at| line(desk, at)).collect(), is_full: desk.is_full() }
     }
 }
 
@@ -37,20 +35,20 @@ impl fmt::Display for Journal {
 }
 
 fn line(desk: &mut ManagedDesk, at: usize) -> Option<String> {
-    let entry = desk.entry(at);
-    let step = word(STEPS, entry.step);
-    let NotedStep { is_set, number, reply, standing, .. } = entry;
-    let said = word(REPLIES, reply.kind);
+    let NotedStep { step, is_set, number, reply, standing } = desk.entry(at);
+    let step = word(STEPS, step);
+    let said = match reply.kind {
+        OBJECT => format!("object {} left {}", reply.number, reply.left),
+        WAITING if step == "enter" => format!("waiting {}", reply.number),
+        kind => word(REPLIES, kind).into(),
+    };
     Some(match step {
         "" => return None,
-        "enter" if is_set => format!("enter {}", served(reply, true)),
-        "enter" => format!("enter at_once {}", served(reply, true)),
-        "ask" if is_set => format!("ask {number} late {}", served(reply, false)),
-        "ask" => format!("ask {number} {}", served(reply, false)),
-        "again" if is_set => format!("again {number} {}", served(reply, false)),
-        "again" => format!("again {}", served(reply, false)),
-        "created" if said == "created" => format!("created {}", reply.number),
-        "back" | "cancel ticket" | "resize" => format!("{step} {number} {said}"),
+        "enter" if !is_set => format!("enter at_once {said}"),
+        "ask" if is_set => format!("ask {number} late {said}"),
+        "again" if is_set => format!("again {number} {said}"),
+        "ask" | "back" | "cancel ticket" | "resize" => format!("{step} {number} {said}"),
+        "created" if reply.kind == CREATED => format!("created {}", reply.number),
         "status" => {
             format!("status {} {} {} {}", standing.max_size, standing.size, standing.available, standing.waiting)
         }
@@ -61,13 +59,4 @@ fn line(desk: &mut ManagedDesk, at: usize) -> Option<String> {
         "upgrade" => format!("upgrade {}", reply.kind == DONE),
         _ => format!("{step} {said}"),
     })
-}
-
-/// How a get was served; of one that waits from now on its ticket.
-fn served(reply: Reply, is_new: bool) -> String {
-    match reply.kind {
-        OBJECT => format!("object {} left {}", reply.number, reply.left),
-        WAITING if is_new => format!("waiting {}", reply.number),
-        _ => word(REPLIES, reply.kind).into(),
-    }
 }

@@ -9,12 +9,10 @@ mod hooks;
 mod journal;
 mod manager;
 mod object;
-mod party;
 mod pool;
-mod shared;
 
 pub use crate::Status;
-pub use crate::table::OutOfMemory;
+pub use crate::errors::OutOfMemory;
 pub use builder::{BuildError, PoolBuilder};
 pub use config::{CreatePoolError, PoolConfig, QueueMode, Timeouts};
 pub use errors::{HookError, PoolError, RecycleError, TimeoutType};
@@ -23,6 +21,14 @@ pub use journal::Journal;
 pub use manager::{Manager, Metrics, RecycleResult};
 pub use object::{Object, ObjectId};
 pub use pool::{Pool, RetainResult, WeakPool};
+
+use crate::shared;
+use crate::sys::ManagedDesk;
+
+/// What both pools have, at the types of this one.
+type State<M> = shared::State<ManagedDesk, object::Slot<M>>;
+type Shared<M> = shared::Shared<builder::Setup<M>, ManagedDesk, object::Slot<M>>;
+type Handle<M> = shared::Handle<builder::Setup<M>, ManagedDesk, object::Slot<M>>;
 
 /// What a backend gives on under its own name, so that its users need not depend on this crate.
 pub mod reexports {

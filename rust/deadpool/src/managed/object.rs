@@ -1,7 +1,7 @@
 //! An object that is out.
-use super::shared::Shared;
-use super::{Manager, Metrics, Pool};
-use crate::locked::lends_value;
+use super::{Manager, Metrics, Pool, Shared};
+use crate::lends::lends_value;
+use crate::sys::{DETACH, KEPT};
 use std::fmt;
 use std::sync::Arc;
 
@@ -27,32 +27,26 @@ impl fmt::Display for ObjectId {
 #[must_use]
 pub struct Object<M: Manager> {
     /// It is there until the object is taken or dropped.
-    slot: Option<Slot<M>>,
-    pool: Arc<Shared<M>>,
+    pub(super) slot: Option<Slot<M>>,
+    pub(super) pool: Arc<Shared<M>>,
 }
 
 impl<M: Manager> Object<M> {
-    pub(super) fn new(slot: Slot<M>, pool: Arc<Shared<M>>) -> Self {
-        let slot = Some(slot);
-        Object { slot, pool }
-    }
-
     fn slot(&self) -> &Slot<M> {
         self.slot.as_ref().expect("an object has its value")
     }
 
-    fn value(&self) -> &M::Type {
-        &self.slot().value
-    }
-
-    fn value_mut(&mut self) -> &mut M::Type {
-        &mut self.slot.as_mut().expect("an object has its value").value
-    }
-
     /// Takes the value out of the pool for good. Its place is free.
     pub fn take(mut this: Self) -> M::Type {
-        let slot = this.slot.take().expect("an object has its value");
-        this.pool.take(slot)
+        let mut slot = this.slot.take().expect("an object has its value");
+        let reply = this.pool.step(|state| {
+            state.idle.forget(slot.key);
+            state.desk.take()
+        });
+        if reply.kind == DETACH {
+            this.pool.setup.manager.detach(&mut slot.value);
+        }
+        slot.value
     }
 
     /// Its number.
@@ -72,14 +66,22 @@ impl<M: Manager> Object<M> {
 }
 
 impl<M: Manager> Drop for Object<M> {
+    /// What is not kept is dropped after this, without the lock.
     fn drop(&mut self) {
-        if let Some(slot) = self.slot.take() {
-            self.pool.back(slot);
+        let Some(Slot { number, key, .. }) = self.slot else { return };
+        let reply = self.pool.step(|state| {
+            let reply = state.desk.back(number, key);
+            state.idle.settle(key, &mut self.slot, reply.kind == KEPT);
+            reply
+        });
+        match &mut self.slot {
+            Some(slot) if reply.kind == DETACH => self.pool.setup.manager.detach(&mut slot.value),
+            _ => (),
         }
     }
 }
 
-lends_value!([M: Manager] Object<M> => M::Type);
+lends_value!([M: Manager] Object<M> => M::Type, in slot.value);
 
 impl<M: Manager> fmt::Debug for Object<M>
 where

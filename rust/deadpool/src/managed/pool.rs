@@ -1,9 +1,8 @@
 //! A handle of a pool.
-use super::journal::Journal;
-use super::shared::Shared;
-use super::{Manager, Metrics, Object, OutOfMemory, PoolBuilder, PoolError, Timeouts};
+use super::get::Get;
+use super::{Handle, Journal, Manager, Metrics, Object, OutOfMemory, PoolBuilder, PoolError, Shared, State, Timeouts};
 use crate::Status;
-use crate::sys::DONE;
+use crate::sys::Desk;
 use std::fmt;
 use std::marker::PhantomData;
 use std::sync::{Arc, Weak};
@@ -19,7 +18,7 @@ pub struct RetainResult<T> {
 
 /// A handle of a pool, which hands its objects out as `W`. With the last handle the idle objects are dropped.
 pub struct Pool<M: Manager, W: From<Object<M>> = Object<M>> {
-    shared: Arc<Shared<M>>,
+    shared: Handle<M>,
     wrapper: PhantomData<fn() -> W>,
 }
 
@@ -29,15 +28,13 @@ impl<M: Manager, W: From<Object<M>>> Pool<M, W> {
         PoolBuilder::new(manager)
     }
 
-    /// The handle that the desk counts already.
-    pub(super) fn counted(shared: Arc<Shared<M>>) -> Self {
-        let wrapper = PhantomData;
-        Pool { shared, wrapper }
+    pub(super) fn of(shared: Handle<M>) -> Self {
+        Pool { shared, wrapper: PhantomData }
     }
 
     pub(super) fn upgrade(shared: &Arc<Shared<M>>) -> Option<Self> {
-        let is_left = shared.state.look().desk.upgrade();
-        is_left.then(|| Pool::counted(shared.clone()))
+        let is_left = shared.look().desk.upgrade();
+        is_left.then(|| Pool::of(Handle { shared: shared.clone() }))
     }
 
     /// An object, within the pool's timeouts.
@@ -46,7 +43,7 @@ impl<M: Manager, W: From<Object<M>>> Pool<M, W> {
     ///
     /// Each [`PoolError`] says when it comes. The get then holds nothing.
     pub async fn get(&self) -> Result<W, PoolError<M::Error>> {
-        self.timeout_get(&self.shared.timeouts).await
+        self.timeout_get(&self.shared.setup.timeouts).await
     }
 
     /// An object, within these timeouts.
@@ -55,8 +52,8 @@ impl<M: Manager, W: From<Object<M>>> Pool<M, W> {
     ///
     /// As of [`Pool::get`].
     pub async fn timeout_get(&self, timeouts: &Timeouts) -> Result<W, PoolError<M::Error>> {
-        let slot = self.shared.get(timeouts).await?;
-        Ok(Object::new(slot, self.shared.clone()).into())
+        let slot = Get::new(&self.shared).within(timeouts).await?;
+        Ok(Object { slot, pool: Arc::clone(&self.shared) }.into())
     }
 
     /// Sets the limit of an open pool. The idle objects above it are dropped, the one that came back first before the others.
@@ -74,7 +71,8 @@ impl<M: Manager, W: From<Object<M>>> Pool<M, W> {
     ///
     /// A limit above all before it needs memory. If none is found nothing has changed.
     pub fn try_resize(&self, max_size: usize) -> Result<(), OutOfMemory> {
-        self.shared.state.step(|state| state.resize(max_size)).map(drop)
+        let (_gone, reply) = self.shared.give_up(|desk, keys| desk.resize(max_size, keys));
+        reply.done().map(drop).ok_or(OutOfMemory)
     }
 
     /// Gives up the idle objects of which the predicate, which is asked about each, says no. It is asked under the lock, so
@@ -96,40 +94,45 @@ impl<M: Manager, W: From<Object<M>>> Pool<M, W> {
         &self,
         mut predicate: impl FnMut(&M::Type, Metrics) -> bool,
     ) -> Result<RetainResult<M::Type>, OutOfMemory> {
-        let (retained, mut gone) =
-            self.shared.state.step(|state| state.retain(|slot| predicate(&slot.value, slot.metrics)))?;
-        for slot in &mut gone {
-            self.shared.manager.detach(&mut slot.value);
-        }
-        let removed = gone.into_iter().map(|slot| slot.value).collect();
-        Ok(RetainResult { retained, removed })
+        let (mut gone, reply) = self.shared.step(|State { desk, idle, .. }| {
+            let mut keep = Vec::new();
+            while let Some(reply) = desk.key(keep.len()).done() {
+                keep.try_reserve(1).map_err(|_| OutOfMemory)?;
+                let is_kept = idle.get(reply.key).is_some_and(|slot| predicate(&slot.value, slot.metrics));
+                keep.push(u8::from(is_kept));
+            }
+            Ok(idle.give_up(|keys| desk.retain(&keep, keys)))
+        })?;
+        let retained = reply.done().ok_or(OutOfMemory)?.left;
+        gone.iter_mut().for_each(|slot| self.shared.setup.manager.detach(&mut slot.value));
+        Ok(RetainResult { retained, removed: gone.into_iter().map(|slot| slot.value).collect() })
     }
 
     /// The timeouts that the pool was built with.
     pub fn timeouts(&self) -> Timeouts {
-        self.shared.timeouts
+        self.shared.setup.timeouts
     }
 
     /// Closes the pool for good: its limit is 0, the idle objects are dropped, and each get ends with `Closed`.
     pub fn close(&self) {
-        drop(self.shared.state.step(|state| state.close()));
+        self.shared.close();
     }
 
     /// Whether the pool has closed.
     pub fn is_closed(&self) -> bool {
-        self.shared.state.look().desk.is_closed()
+        self.shared.look().desk.is_closed()
     }
 
     /// How the pool stands.
     #[must_use]
     pub fn status(&self) -> Status {
-        self.shared.state.look().desk.status()
+        self.shared.look().desk.status()
     }
 
     /// The manager.
     #[must_use]
     pub fn manager(&self) -> &M {
-        &self.shared.manager
+        &self.shared.setup.manager
     }
 
     /// A reference that is no handle.
@@ -139,21 +142,13 @@ impl<M: Manager, W: From<Object<M>>> Pool<M, W> {
 
     /// The steps that the pool has made, of which [`PoolBuilder::journal`] says how many are noted.
     pub fn journal(&self) -> Journal {
-        Journal::read(&mut self.shared.state.look().desk)
+        Journal::read(&mut self.shared.look().desk)
     }
 }
 
 impl<M: Manager, W: From<Object<M>>> Clone for Pool<M, W> {
     fn clone(&self) -> Self {
-        let reply = self.shared.state.look().desk.clone_handle();
-        debug_assert_eq!(reply.kind, DONE, "a handle is counted");
-        Pool::counted(self.shared.clone())
-    }
-}
-
-impl<M: Manager, W: From<Object<M>>> Drop for Pool<M, W> {
-    fn drop(&mut self) {
-        drop(self.shared.state.step(|state| state.drop_handle()));
+        Pool::of(self.shared.clone())
     }
 }
 

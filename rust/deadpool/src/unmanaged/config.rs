@@ -1,8 +1,7 @@
 //! What a pool is opened with, and why its calls are refused.
-use crate::managed::PoolConfig as Managed;
+use crate::errors::error_texts;
+use crate::managed;
 use crate::runtime::Runtime;
-use std::error::Error;
-use std::fmt;
 use std::time::Duration;
 
 /// How many objects there may be, and how long a get waits.
@@ -27,7 +26,7 @@ impl PoolConfig {
 /// Twice as many objects as there are processors.
 impl Default for PoolConfig {
     fn default() -> Self {
-        PoolConfig::new(Managed::default().max_size)
+        PoolConfig::new(managed::PoolConfig::default().max_size)
     }
 }
 
@@ -44,15 +43,9 @@ pub enum PoolError {
     OutOfMemory,
 }
 
-impl fmt::Display for PoolError {
-    fn fmt(&self, f: &mut fmt::Formatter<'_>) -> fmt::Result {
-        f.write_str(match self {
-            PoolError::Timeout => "Timeout occurred while waiting for an object to become available",
-            PoolError::Closed => "Pool has been closed",
-            PoolError::NoRuntimeSpecified => "No runtime specified",
-            PoolError::OutOfMemory => "Out of memory",
-        })
-    }
-}
-
-impl Error for PoolError {}
+error_texts! { PoolError {
+    Self::Timeout => "Timeout occurred while waiting for an object to become available",
+    Self::Closed => "Pool has been closed",
+    Self::NoRuntimeSpecified => "No runtime specified",
+    Self::OutOfMemory => "Out of memory",
+} }

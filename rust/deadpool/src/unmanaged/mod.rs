@@ -1,11 +1,11 @@
 //! A pool of objects that its users add.
 #![forbid(unsafe_code)]
 
-mod asking;
 mod config;
+mod object;
 mod pool;
-mod shared;
 
 pub use crate::Status;
 pub use config::{PoolConfig, PoolError};
-pub use pool::{Object, Pool};
+pub use object::Object;
+pub use pool::Pool;

@@ -1,18 +1,17 @@
-//! A handle of a pool, and an object that is out.
-use super::asking::{Adding, Getting};
-use super::shared::Shared;
-use super::{PoolConfig, PoolError};
+//! A handle of a pool.
+use super::{Object, PoolConfig, PoolError};
 use crate::Status;
-use crate::locked::lends_value;
+use crate::shared::{Handle, State};
+use crate::sys::{Desk, EXPIRED, FULL, OBJECT, OUT_OF_MEMORY, Reply, STORED, UnmanagedDesk};
 use crate::timed::Alarm;
+use crate::waiting::Waiting;
 use std::fmt;
-use std::future::poll_fn;
 use std::sync::Arc;
 use std::time::Duration;
 
 /// A handle of a pool. With the last one the idle objects are dropped.
 pub struct Pool<T> {
-    shared: Arc<Shared<T>>,
+    shared: Handle<PoolConfig, UnmanagedDesk, T>,
 }
 
 impl<T> Pool<T> {
@@ -40,9 +39,8 @@ impl<T> Pool<T> {
     ///
     /// `OutOfMemory`, if no memory is found for as many objects.
     pub fn try_from_config(config: &PoolConfig) -> Result<Self, PoolError> {
-        let shared = Shared::new(*config).ok_or(PoolError::OutOfMemory)?;
-        let shared = Arc::new(shared);
-        Ok(Pool { shared })
+        let desk = UnmanagedDesk::new(config.max_size).ok_or(PoolError::OutOfMemory)?;
+        Ok(Pool { shared: Handle::new(*config, desk) })
     }
 
     /// An object, within the configured timeout.
@@ -51,7 +49,7 @@ impl<T> Pool<T> {
     ///
     /// Each [`PoolError`] says when it comes.
     pub async fn get(&self) -> Result<Object<T>, PoolError> {
-        self.timeout_get(self.shared.config.timeout).await
+        self.timeout_get(self.shared.setup.timeout).await
     }
 
     /// An object, if one is free.
@@ -60,8 +58,11 @@ impl<T> Pool<T> {
     ///
     /// `Timeout` if none is.
     pub fn try_get(&self) -> Result<Object<T>, PoolError> {
-        let given = Getting::new(&self.shared).at_once()?;
-        Ok(self.object(given))
+        let given = self.shared.step(|state| {
+            let reply = state.desk.enter(false);
+            handed_out(state, reply)
+        });
+        given.map(|given| self.object(given))
     }
 
     /// An object, within this timeout.
@@ -70,19 +71,16 @@ impl<T> Pool<T> {
     ///
     /// As of [`Pool::get`].
     pub async fn timeout_get(&self, timeout: Option<Duration>) -> Result<Object<T>, PoolError> {
-        let mut alarm = match (timeout, self.shared.config.runtime) {
-            (None, _) => Alarm::default(),
-            (Some(Duration::ZERO), _) => return self.try_get(),
-            (Some(duration), Some(runtime)) => Alarm::new(runtime.sleep(duration)),
-            (Some(_), None) => return Err(PoolError::NoRuntimeSpecified),
-        };
-        let mut getting = Getting::new(&self.shared);
-        let given = poll_fn(|cx| getting.poll(&mut alarm, cx)).await?;
-        Ok(self.object(given))
+        if timeout == Some(Duration::ZERO) {
+            return self.try_get();
+        }
+        let alarm = Alarm::after(timeout, self.shared.setup.runtime).ok_or(PoolError::NoRuntimeSpecified)?;
+        let given = self.shared.get(true, alarm, handed_out).await;
+        given.map(|given| self.object(given))
     }
 
-    fn object(&self, (key, value): (u64, T)) -> Object<T> {
-        Object { held: Some((key, value)), pool: self.shared.clone() }
+    fn object(&self, (key, value): (u64, Option<T>)) -> Object<T> {
+        Object { value, key, pool: Arc::clone(&self.shared) }
     }
 
     /// Adds an object, once there is room.
@@ -91,8 +89,17 @@ impl<T> Pool<T> {
     ///
     /// The object, if the pool has closed or no memory is found.
     pub async fn add(&self, object: T) -> Result<(), (T, PoolError)> {
-        let mut adding = Adding::new(&self.shared, object);
-        poll_fn(|cx| adding.poll(cx)).await
+        let (pool, cancel) = (&*self.shared, UnmanagedDesk::add_cancel);
+        let add = Waiting { pool, wakers: |state| &mut state.adds, cancel, ticket: None };
+        let mut value = Some(object);
+        let step = |state: &mut State<_, _>, asked| {
+            store(state, &mut value, |desk, key| match asked {
+                Some((ticket, _)) => desk.add_ask(ticket, key),
+                None => desk.add_enter(key, true),
+            })
+        };
+        let reply = add.ask(Alarm::default(), step, |_, reply| reply).await;
+        added(value, reply)
     }
 
     /// Adds an object, if there is room.
@@ -101,7 +108,9 @@ impl<T> Pool<T> {
     ///
     /// The object, with `Timeout` if there is no room.
     pub fn try_add(&self, object: T) -> Result<(), (T, PoolError)> {
-        Adding::new(&self.shared, object).at_once()
+        let mut value = Some(object);
+        let reply = self.shared.step(|state| store(state, &mut value, |desk, key| desk.add_enter(key, false)));
+        added(value, reply)
     }
 
     /// Takes an object out for good, as [`Pool::get`] and [`Object::take`].
@@ -133,18 +142,18 @@ impl<T> Pool<T> {
 
     /// Closes the pool for good: the idle objects are dropped, and each get and add ends with `Closed`.
     pub fn close(&self) {
-        drop(self.shared.state.step(|state| state.close()));
+        self.shared.close();
     }
 
     /// Whether the pool has closed.
     pub fn is_closed(&self) -> bool {
-        self.shared.state.look().desk.is_closed()
+        self.shared.look().desk.is_closed()
     }
 
     /// How the pool stands.
     #[must_use]
     pub fn status(&self) -> Status {
-        self.shared.state.look().desk.status()
+        self.shared.look().desk.status()
     }
 }
 
@@ -155,13 +164,10 @@ where
     I::IntoIter: ExactSizeIterator,
 {
     fn from(objects: I) -> Self {
-        let objects = objects.into_iter();
+        let mut objects = objects.into_iter();
         let pool = Pool::new(objects.len());
-        for object in objects {
-            if pool.try_add(object).is_err() {
-                break;
-            }
-        }
+        // (one that says fewer than it has ends with the first that finds no room)
+        let _ = objects.try_for_each(|object| pool.try_add(object));
         pool
     }
 }
@@ -174,15 +180,7 @@ impl<T> Default for Pool<T> {
 
 impl<T> Clone for Pool<T> {
     fn clone(&self) -> Self {
-        self.shared.state.look().desk.clone_handle();
-        let shared = self.shared.clone();
-        Pool { shared }
-    }
-}
-
-impl<T> Drop for Pool<T> {
-    fn drop(&mut self) {
-        drop(self.shared.state.step(|state| state.drop_handle()));
+        Pool { shared: self.shared.clone() }
     }
 }
 
@@ -192,43 +190,37 @@ impl<T> fmt::Debug for Pool<T> {
     }
 }
 
-/// An object that is out. Its drop gives it back to the pool.
-#[must_use]
-pub struct Object<T> {
-    /// Its key and value, until the object is taken or dropped.
-    held: Option<(u64, T)>,
-    pool: Arc<Shared<T>>,
-}
-
-impl<T> Object<T> {
-    fn value(&self) -> &T {
-        &self.held.as_ref().expect("an object has its value").1
-    }
-
-    fn value_mut(&mut self) -> &mut T {
-        &mut self.held.as_mut().expect("an object has its value").1
-    }
-
-    /// Takes the value out of the pool for good. There is room for another one.
-    pub fn take(mut this: Self) -> T {
-        let (key, value) = this.held.take().expect("an object has its value");
-        this.pool.state.step(|state| state.take(key));
-        value
+/// The object that a reply hands out: its key and its value.
+fn handed_out<T>(state: &mut State<UnmanagedDesk, T>, reply: Reply) -> Result<(u64, Option<T>), PoolError> {
+    match reply.kind {
+        OBJECT => Ok((reply.key, state.idle.take(reply.key))),
+        _ => Err(refusal(reply)),
     }
 }
 
-impl<T> Drop for Object<T> {
-    fn drop(&mut self) {
-        if let Some((key, value)) = self.held.take() {
-            drop(self.pool.state.step(|state| state.back(key, value)));
-        }
-    }
+/// Makes a step of an add, which stores the value or leaves it.
+fn store<T>(
+    state: &mut State<UnmanagedDesk, T>,
+    value: &mut Option<T>,
+    step: impl FnOnce(&mut UnmanagedDesk, u64) -> Reply,
+) -> Reply {
+    let Ok(key) = state.idle.new_key() else {
+        return Reply { kind: OUT_OF_MEMORY, ..Reply::default() };
+    };
+    let reply = step(&mut state.desk, key);
+    state.idle.settle(key, value, reply.kind == STORED);
+    reply
 }
 
-lends_value!([T] Object<T> => T);
+/// How an add has ended. A value that is left was refused.
+fn added<T>(value: Option<T>, reply: Reply) -> Result<(), (T, PoolError)> {
+    value.map_or(Ok(()), |value| Err((value, refusal(reply))))
+}
 
-impl<T: fmt::Debug> fmt::Debug for Object<T> {
-    fn fmt(&self, f: &mut fmt::Formatter<'_>) -> fmt::Result {
-        f.debug_tuple("Object").field(&**self).finish()
+fn refusal(reply: Reply) -> PoolError {
+    match reply.kind {
+        FULL | EXPIRED => PoolError::Timeout,
+        OUT_OF_MEMORY => PoolError::OutOfMemory,
+        _ => PoolError::Closed,
     }
 }
