@@ -3,7 +3,7 @@
 
 use crate::runtime::{Runtime, Sleep};
 use std::future::{Future, poll_fn};
-use std::pin::pin;
+use std::pin::Pin;
 use std::task::{Context, Poll};
 use std::time::Duration;
 
@@ -29,38 +29,32 @@ impl Alarm {
 }
 
 /// What a future gives, or none if its time is over before that.
-pub(crate) async fn in_time<F: Future>(mut alarm: Alarm, future: F) -> Option<F::Output> {
-    let mut future = pin!(future);
-    poll_fn(|cx| match future.as_mut().poll(cx) {
+pub(crate) fn in_time<F: Future>(mut alarm: Alarm, mut future: Pin<&mut F>) -> impl Future<Output = Option<F::Output>> {
+    poll_fn(move |cx| match future.as_mut().poll(cx) {
         Poll::Ready(output) => Poll::Ready(Some(output)),
         Poll::Pending if alarm.is_over(cx) => Poll::Ready(None),
         Poll::Pending => Poll::Pending,
     })
-    .await
 }
 
 /// What a future gives, and whether it was ever pending: then another poll has begun since.
-pub(crate) async fn noting_polls<F: Future>(future: F) -> (F::Output, bool) {
+pub(crate) fn noting_polls<F: Future>(mut future: Pin<&mut F>) -> impl Future<Output = (F::Output, bool)> {
     let mut was_pending = false;
-    let mut future = pin!(future);
-    let output = poll_fn(|cx| {
-        let polled = future.as_mut().poll(cx);
+    poll_fn(move |cx| {
+        let polled = future.as_mut().poll(cx).map(|output| (output, was_pending));
         was_pending |= polled.is_pending();
         polled
     })
-    .await;
-    (output, was_pending)
 }
 
 /// Ends this poll, and asks for another one.
-pub(crate) async fn poll_again() {
+pub(crate) fn poll_again() -> impl Future<Output = ()> {
     let mut has_ended = false;
-    poll_fn(|cx| {
+    poll_fn(move |cx| {
         if std::mem::replace(&mut has_ended, true) {
             return Poll::Ready(());
         }
         cx.waker().wake_by_ref();
         Poll::Pending
     })
-    .await;
 }

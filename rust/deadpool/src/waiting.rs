@@ -42,23 +42,25 @@ pub(crate) struct Waiting<'a, C, D: Desk, V> {
 impl<C, D: Desk, V> Waiting<'_, C, D, V> {
     /// Makes a step at each poll until the reply is not to wait. By the first one it enters; by another one it asks with its
     /// ticket, and says whether its time is over.
-    pub(crate) async fn ask<R>(
+    pub(crate) fn ask<R>(
         mut self,
         mut alarm: Alarm,
         mut step: impl FnMut(&mut State<D, V>, Option<(usize, bool)>) -> Reply,
         mut ended: impl FnMut(&mut State<D, V>, Reply) -> R,
-    ) -> R {
-        poll_fn(|cx| {
+    ) -> impl Future<Output = R> {
+        poll_fn(move |cx| {
+            // (the future holds all of it: what is dropped with the future leaves the queue)
+            let Waiting { pool, wakers, ticket, .. } = &mut self;
             loop {
-                let asked = self.ticket.map(|ticket| (ticket, alarm.is_over(cx)));
-                let (polled, stale) = self.pool.step(|state| {
+                let asked = ticket.map(|ticket| (ticket, alarm.is_over(cx)));
+                let (polled, stale) = pool.step(|state| {
                     let reply = step(state, asked);
                     if reply.kind != WAITING {
-                        let stale = self.ticket.take().and_then(|ticket| (self.wakers)(state).take(ticket));
+                        let stale = ticket.take().and_then(|ticket| wakers(state).take(ticket));
                         return (Poll::Ready(ended(state, reply)), stale);
                     }
-                    let ticket = *self.ticket.get_or_insert(reply.number);
-                    let Ok(replaced) = (self.wakers)(state).keep(ticket, cx.waker()) else {
+                    let ticket = *ticket.get_or_insert(reply.number);
+                    let Ok(replaced) = wakers(state).keep(ticket, cx.waker()) else {
                         let reply = Reply { kind: OUT_OF_MEMORY, ..reply };
                         return (Poll::Ready(ended(state, reply)), None);
                     };
@@ -71,7 +73,6 @@ impl<C, D: Desk, V> Waiting<'_, C, D, V> {
                 }
             }
         })
-        .await
     }
 }
 
@@ -89,17 +90,17 @@ impl<C, D: Desk, V> Drop for Waiting<'_, C, D, V> {
 
 impl<C, D: Desk, V> Shared<C, D, V> {
     /// Asks for an object, and waits for one if it may.
-    pub(crate) async fn get<R>(
+    pub(crate) fn get<R>(
         &self,
         may_wait: bool,
         alarm: Alarm,
         ended: impl FnMut(&mut State<D, V>, Reply) -> R,
-    ) -> R {
+    ) -> impl Future<Output = R> {
         let get = Waiting { pool: self, wakers: |state| &mut state.gets, cancel: D::cancel_ticket, ticket: None };
-        let step = |state: &mut State<D, V>, asked| match asked {
+        let step = move |state: &mut State<D, V>, asked| match asked {
             Some((ticket, is_late)) => state.desk.ask(ticket, is_late),
             None => state.desk.enter(may_wait),
         };
-        get.ask(alarm, step, ended).await
+        get.ask(alarm, step, ended)
     }
 }

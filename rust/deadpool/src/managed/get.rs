@@ -1,8 +1,9 @@
 //! A get, from its first poll to its object. What it holds is given back if it ends without an object or is dropped.
 use super::object::Slot;
-use super::{Manager, Metrics, OutOfMemory, PoolError, Shared, State, TimeoutType, Timeouts, hooks};
+use super::{Manager, Metrics, OutOfMemory, PoolError, Shared, State, TimeoutType, Timeouts};
 use crate::sys::{CREATE, CREATED, EXHAUSTED, EXPIRED, FULL, GOING, ManagedDesk, OBJECT, OUT_OF_MEMORY, Reply};
 use crate::timed::{Alarm, in_time, noting_polls, poll_again};
+use std::pin::pin;
 use std::time::Duration;
 
 type Given<T, M> = Result<T, PoolError<<M as Manager>::Error>>;
@@ -23,25 +24,24 @@ pub(super) struct Get<'a, M: Manager> {
 }
 
 impl<'a, M: Manager> Get<'a, M> {
-    pub(super) fn new(pool: &'a Shared<M>) -> Self {
-        Get { pool, cancel: None, slot: None }
-    }
-
     /// An object, within these timeouts.
-    pub(super) async fn within(mut self, timeouts: &Timeouts) -> Given<Option<Slot<M>>, M> {
-        let mut serving = self.place(timeouts.wait).await?;
+    pub(super) async fn within(pool: &'a Shared<M>, timeouts: &Timeouts) -> Given<Option<Slot<M>>, M> {
+        let mut get = Get { pool, cancel: None, slot: None };
+        let may_wait = timeouts.wait != Some(Duration::ZERO);
+        let alarm = get.alarm(timeouts.wait.filter(|_| may_wait))?;
+        let mut serving = pool.get(may_wait, alarm, |state, reply| get.served(state, reply)).await?;
         loop {
             let allowance = match serving {
                 Serving::Create => {
-                    self.create(timeouts.create).await?;
+                    get.create(timeouts.create).await?;
                     break;
                 }
                 Serving::Object(left) => {
-                    let (prepared, was_pending) = noting_polls(self.prepare(timeouts.recycle)).await;
+                    let (prepared, was_pending) = noting_polls(pin!(get.prepare(timeouts.recycle))).await;
                     if prepared.is_some() {
                         break;
                     }
-                    self.give_up(ManagedDesk::discard, Some(ManagedDesk::cancel_place));
+                    get.give_up(ManagedDesk::discard, Some(ManagedDesk::cancel_place));
                     // (each poll has an allowance of its own)
                     if was_pending { None } else { Some(left) }
                 }
@@ -50,20 +50,13 @@ impl<'a, M: Manager> Get<'a, M> {
                     None
                 }
             };
-            serving = self.pool.step(|state| {
+            serving = pool.step(|state| {
                 let reply = state.desk.again(allowance.is_some(), allowance.unwrap_or(0));
-                self.served(state, reply)
+                get.served(state, reply)
             })?;
         }
-        self.cancel = None;
-        Ok(self.slot.take())
-    }
-
-    /// A place, and how it is served.
-    async fn place(&mut self, wait: Option<Duration>) -> Given<Serving, M> {
-        let may_wait = wait != Some(Duration::ZERO);
-        let alarm = self.alarm(wait.filter(|_| may_wait))?;
-        self.pool.get(may_wait, alarm, |state, reply| self.served(state, reply)).await
+        get.cancel = None;
+        Ok(get.slot.take())
     }
 
     /// What a reply serves. The object goes out under the lock.
@@ -93,14 +86,16 @@ impl<'a, M: Manager> Get<'a, M> {
     async fn create(&mut self, timeout: Option<Duration>) -> Given<(), M> {
         let created = self.new_value(timeout).await.and_then(|value| self.created(value));
         created.inspect_err(|_| self.give_up(ManagedDesk::failed, None))?;
-        let slot = self.slot.as_mut().expect("the get has an object");
-        let passed = hooks::pass(&self.pool.setup.hooks.post_create, slot).await;
-        passed.map_err(PoolError::PostCreateHook).inspect_err(|_| self.give_up(ManagedDesk::refused, None))
+        for hook in &self.pool.setup.hooks.post_create {
+            let passed = hook.call(self.slot.as_mut().expect("the get has an object")).await;
+            passed.map_err(PoolError::PostCreateHook).inspect_err(|_| self.give_up(ManagedDesk::refused, None))?;
+        }
+        Ok(())
     }
 
     /// A value that the manager has made, in time.
     async fn new_value(&mut self, timeout: Option<Duration>) -> Given<M::Type, M> {
-        let made = in_time(self.alarm(timeout)?, self.pool.setup.manager.create()).await;
+        let made = in_time(self.alarm(timeout)?, pin!(self.pool.setup.manager.create())).await;
         made.ok_or(PoolError::Timeout(TimeoutType::Create))?.map_err(PoolError::Backend)
     }
 
@@ -119,10 +114,14 @@ impl<'a, M: Manager> Get<'a, M> {
     /// Makes an idle object ready to be handed out again. It is not if a hook or the manager refuses it or takes too long.
     async fn prepare(&mut self, timeout: Option<Duration>) -> Option<()> {
         let (setup, slot) = (&self.pool.setup, self.slot.as_mut()?);
-        hooks::pass(&setup.hooks.pre_recycle, slot).await.ok()?;
+        for hook in &setup.hooks.pre_recycle {
+            hook.call(slot).await.ok()?;
+        }
         let alarm = Alarm::after(timeout, setup.runtime)?;
-        in_time(alarm, setup.manager.recycle(&mut slot.value, &slot.metrics)).await?.ok()?;
-        hooks::pass(&setup.hooks.post_recycle, slot).await.ok()?;
+        in_time(alarm, pin!(setup.manager.recycle(&mut slot.value, &slot.metrics))).await?.ok()?;
+        for hook in &setup.hooks.post_recycle {
+            hook.call(slot).await.ok()?;
+        }
         slot.metrics.recycled_now();
         Some(())
     }

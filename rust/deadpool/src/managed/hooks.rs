@@ -36,6 +36,14 @@ impl<M: Manager> Hook<M> {
     ) -> Self {
         Hook::AsyncFn(Box::new(f))
     }
+
+    /// The hook sees an object.
+    pub(super) async fn call(&self, slot: &mut Slot<M>) -> HookResult<M::Error> {
+        match self {
+            Hook::Fn(f) => f(&mut slot.value, &slot.metrics),
+            Hook::AsyncFn(f) => f(&mut slot.value, &slot.metrics).await,
+        }
+    }
 }
 
 impl<M: Manager> fmt::Debug for Hook<M> {
@@ -47,21 +55,9 @@ impl<M: Manager> fmt::Debug for Hook<M> {
     }
 }
 
-/// The hooks of a pool, in three lists.
+/// The hooks of a pool, in three lists. Those of a list see an object in turn, up to the first that refuses it.
 pub(super) struct Hooks<M: Manager> {
     pub(super) post_create: Vec<Hook<M>>,
     pub(super) pre_recycle: Vec<Hook<M>>,
     pub(super) post_recycle: Vec<Hook<M>>,
-}
-
-/// The hooks of a list see an object in turn, up to the first that refuses it.
-pub(super) async fn pass<M: Manager>(hooks: &[Hook<M>], slot: &mut Slot<M>) -> HookResult<M::Error> {
-    let Slot { value, metrics, .. } = slot;
-    for hook in hooks {
-        match hook {
-            Hook::Fn(f) => f(value, metrics)?,
-            Hook::AsyncFn(f) => f(value, metrics).await?,
-        }
-    }
-    Ok(())
 }

@@ -52,7 +52,7 @@ impl<M: Manager, W: From<Object<M>>> Pool<M, W> {
     ///
     /// As of [`Pool::get`].
     pub async fn timeout_get(&self, timeouts: &Timeouts) -> Result<W, PoolError<M::Error>> {
-        let slot = Get::new(&self.shared).within(timeouts).await?;
+        let slot = Get::within(&self.shared, timeouts).await?;
         Ok(Object { slot, pool: Arc::clone(&self.shared) }.into())
     }
 
