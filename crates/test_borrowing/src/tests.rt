@@ -1,3 +1,4 @@
 //! What a future that borrows its pool does, beside one that is a handle.
 mod managed;
+mod threads;
 mod unmanaged;

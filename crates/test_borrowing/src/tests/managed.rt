@@ -16,7 +16,7 @@ use std::time::Duration;
 
 /// Makes zeros.
 #[derive(Drop)]
-struct Zeros;
+pub struct Zeros;
 
 impl PlainManager for Zeros {
     type Type = u64;
@@ -32,13 +32,13 @@ impl PlainManager for Zeros {
     }
 }
 
-type Numbers<R, L> = PlainPool<Plain<Zeros>, R, L>;
+pub type Numbers<R, L> = PlainPool<Plain<Zeros>, R, L>;
 
 type Number<R, L> = Object<Plain<Zeros>, NoHook, NoHook, NoTime, R, L>;
 
 /// Which gets a user starts.
 #[derive(Clone, Copy, Debug, Drop)]
-enum Kind {
+pub enum Kind {
     Owned,
     Borrowing,
 }
