@@ -1,0 +1,15 @@
+//! What a picture of a run shows, as data: lanes of marks, one lane above the other. A mark says what its lane shows over some
+//! columns, of which there is one for each move.
+#![tactic(auto)]
+
+mod lane;
+mod lanes;
+
+mod look;
+mod mark;
+
+pub use lane::Lane;
+pub use lanes::Lanes;
+
+pub use look::{Look, Place, Stage};
+pub use mark::{Mark, Shown};
