@@ -1,0 +1,2 @@
+pub mod GrantedLooks
+pub mod Counted
