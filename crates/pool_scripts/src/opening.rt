@@ -81,7 +81,8 @@ pub fn open_pool(
     })
 }
 
-fn open_unmanaged(
+/// An unmanaged pool with room for so many gets and adds.
+pub fn open_unmanaged(
     alloc: Global,
     parties: usize,
     pool: UnmanagedPool,
@@ -90,8 +91,8 @@ fn open_unmanaged(
     UnmanagedTrial::new(alloc, max_size, runtime, parties)
 }
 
-// A pool with one hook in each of its lists.
-fn open_managed(
+/// A managed pool with one hook in each of its lists, and room for so many gets.
+pub fn open_managed(
     alloc: Global,
     answers: &Answers,
     parties: usize,
@@ -117,7 +118,8 @@ fn open_managed(
     Ok(Trial::new(builder, parties, first_number)?)
 }
 
-fn config_of(alloc: Global, settings: Settings) -> Result<PoolConfig, Refusal> {
+/// The configuration of a managed pool, which is read if it is a text.
+pub fn config_of(alloc: Global, settings: Settings) -> Result<PoolConfig, Refusal> {
     match settings {
         Settings::Known(config) => Ok(config),
         Settings::Written(json) => read_config(alloc, &json),

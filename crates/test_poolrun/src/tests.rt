@@ -4,6 +4,7 @@ mod buffers;
 mod cancelled;
 mod configuration;
 mod counting;
+mod drawn;
 mod faults;
 mod first_path;
 mod limits;
