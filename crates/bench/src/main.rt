@@ -1,7 +1,8 @@
 //! What a get and its return cost, beside a plain pool and a bare lock.
 //!
 //! The program writes nothing to standard output. With the argument `measure` it does each work often and writes a
-//! table to standard error. Without it, it does each work a few times, which shows that all of it runs.
+//! table to standard error. With a number it does each work so often in a window, and otherwise a few times, which
+//! shows that all of it runs.
 #![tactic(auto)]
 
 mod cancels;
@@ -50,13 +51,21 @@ fn run<R: Host>(rt: R) -> io::Result<()> {
 fn asked_scale<R: Host>(rt: &R) -> io::Result<Scale> {
     let mut arguments = env::args(rt)?;
     let _program = arguments.next();
-    let measures = match arguments.next() {
-        Some(argument) => argument.as_str() == "measure",
-        None => false,
-    };
-    Ok(if measures {
-        Scale::MEASURE
-    } else {
-        Scale::QUICK
+    Ok(match arguments.next() {
+        Some(argument) => named_scale(argument.as_str()),
+        None => Scale::QUICK,
     })
+}
+
+fn named_scale(argument: &str) -> Scale {
+    if argument == "measure" {
+        return Scale::MEASURE;
+    }
+    match argument.parse::<u32>() {
+        Ok(times) => Scale {
+            times,
+            ..Scale::QUICK
+        },
+        Err(_) => Scale::QUICK,
+    }
 }

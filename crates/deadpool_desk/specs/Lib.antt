@@ -14,6 +14,8 @@ pub mod Settled
 -- What every desk keeps: of an allowance, and of what a get holds.
 pub mod Allowance
 pub mod Held
+-- A reply whose object is in a place of its own.
+pub mod Parts
 -- How the fields of a core are seen as its state, and the machine as a desk. No contract of a user cites them.
 pub mod CoreFields
 pub mod CoreDesk

@@ -6,12 +6,13 @@
 //! What a step does is said as `Core` does it, by its relations. Of the steps below, those that lower a count answer
 //! `Unknown` where there is nothing to lower, and change nothing. Another desk has relations of its own, and owes
 //! nothing beyond them but that it keeps to an allowance.
-ghost use Rattle.std.specs.Prelude.{◌≡◌, ℕ, ⊤, Bool, Option, Result};
+ghost use Rattle.std.specs.Prelude.{◌≡◌, ℕ, ⊤, Bool, Option, Result, None};
 ghost use Rattle.std.specs.declared.alloc.AllocError.{AllocError};
 ghost use Rattle.deadpool_parts.specs.declared.status.Status.{Status};
 ghost use Rattle.deadpool_desk.specs.Allowance.{IsWithinAllowance};
 ghost use Rattle.deadpool_desk.specs.Held.{held_if_served, held_if_entered, held_if_asked, held_if_asked_again, held_if_created, held_if_discarded, held_as};
 ghost use Rattle.deadpool_desk.specs.declared.desk.Holding.{Holding};
+ghost use Rattle.deadpool_desk.specs.Parts.{IsParted, IsPartedServing};
 ghost use Rattle.deadpool_desk.specs.Retained.{Retained};
 ghost use Rattle.deadpool_desk.specs.declared.retain.Retainer.{Ghosts as RetainerOf};
 ghost use Rattle.deadpool_desk.specs.declared.slot.Slot.{Slot};
@@ -167,6 +168,41 @@ impl<T> Serving<T> {
     }
 }
 
+impl<O: Drop> Serving<O> {
+    /// The rest of it, with an object that it gives put into `place`. What is there stays otherwise.
+    pub fn part(self, place: &mut Option<O>) -> Serving<()>
+        ensures parted { IsPartedServing self result place.old place.new }
+        ensures holding { held_if_served result ≡ held_if_served self }
+    {
+        match self {
+            Serving::Object(object, left) => {
+                *place = Some(object);
+                Serving::Object((), left)
+            }
+            Serving::Create => Serving::Create,
+            Serving::Going => Serving::Going,
+            Serving::Exhausted => Serving::Exhausted,
+        }
+    }
+}
+
+impl Serving<()> {
+    /// The whole of it, with the object that was put into an empty place.
+    pub(crate) fn with<O>(self, place: Option<O>) -> Serving<O>
+        requires { (whole : Serving O) × IsPartedServing whole self None place }
+        ensures whole { (whole : Serving O) → IsPartedServing whole self None place → result ≡ whole }
+        ensures holding { held_if_served result ≡ held_if_served self }
+    {
+        match (self, place) {
+            (Serving::Object((), left), Some(object)) => Serving::Object(object, left),
+            (Serving::Create, None) => Serving::Create,
+            (Serving::Going, None) => Serving::Going,
+            (Serving::Exhausted, None) => Serving::Exhausted,
+            _ => unreachable!(),
+        }
+    }
+}
+
 impl<T> EnterReply<T> {
     /// What a new get holds after this reply.
     pub fn holding(&self) -> Holding
@@ -175,6 +211,27 @@ impl<T> EnterReply<T> {
         match self {
             EnterReply::Served(serving) => serving.holding(),
             _ => Holding::Nothing,
+        }
+    }
+}
+
+impl EnterReply<()> {
+    /// The whole of it, with the object that was put into an empty place.
+    pub fn with<O>(self, place: Option<O>) -> EnterReply<O>
+        requires { (whole : EnterReply O) × IsParted whole self None place }
+        ensures whole { (whole : EnterReply O) → IsParted whole self None place → result ≡ whole }
+        ensures holding { held_if_entered result ≡ held_if_entered self }
+    {
+        let reply = match self {
+            EnterReply::Served(serving) => return EnterReply::Served(serving.with(place)),
+            EnterReply::Closed => EnterReply::Closed,
+            EnterReply::Full => EnterReply::Full,
+            EnterReply::Waiting(ticket) => EnterReply::Waiting(ticket),
+            EnterReply::OutOfMemory => EnterReply::OutOfMemory,
+        };
+        match place {
+            None => reply,
+            Some(_) => unreachable!(),
         }
     }
 }
@@ -244,11 +301,24 @@ pub trait Desk<T> {
 
     ghost upgrades: { Self → Bool → Self → Type 0 };
 
-    /// A new get asks for a place, and joins the queue where none is free and `wait` says so.
+    /// A new get asks for a place, and joins the queue where none is free and `wait` says so. An object that it is
+    /// given goes into `place`, and what is there stays otherwise.
+    fn enter_in(&mut self, wait: bool, place: &mut Option<Slot<T>>) -> EnterReply<()>
+        requires { holds self.old Holding.Nothing }
+        ensures entered { (whole : EnterReply (Slot T)) × (enters self.old wait whole self.new
+            × IsParted whole result place.old place.new) }
+        ensures holds { holds self.new (held_if_entered result) };
+
+    /// As `enter_in`, with the object in the reply.
     fn enter(&mut self, wait: bool) -> EnterReply<Slot<T>>
         requires { holds self.old Holding.Nothing }
         ensures entered { enters self.old wait result self.new }
-        ensures holds { holds self.new (held_if_entered result) };
+        ensures holds { holds self.new (held_if_entered result) }
+    {
+        let mut place = None;
+        let rest = self.enter_in(wait, &mut place);
+        rest.with(place)
+    }
 
     /// A get in the queue asks for its place. `expired` says that it has waited long enough.
     fn ask(&mut self, ticket: Ticket, expired: bool) -> AskReply<Slot<T>>

@@ -174,8 +174,8 @@ impl<T: Drop> Desk<T> for Core<T> {
     ghost upgrades = { Upgrades };
 
     #[inline(always)]
-    fn enter(&mut self, wait: bool) -> EnterReply<Slot<T>> {
-        self.state.enter(wait)
+    fn enter_in(&mut self, wait: bool, place: &mut Option<Slot<T>>) -> EnterReply<()> {
+        self.state.enter_in(wait, place)
     }
 
     fn ask(&mut self, ticket: Ticket, expired: bool) -> AskReply<Slot<T>> {

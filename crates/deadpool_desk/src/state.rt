@@ -3,6 +3,7 @@ ghost use Rattle.std.specs.Prelude.{◌≡◌, ◌+◌, ◌-◌, ◌≤◌, ◌&
 ghost use Rattle.deadpool_desk.specs.Allowance.{IsWithinAllowance};
 ghost use Rattle.deadpool_desk.specs.DeskState.{least_idle, new_core, places, settled, next_idle, other_idle};
 ghost use Rattle.deadpool_desk.specs.DeskSteps.{Serves, surplus};
+ghost use Rattle.deadpool_desk.specs.Parts.{IsParted, IsPartedServing};
 ghost use Rattle.deadpool_desk.specs.CoreSteps.{Enters, Asks, AsksAgain, Discards, Creates, Fails, Refuses, TakesBack, Cancels, Takes, Resizes, Stands, Retains, RetainsNoting, Closes, Clones, DropsHandle, Upgrades, Tells, due_now};
 
 use crate::desk::{
@@ -187,11 +188,12 @@ impl<T: Drop> PoolState<T> {
         }
     }
 
-    // Serves a get whose place is in no count.
+    // Serves a get whose place is in no count. Its object goes into `place`.
     #[inline(always)]
-    fn serve(&mut self, allowance: Option<usize>) -> Serving<Slot<T>>
+    fn serve_in(&mut self, allowance: Option<usize>, place: &mut Option<Slot<T>>) -> Serving<()>
         requires { places self.old.desk + 1 ≤ self.old.desk.reserve }
-        ensures served { Serves self.old.desk allowance result self.new.desk }
+        ensures served { (whole : Serving (Slot T)) × (Serves self.old.desk allowance whole self.new.desk
+            × IsPartedServing whole result place.old place.new) }
         ensures untold { self.new.untold ≡ self.old.untold }
     {
         let allowed = allowance.unwrap_or(self.ring.len());
@@ -201,8 +203,9 @@ impl<T: Drop> PoolState<T> {
         }
         match self.take_idle() {
             Some(slot) => {
+                *place = Some(slot);
                 self.outside += 1;
-                Serving::Object(slot, allowed - 1)
+                Serving::Object((), allowed - 1)
             }
             None if self.next + self.creations < usize::MAX => {
                 self.creations += 1;
@@ -215,16 +218,28 @@ impl<T: Drop> PoolState<T> {
         }
     }
 
+    // The same, with the object in the reply.
+    fn serve(&mut self, allowance: Option<usize>) -> Serving<Slot<T>>
+        requires { places self.old.desk + 1 ≤ self.old.desk.reserve }
+        ensures served { Serves self.old.desk allowance result self.new.desk }
+        ensures untold { self.new.untold ≡ self.old.untold }
+    {
+        let mut place = None;
+        let rest = self.serve_in(allowance, &mut place);
+        rest.with(place)
+    }
+
     #[inline(always)]
-    pub fn enter(&mut self, wait: bool) -> EnterReply<Slot<T>>
-        ensures { Enters self.old wait result self.new }
+    pub fn enter_in(&mut self, wait: bool, place: &mut Option<Slot<T>>) -> EnterReply<()>
+        ensures { (whole : EnterReply (Slot T)) × (Enters self.old wait whole self.new
+            × IsParted whole result place.old place.new) }
     {
         let room = self.room();
         if room > 0 && !self.gate.is_closed() {
-            return EnterReply::Served(self.serve(None));
+            return EnterReply::Served(self.serve_in(None, place));
         }
         match self.gate.enter(room, wait) {
-            Entry::Granted => EnterReply::Served(self.serve(None)),
+            Entry::Granted => EnterReply::Served(self.serve_in(None, place)),
             Entry::Closed => EnterReply::Closed,
             Entry::Full => EnterReply::Full,
             Entry::Waiting(ticket) => EnterReply::Waiting(ticket),

@@ -212,9 +212,9 @@ impl<T: Drop> Desk<T> for Journaled<T> {
     ghost upgrades = { UpgradesNoted };
 
     #[inline(always)]
-    fn enter(&mut self, wait: bool) -> EnterReply<Slot<T>> {
-        let reply = self.core.enter(wait);
-        self.log.add_enter(wait, &reply);
+    fn enter_in(&mut self, wait: bool, place: &mut Option<Slot<T>>) -> EnterReply<()> {
+        let reply = self.core.enter_in(wait, place);
+        self.log.add_enter(wait, &reply, place);
         reply
     }
 

@@ -3,6 +3,7 @@
 
 pub mod by_number;
 mod entry;
+mod in_place;
 mod journal;
 mod journaled;
 mod log;

@@ -1,10 +1,13 @@
 //! A list of entries with room for so many.
-ghost use Rattle.std.specs.Prelude.{◌≡◌, ◌≤◌, IfOk, length, nat_lt, true, option_copied, slice_get};
+ghost use Rattle.std.specs.Prelude.{◌≡◌, ◌≤◌, IfOk, Option, length, nat_lt, true, option_copied, slice_get};
+ghost use Rattle.deadpool_desk.specs.Parts.{IsParted};
+ghost use Rattle.deadpool_desk.specs.declared.desk.EnterReply.{EnterReply};
+ghost use Rattle.deadpool_desk.specs.declared.slot.Slot.{Slot};
 ghost use Rattle.deadpool_journal.specs.ByNumber.{numbered_enter, numbered_ask, numbered_again, numbered_back};
 ghost use Rattle.deadpool_journal.specs.LogState.{no_entries, noted};
 ghost use Rattle.deadpool_journal.specs.declared.entry.Entry.TheVariants as entry;
 
-use crate::{Entry, by_number};
+use crate::{Entry, by_number, in_place};
 use deadpool_desk::gate::Ticket;
 use deadpool_desk::{AgainReply, AskReply, BackReply, EnterReply, HandleReply, Slot};
 use deadpool_parts::tables::append;
@@ -69,22 +72,30 @@ impl Log {
         append(&mut self.entries, entry);
     }
 
-    /// One entry more, of a new get. Nothing is made of the reply if the mark is set.
-    pub fn add_enter<T>(&mut self, wait: bool, reply: &EnterReply<Slot<T>>)
-        ensures { self.new ≡ noted (entry.Enter wait (numbered_enter reply.now)) self.old }
+    /// One entry more, of a new get, whose object is in its place. Nothing is made of the reply if the mark is set.
+    pub fn add_enter<T>(&mut self, wait: bool, rest: &EnterReply<()>, place: &Option<Slot<T>>)
+        requires { (whole : EnterReply (Slot T)) × (was : Option (Slot T))
+            × IsParted whole rest.now was place.now }
+        ensures { (whole : EnterReply (Slot T)) (was : Option (Slot T))
+            → IsParted whole rest.now was place.now
+            → self.new ≡ noted (entry.Enter wait (numbered_enter whole)) self.old }
     {
         if self.is_full {
             return;
         }
-        self.note_enter(wait, reply);
+        self.note_enter(wait, rest, place);
     }
 
     #[cold]
     #[inline(never)]
-    fn note_enter<T>(&mut self, wait: bool, reply: &EnterReply<Slot<T>>)
-        ensures { self.new ≡ noted (entry.Enter wait (numbered_enter reply.now)) self.old }
+    fn note_enter<T>(&mut self, wait: bool, rest: &EnterReply<()>, place: &Option<Slot<T>>)
+        requires { (whole : EnterReply (Slot T)) × (was : Option (Slot T))
+            × IsParted whole rest.now was place.now }
+        ensures { (whole : EnterReply (Slot T)) (was : Option (Slot T))
+            → IsParted whole rest.now was place.now
+            → self.new ≡ noted (entry.Enter wait (numbered_enter whole)) self.old }
     {
-        self.add(Entry::Enter(wait, by_number::entering(reply)));
+        self.add(Entry::Enter(wait, in_place::entering(rest, place)));
     }
 
     /// One entry more, of a get in the queue.

@@ -1,7 +1,11 @@
 //! What a get comes to by a reply of its desk that serves it, or that tells it to wait.
-ghost use Rattle.std.specs.Prelude.{◌≡◌, ◌≢◌};
+ghost use Rattle.std.specs.Prelude.{◌≡◌, ◌≢◌, Option};
 ghost use Rattle.deadpool_managed.specs.Outside.{may};
 ghost use Rattle.deadpool_managed.specs.Get.{Made, Makes, AdvancesFrom, AfterServing, AfterEntered, AfterAsked, AfterAskedAgain};
+ghost use Rattle.deadpool_desk.specs.Parts.{IsParted, IsPartedServing};
+ghost use Rattle.deadpool_desk.specs.declared.desk.EnterReply.{EnterReply};
+ghost use Rattle.deadpool_desk.specs.declared.desk.Serving.{Serving};
+ghost use Rattle.deadpool_desk.specs.declared.slot.Slot.{Slot};
 ghost use Rattle.deadpool_desk.specs.Held.{held_if_entered, held_if_asked, held_if_asked_again, held_if_served};
 ghost use Rattle.deadpool_managed.specs.Held.{held_after};
 ghost use Rattle.deadpool_managed.specs.Phases.{IsPlaced, stage_of, turn_of};
@@ -37,22 +41,23 @@ impl<M: Manager, A: AsyncHook<M>> Work<M, A> {
             return self.end(PoolError::NoRuntimeSpecified);
         }
         let deadline = deadline_after(now, wait);
-        let reply = desk.enter(!is_reached(deadline, now));
-        self.after_entered(deadline, reply)
+        let rest = desk.enter_in(!is_reached(deadline, now), &mut self.slot);
+        self.after_entered(deadline, rest)
     }
 
-    fn after_entered(
-        &mut self,
-        deadline: Option<Moment>,
-        reply: EnterReply<Slot<M::Type>>,
-    ) -> Came<M::Error>
-        ensures after { AfterEntered deadline reply (stage_of self.new.phase self.new.slot) (turn_of result self.new.slot) }
+    // After a reply whose object is in its place.
+    fn after_entered(&mut self, deadline: Option<Moment>, rest: EnterReply<()>) -> Came<M::Error>
+        requires { (whole : EnterReply (Slot M.Type)) × (was : Option (Slot M.Type))
+            × IsParted whole rest was self.old.slot }
+        ensures after { (whole : EnterReply (Slot M.Type)) (was : Option (Slot M.Type))
+            → IsParted whole rest was self.old.slot
+            → AfterEntered deadline whole (stage_of self.new.phase self.new.slot) (turn_of result self.new.slot) }
         ensures placed { IsPlaced M.is_ready self.new.phase self.new.slot }
         ensures not_given { result ≢ Came.Given }
-        ensures holds { held_after (stage_of self.new.phase self.new.slot) (turn_of result self.new.slot) ≡ held_if_entered reply }
+        ensures holds { held_after (stage_of self.new.phase self.new.slot) (turn_of result self.new.slot) ≡ held_if_entered rest }
     {
-        match reply {
-            EnterReply::Served(serving) => self.after_serving(serving),
+        match rest {
+            EnterReply::Served(served) => self.after_served(served),
             EnterReply::Closed => self.end(PoolError::Closed),
             EnterReply::Full => self.end(PoolError::Timeout(TimeoutType::Wait)),
             EnterReply::Waiting(ticket) => {
@@ -99,15 +104,30 @@ impl<M: Manager, A: AsyncHook<M>> Work<M, A> {
         }
     }
 
+    // After a serving whose object comes with it.
     fn after_serving(&mut self, serving: Serving<Slot<M::Type>>) -> Came<M::Error>
         ensures after { AfterServing serving (stage_of self.new.phase self.new.slot) (turn_of result self.new.slot) }
         ensures placed { IsPlaced M.is_ready self.new.phase self.new.slot }
         ensures not_given { result ≢ Came.Given }
         ensures holds { held_after (stage_of self.new.phase self.new.slot) (turn_of result self.new.slot) ≡ held_if_served serving }
     {
-        match serving {
-            Serving::Object(slot, left) => {
-                self.slot = Some(slot);
+        let rest = serving.part(&mut self.slot);
+        self.after_served(rest)
+    }
+
+    // After a serving whose object is in its place.
+    fn after_served(&mut self, rest: Serving<()>) -> Came<M::Error>
+        requires { (whole : Serving (Slot M.Type)) × (was : Option (Slot M.Type))
+            × IsPartedServing whole rest was self.old.slot }
+        ensures after { (whole : Serving (Slot M.Type)) (was : Option (Slot M.Type))
+            → IsPartedServing whole rest was self.old.slot
+            → AfterServing whole (stage_of self.new.phase self.new.slot) (turn_of result self.new.slot) }
+        ensures placed { IsPlaced M.is_ready self.new.phase self.new.slot }
+        ensures not_given { result ≢ Came.Given }
+        ensures holds { held_after (stage_of self.new.phase self.new.slot) (turn_of result self.new.slot) ≡ held_if_served rest }
+    {
+        match rest {
+            Serving::Object((), left) => {
                 self.phase = Phase::Served(left);
                 Came::More
             }

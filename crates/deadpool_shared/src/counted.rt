@@ -1,5 +1,8 @@
 //! The steps that change a pool's three counts, with what they do to them.
 ghost use Rattle.std.specs.Prelude.{◌≡◌, ◌≢◌, ◌<◌, true, IfSome};
+ghost use Rattle.deadpool_desk.specs.Parts.{IsParted};
+ghost use Rattle.deadpool_desk.specs.declared.desk.EnterReply.{EnterReply};
+ghost use Rattle.deadpool_desk.specs.declared.slot.Slot.{Slot};
 ghost use Rattle.deadpool_desk.specs.Allowance.{IsWithinAllowance};
 ghost use Rattle.deadpool_desk.specs.Held.{held_if_entered, held_if_asked, held_if_asked_again, held_as};
 ghost use Rattle.deadpool_desk.specs.declared.desk.Holding.{Holding};
@@ -15,12 +18,17 @@ use deadpool_managed::{
 };
 
 #[inline(always)]
-pub fn enter<T: Drop>(pool: &mut Journaled<T>, wait: bool) -> EnterReply<Slot<T>>
-    ensures noted { EntersNoted pool.old wait result pool.new }
+pub fn enter_in<T: Drop>(
+    pool: &mut Journaled<T>,
+    wait: bool,
+    place: &mut Option<Slot<T>>,
+) -> EnterReply<()>
+    ensures noted { (whole : EnterReply (Slot T)) × (EntersNoted pool.old wait whole pool.new
+        × IsParted whole result place.old place.new) }
     ensures counts { counted pool.new ≡ shifted Holding.Nothing (held_if_entered result) (counted pool.old) }
     ensures queued { IfSome (ticket_if_entered result) (λ ticket. (ticket ≡ pool.old.core.next_ticket) × (joins wait pool.old ≡ true)) }
 {
-    pool.enter(wait)
+    pool.enter_in(wait, place)
 }
 
 pub fn ask<T: Drop>(pool: &mut Journaled<T>, ticket: Ticket, expired: bool) -> AskReply<Slot<T>>

@@ -3,7 +3,10 @@ ghost use Rattle.std.specs.Prelude.{◌≡◌, ◌≢◌, ◌<◌, ◌≤◌, no
 ghost use Rattle.deadpool_desk.specs.CoreSteps.{due_now};
 ghost use Rattle.deadpool_desk.specs.Held.{held_if_entered, held_if_asked, held_if_asked_again, held_as};
 ghost use Rattle.deadpool_desk.specs.Allowance.{IsWithinAllowance};
+ghost use Rattle.deadpool_desk.specs.Parts.{IsParted};
+ghost use Rattle.deadpool_desk.specs.declared.desk.EnterReply.{EnterReply};
 ghost use Rattle.deadpool_desk.specs.declared.desk.Holding.{Holding};
+ghost use Rattle.deadpool_desk.specs.declared.slot.Slot.{Slot};
 ghost use Rattle.deadpool_journal.specs.Copies.{HasSteps};
 ghost use Rattle.deadpool_journal.specs.Steps.{AsksNoted, AsksAgainNoted, DiscardsNoted, CreatesNoted, FailsNoted, RefusesNoted, TakesBackNoted, CancelsNoted, StandsNoted, TakesNoted, ResizesNoted, RetainsNoted, ClosesNoted, ClonesNoted, DropsHandleNoted, UpgradesNoted};
 ghost use Rattle.deadpool_lock.specs.Places.{Follows};
@@ -59,23 +62,26 @@ impl<T: Drop, L: Ledgers> Locked<T, L> {
         books.hand_out()
     }
 
-    /// A new get. If it is queued its waker is kept. A get that would be queued, whose waker finds no memory, makes no
-    /// step.
-    pub fn enter(
+    /// A new get. An object that it is given goes into `place`. If it is queued its waker is kept. A get that would be
+    /// queued, whose waker finds no memory, makes no step.
+    pub fn enter_in(
         &mut self,
         shares: &mut Shares<L>,
         waker: &mut Option<Waker>,
         wait: bool,
-    ) -> EnterReply<Slot<T>>
+        place: &mut Option<Slot<T>>,
+    ) -> EnterReply<()>
         requires { shares.old ≡ counts_of Holding.Nothing }
         ensures holds { shares.new ≡ counts_of (held_if_entered result) }
-        ensures entered { EntersLocked self.old.pool self.old.wakers wait waker.old result self.new.pool self.new.wakers waker.new }
+        ensures entered { (whole : EnterReply (Slot T))
+            × (EntersLocked self.old.pool self.old.wakers wait waker.old whole self.new.pool self.new.wakers waker.new
+            × IsParted whole result place.old place.new) }
     {
         let Locked { pool, books, .. } = self;
         if wait && pool.would_queue() {
-            return self.join(shares, waker);
+            return self.join(shares, waker, place);
         }
-        let reply = counted::enter(pool, wait);
+        let reply = counted::enter_in(pool, wait, place);
         books.shift(shares, Holding::Nothing, reply.holding());
         reply
     }
@@ -83,11 +89,18 @@ impl<T: Drop, L: Ledgers> Locked<T, L> {
     // A new get that has to join the queue.
     #[cold]
     #[inline(never)]
-    fn join(&mut self, shares: &mut Shares<L>, waker: &mut Option<Waker>) -> EnterReply<Slot<T>>
+    fn join(
+        &mut self,
+        shares: &mut Shares<L>,
+        waker: &mut Option<Waker>,
+        place: &mut Option<Slot<T>>,
+    ) -> EnterReply<()>
         requires holds { shares.old ≡ counts_of Holding.Nothing }
         requires joins { joins true self.old.pool ≡ true }
         ensures holds { shares.new ≡ counts_of (held_if_entered result) }
-        ensures entered { EntersLocked self.old.pool self.old.wakers true waker.old result self.new.pool self.new.wakers waker.new }
+        ensures entered { (whole : EnterReply (Slot T))
+            × (EntersLocked self.old.pool self.old.wakers true waker.old whole self.new.pool self.new.wakers waker.new
+            × IsParted whole result place.old place.new) }
     {
         let Locked {
             pool,
@@ -98,7 +111,7 @@ impl<T: Drop, L: Ledgers> Locked<T, L> {
         if wakers.make_room(pool.next_ticket()).is_err() {
             return EnterReply::OutOfMemory;
         }
-        let reply = counted::enter(pool, true);
+        let reply = counted::enter_in(pool, true, place);
         books.shift(shares, Holding::Nothing, reply.holding());
         keep_waker(wakers, &reply, waker);
         reply
@@ -357,7 +370,7 @@ impl<T: Drop, L: Ledgers> Wakes for Locked<T, L> {
 }
 
 // Keeps the waker of a get that is queued by this reply. There is a place for it.
-fn keep_waker<T>(wakers: &mut Wakers, reply: &EnterReply<Slot<T>>, waker: &mut Option<Waker>)
+fn keep_waker(wakers: &mut Wakers, reply: &EnterReply<()>, waker: &mut Option<Waker>)
     requires { IfSome (ticket_if_entered reply.now) (λ ticket. ticket < length wakers.old) }
     ensures { Follows None (ticket_if_entered reply.now) wakers.old waker.old None wakers.new waker.new }
 {

@@ -24,8 +24,8 @@ use std::sync::Wait;
 /// The lock of a pool, which is lent it, with the shares of one get or object, and what the get hears by. Each step is one
 /// section of the lock. After it, with the lock given back, the wakers are called of the gets that it made due.
 ///
-/// A get without shares is handed out some as it enters. Contracts see a seat as its shares. A step that lowers a count asks that the shares have what it lowers, and is then never
-/// answered `Unknown`.
+/// A get without shares is handed out some as it enters. Contracts see a seat as its shares. A step that lowers a
+/// count asks that the shares have what it lowers, and is then never answered `Unknown`.
 #[derive(Drop)]
 pub struct Seat<
     'a,
@@ -90,17 +90,26 @@ impl<'a, M: Manager, F: SyncHook<M>, A: AsyncHook<M>, C: Clock, R: Wait + Drop, 
 
     ghost upgrades = { λ _ _ _. ⊤ };
 
-    fn enter(&mut self, wait: bool) -> EnterReply<Slot<M::Type>> {
+    fn enter_in(&mut self, wait: bool, place: &mut Option<Slot<M::Type>>) -> EnterReply<()> {
         let mut step = self.shared.lock.begin();
         if self.shares.is_none() {
             self.shares = step.kept().hand_out();
         }
         let reply = match &mut self.shares {
-            Some(shares) => step.kept().enter(shares, self.listener.waker(), wait),
+            Some(shares) => {
+                step.kept()
+                    .enter_in(shares, self.listener.waker(), wait, place)
+            }
             None => EnterReply::Served(Serving::Exhausted),
         };
         self.shared.lock.end(step);
         reply
+    }
+
+    fn enter(&mut self, wait: bool) -> EnterReply<Slot<M::Type>> {
+        let mut place = None;
+        let rest = self.enter_in(wait, &mut place);
+        rest.with(place)
     }
 
     fn ask(&mut self, ticket: Ticket, expired: bool) -> AskReply<Slot<M::Type>> {
@@ -119,7 +128,7 @@ impl<'a, M: Manager, F: SyncHook<M>, A: AsyncHook<M>, C: Clock, R: Wait + Drop, 
 
     fn again(&mut self, allowance: Option<usize>) -> AgainReply<Slot<M::Type>> {
         let Some(shares) = &mut self.shares else {
-            return AgainReply::Unknown;
+            unreachable!();
         };
         let mut step = self.shared.lock.begin();
         let reply = step.kept().again(shares, allowance);
@@ -129,7 +138,7 @@ impl<'a, M: Manager, F: SyncHook<M>, A: AsyncHook<M>, C: Clock, R: Wait + Drop, 
 
     fn discard(&mut self) -> StepReply {
         let Some(shares) = &mut self.shares else {
-            return StepReply::Unknown;
+            unreachable!();
         };
         let mut step = self.shared.lock.begin();
         let reply = step.kept().discard(shares);
@@ -139,7 +148,7 @@ impl<'a, M: Manager, F: SyncHook<M>, A: AsyncHook<M>, C: Clock, R: Wait + Drop, 
 
     fn created(&mut self) -> CreatedReply {
         let Some(shares) = &mut self.shares else {
-            return CreatedReply::Unknown;
+            unreachable!();
         };
         let mut step = self.shared.lock.begin();
         let reply = step.kept().created(shares);
@@ -149,7 +158,7 @@ impl<'a, M: Manager, F: SyncHook<M>, A: AsyncHook<M>, C: Clock, R: Wait + Drop, 
 
     fn failed(&mut self) -> StepReply {
         let Some(shares) = &mut self.shares else {
-            return StepReply::Unknown;
+            unreachable!();
         };
         let mut step = self.shared.lock.begin();
         let reply = step.kept().failed(shares);
@@ -159,7 +168,7 @@ impl<'a, M: Manager, F: SyncHook<M>, A: AsyncHook<M>, C: Clock, R: Wait + Drop, 
 
     fn refused(&mut self) -> StepReply {
         let Some(shares) = &mut self.shares else {
-            return StepReply::Unknown;
+            unreachable!();
         };
         let mut step = self.shared.lock.begin();
         let reply = step.kept().refused(shares);
@@ -173,7 +182,7 @@ impl<'a, M: Manager, F: SyncHook<M>, A: AsyncHook<M>, C: Clock, R: Wait + Drop, 
         ensures holds { self.new ≡ counts_of Holding.Nothing }
     {
         let Some(shares) = &mut self.shares else {
-            return BackReply::Unknown(slot);
+            unreachable!();
         };
         let mut step = self.shared.lock.begin();
         let reply = step.kept().back(shares, slot);
@@ -199,7 +208,7 @@ impl<'a, M: Manager, F: SyncHook<M>, A: AsyncHook<M>, C: Clock, R: Wait + Drop, 
 
     fn take(&mut self) -> TakeReply {
         let Some(shares) = &mut self.shares else {
-            return TakeReply::Unknown;
+            unreachable!();
         };
         let mut step = self.shared.lock.begin();
         let reply = step.kept().take(shares);

@@ -63,6 +63,10 @@ impl<'a, T: Drop> Desk<T> for Watched<'a, T> {
 
     ghost upgrades = { λ _ _ _. ⊤ };
 
+    fn enter_in(&mut self, wait: bool, place: &mut Option<Slot<T>>) -> EnterReply<()> {
+        self.core.enter_in(wait, place)
+    }
+
     fn enter(&mut self, wait: bool) -> EnterReply<Slot<T>> {
         self.core.enter(wait)
     }

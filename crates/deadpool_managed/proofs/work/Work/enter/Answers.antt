@@ -10,10 +10,12 @@ returns-then-cannot_wait-clause-advanced g c =
 
 pub returns-clause-advanced : goal.returns-clause-advanced
 returns-clause-advanced g c =
-    let deadline = c.deadline_after-deadline.ensures in (
-      entering (not c.is_reached.result) c.enter-reply.result,
+    let deadline = c.deadline_after-deadline.ensures in
+    let entered = c.enter_in-rest.ensures.entered in
+    let after = c.after_entered.ensures.after entered.0 c.args.self.now.slot entered.1.1 in (
+      entering (not c.is_reached.result) entered.0,
       (
-        c.enter-reply.ensures.entered,
-        (sym c.cannot_wait.ensures ∙ c.if-cannot_wait.false, ap not (rw deadline at c.is_reached.ensures), rw deadline at c.after_entered.ensures.after),
+        entered.1.0,
+        (sym c.cannot_wait.ensures ∙ c.if-cannot_wait.false, ap not (rw deadline at c.is_reached.ensures), rw deadline at after),
       ),
     )
