@@ -12,7 +12,7 @@ ghost use Rattle.deadpool_parts.specs.declared.status.Status.{Status};
 ghost use Rattle.deadpool_desk.specs.Allowance.{IsWithinAllowance};
 ghost use Rattle.deadpool_desk.specs.Held.{held_if_served, held_if_entered, held_if_asked, held_if_asked_again, held_if_created, held_if_discarded, held_as};
 ghost use Rattle.deadpool_desk.specs.declared.desk.Holding.{Holding};
-ghost use Rattle.deadpool_desk.specs.Parts.{IsParted, IsPartedServing};
+ghost use Rattle.deadpool_desk.specs.Parts.{IsParted, IsPartedAsk, IsPartedServing};
 ghost use Rattle.deadpool_desk.specs.Retained.{Retained};
 ghost use Rattle.deadpool_desk.specs.declared.retain.Retainer.{Ghosts as RetainerOf};
 ghost use Rattle.deadpool_desk.specs.declared.slot.Slot.{Slot};
@@ -248,6 +248,27 @@ impl<T> AskReply<T> {
     }
 }
 
+impl AskReply<()> {
+    /// The whole of it, with the object that was put into an empty place.
+    pub fn with<O>(self, place: Option<O>) -> AskReply<O>
+        requires { (whole : AskReply O) × IsPartedAsk whole self None place }
+        ensures whole { (whole : AskReply O) → IsPartedAsk whole self None place → result ≡ whole }
+        ensures holding { held_if_asked result ≡ held_if_asked self }
+    {
+        let reply = match self {
+            AskReply::Served(serving) => return AskReply::Served(serving.with(place)),
+            AskReply::Closed => AskReply::Closed,
+            AskReply::Expired => AskReply::Expired,
+            AskReply::Waiting => AskReply::Waiting,
+            AskReply::Unknown => AskReply::Unknown,
+        };
+        match place {
+            None => reply,
+            Some(_) => unreachable!(),
+        }
+    }
+}
+
 impl<T> AgainReply<T> {
     /// What a get that goes on holds after this reply.
     pub fn holding(&self) -> Holding
@@ -320,11 +341,29 @@ pub trait Desk<T> {
         rest.with(place)
     }
 
-    /// A get in the queue asks for its place. `expired` says that it has waited long enough.
+    /// A get in the queue asks for its place. `expired` says that it has waited long enough. An object that it is given
+    /// goes into `place`, and what is there stays otherwise.
+    fn ask_in(
+        &mut self,
+        ticket: Ticket,
+        expired: bool,
+        place: &mut Option<Slot<T>>,
+    ) -> AskReply<()>
+        requires { holds self.old Holding.Nothing }
+        ensures asked { (whole : AskReply (Slot T)) × (asks self.old ticket expired whole self.new
+            × IsPartedAsk whole result place.old place.new) }
+        ensures holds { holds self.new (held_if_asked result) };
+
+    /// As `ask_in`, with the object in the reply.
     fn ask(&mut self, ticket: Ticket, expired: bool) -> AskReply<Slot<T>>
         requires { holds self.old Holding.Nothing }
         ensures asked { asks self.old ticket expired result self.new }
-        ensures holds { holds self.new (held_if_asked result) };
+        ensures holds { holds self.new (held_if_asked result) }
+    {
+        let mut place = None;
+        let rest = self.ask_in(ticket, expired, &mut place);
+        rest.with(place)
+    }
 
     /// A get that holds a place is served. It may take so many idle objects; none set is as many as are idle.
     fn again(&mut self, allowance: Option<usize>) -> AgainReply<Slot<T>>

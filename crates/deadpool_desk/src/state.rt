@@ -3,7 +3,7 @@ ghost use Rattle.std.specs.Prelude.{◌≡◌, ◌+◌, ◌-◌, ◌≤◌, ◌&
 ghost use Rattle.deadpool_desk.specs.Allowance.{IsWithinAllowance};
 ghost use Rattle.deadpool_desk.specs.DeskState.{least_idle, new_core, places, settled, next_idle, other_idle};
 ghost use Rattle.deadpool_desk.specs.DeskSteps.{Serves, surplus};
-ghost use Rattle.deadpool_desk.specs.Parts.{IsParted, IsPartedServing};
+ghost use Rattle.deadpool_desk.specs.Parts.{IsParted, IsPartedAsk, IsPartedServing};
 ghost use Rattle.deadpool_desk.specs.CoreSteps.{Enters, Asks, AsksAgain, Discards, Creates, Fails, Refuses, TakesBack, Cancels, Takes, Resizes, Stands, Retains, RetainsNoting, Closes, Clones, DropsHandle, Upgrades, Tells, due_now};
 
 use crate::desk::{
@@ -247,11 +247,17 @@ impl<T: Drop> PoolState<T> {
         }
     }
 
-    pub fn ask(&mut self, ticket: Ticket, expired: bool) -> AskReply<Slot<T>>
-        ensures { Asks self.old ticket expired result self.new }
+    pub fn ask_in(
+        &mut self,
+        ticket: Ticket,
+        expired: bool,
+        place: &mut Option<Slot<T>>,
+    ) -> AskReply<()>
+        ensures { (whole : AskReply (Slot T)) × (Asks self.old ticket expired whole self.new
+            × IsPartedAsk whole result place.old place.new) }
     {
         match self.gate.ask(ticket) {
-            Ask::Granted => AskReply::Served(self.serve(None)),
+            Ask::Granted => AskReply::Served(self.serve_in(None, place)),
             Ask::Closed => AskReply::Closed,
             Ask::Unknown => AskReply::Unknown,
             Ask::Waiting => {

@@ -218,9 +218,14 @@ impl<T: Drop> Desk<T> for Journaled<T> {
         reply
     }
 
-    fn ask(&mut self, ticket: Ticket, expired: bool) -> AskReply<Slot<T>> {
-        let reply = self.core.ask(ticket, expired);
-        self.log.add_ask(ticket, expired, &reply);
+    fn ask_in(
+        &mut self,
+        ticket: Ticket,
+        expired: bool,
+        place: &mut Option<Slot<T>>,
+    ) -> AskReply<()> {
+        let reply = self.core.ask_in(ticket, expired, place);
+        self.log.add_ask(ticket, expired, &reply, place);
         reply
     }
 

@@ -2,7 +2,8 @@
 ghost use Rattle.std.specs.Prelude.{◌≡◌, ◌≢◌, Option};
 ghost use Rattle.deadpool_managed.specs.Outside.{may};
 ghost use Rattle.deadpool_managed.specs.Get.{Made, Makes, AdvancesFrom, AfterServing, AfterEntered, AfterAsked, AfterAskedAgain};
-ghost use Rattle.deadpool_desk.specs.Parts.{IsParted, IsPartedServing};
+ghost use Rattle.deadpool_desk.specs.Parts.{IsParted, IsPartedAsk, IsPartedServing};
+ghost use Rattle.deadpool_desk.specs.declared.desk.AskReply.{AskReply};
 ghost use Rattle.deadpool_desk.specs.declared.desk.EnterReply.{EnterReply};
 ghost use Rattle.deadpool_desk.specs.declared.desk.Serving.{Serving};
 ghost use Rattle.deadpool_desk.specs.declared.slot.Slot.{Slot};
@@ -68,20 +69,25 @@ impl<M: Manager, A: AsyncHook<M>> Work<M, A> {
         }
     }
 
+    // The same of a get in the queue.
     pub(crate) fn after_asked(
         &mut self,
         ticket: Ticket,
         deadline: Option<Moment>,
-        reply: AskReply<Slot<M::Type>>,
+        rest: AskReply<()>,
     ) -> Came<M::Error>
-        requires { self.old.phase ≡ Phase.Finished }
-        ensures after { AfterAsked ticket deadline reply (stage_of self.new.phase self.new.slot) (turn_of result self.new.slot) }
+        requires finished { self.old.phase ≡ Phase.Finished }
+        requires parted { (whole : AskReply (Slot M.Type)) × (was : Option (Slot M.Type))
+            × IsPartedAsk whole rest was self.old.slot }
+        ensures after { (whole : AskReply (Slot M.Type)) (was : Option (Slot M.Type))
+            → IsPartedAsk whole rest was self.old.slot
+            → AfterAsked ticket deadline whole (stage_of self.new.phase self.new.slot) (turn_of result self.new.slot) }
         ensures placed { IsPlaced M.is_ready self.new.phase self.new.slot }
         ensures not_given { result ≢ Came.Given }
-        ensures holds { held_after (stage_of self.new.phase self.new.slot) (turn_of result self.new.slot) ≡ held_if_asked reply }
+        ensures holds { held_after (stage_of self.new.phase self.new.slot) (turn_of result self.new.slot) ≡ held_if_asked rest }
     {
-        match reply {
-            AskReply::Served(serving) => self.after_serving(serving),
+        match rest {
+            AskReply::Served(served) => self.after_served(served),
             AskReply::Closed | AskReply::Unknown => Came::Failed(PoolError::Closed),
             AskReply::Expired => Came::Failed(PoolError::Timeout(TimeoutType::Wait)),
             AskReply::Waiting => {

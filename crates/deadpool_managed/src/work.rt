@@ -202,8 +202,8 @@ impl<M: Manager, A: AsyncHook<M>> Work<M, A> {
             Phase::Unpolled => Came::Pending,
             Phase::Served(_) => Came::Pending,
             Phase::Queued(ticket, deadline) => {
-                let reply = desk.ask(ticket, is_reached(deadline, now));
-                self.after_asked(ticket, deadline, reply)
+                let rest = desk.ask_in(ticket, is_reached(deadline, now), &mut self.slot);
+                self.after_asked(ticket, deadline, rest)
             }
             Phase::Going(allowance) => {
                 let reply = desk.again(allowance);

@@ -1,6 +1,7 @@
 //! The steps that change a pool's three counts, with what they do to them.
 ghost use Rattle.std.specs.Prelude.{◌≡◌, ◌≢◌, ◌<◌, true, IfSome};
-ghost use Rattle.deadpool_desk.specs.Parts.{IsParted};
+ghost use Rattle.deadpool_desk.specs.Parts.{IsParted, IsPartedAsk};
+ghost use Rattle.deadpool_desk.specs.declared.desk.AskReply.{AskReply};
 ghost use Rattle.deadpool_desk.specs.declared.desk.EnterReply.{EnterReply};
 ghost use Rattle.deadpool_desk.specs.declared.slot.Slot.{Slot};
 ghost use Rattle.deadpool_desk.specs.Allowance.{IsWithinAllowance};
@@ -31,11 +32,17 @@ pub fn enter_in<T: Drop>(
     pool.enter_in(wait, place)
 }
 
-pub fn ask<T: Drop>(pool: &mut Journaled<T>, ticket: Ticket, expired: bool) -> AskReply<Slot<T>>
-    ensures noted { AsksNoted pool.old ticket expired result pool.new }
+pub fn ask_in<T: Drop>(
+    pool: &mut Journaled<T>,
+    ticket: Ticket,
+    expired: bool,
+    place: &mut Option<Slot<T>>,
+) -> AskReply<()>
+    ensures noted { (whole : AskReply (Slot T)) × (AsksNoted pool.old ticket expired whole pool.new
+        × IsPartedAsk whole result place.old place.new) }
     ensures counts { counted pool.new ≡ shifted Holding.Nothing (held_if_asked result) (counted pool.old) }
 {
-    pool.ask(ticket, expired)
+    pool.ask_in(ticket, expired, place)
 }
 
 pub fn again<T: Drop>(pool: &mut Journaled<T>, allowance: Option<usize>) -> AgainReply<Slot<T>>

@@ -112,18 +112,34 @@ impl<'a, M: Manager, F: SyncHook<M>, A: AsyncHook<M>, C: Clock, R: Wait + Drop, 
         rest.with(place)
     }
 
-    fn ask(&mut self, ticket: Ticket, expired: bool) -> AskReply<Slot<M::Type>> {
+    fn ask_in(
+        &mut self,
+        ticket: Ticket,
+        expired: bool,
+        place: &mut Option<Slot<M::Type>>,
+    ) -> AskReply<()> {
         let Some(shares) = &mut self.shares else {
             return AskReply::Unknown;
         };
         let mut spare = None;
         let mut step = self.shared.lock.begin();
-        let reply = step
-            .kept()
-            .ask(shares, self.listener.waker(), &mut spare, ticket, expired);
+        let reply = step.kept().ask_in(
+            shares,
+            self.listener.waker(),
+            &mut spare,
+            ticket,
+            expired,
+            place,
+        );
         self.shared.lock.end(step);
         drop(spare);
         reply
+    }
+
+    fn ask(&mut self, ticket: Ticket, expired: bool) -> AskReply<Slot<M::Type>> {
+        let mut place = None;
+        let rest = self.ask_in(ticket, expired, &mut place);
+        rest.with(place)
     }
 
     fn again(&mut self, allowance: Option<usize>) -> AgainReply<Slot<M::Type>> {

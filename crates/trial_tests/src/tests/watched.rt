@@ -71,6 +71,15 @@ impl<'a, T: Drop> Desk<T> for Watched<'a, T> {
         self.core.enter(wait)
     }
 
+    fn ask_in(
+        &mut self,
+        ticket: Ticket,
+        expired: bool,
+        place: &mut Option<Slot<T>>,
+    ) -> AskReply<()> {
+        self.core.ask_in(ticket, expired, place)
+    }
+
     fn ask(&mut self, ticket: Ticket, expired: bool) -> AskReply<Slot<T>> {
         self.core.ask(ticket, expired)
     }
