@@ -1,19 +1,17 @@
 //! The managed pool: a manager creates its objects and recycles those that came back.
 //!
 //! A `PoolBuilder` builds it for threads and tasks, or opens it on one thread. It stands in crates of its own, which know
-//! no trial.
+//! no trial. `desk` has what a pool is made of.
+
+pub mod desk;
 
 pub use deadpool_managed::{
-    AgainReply, AskReply, AsyncHook, BackReply, BuildError, ConfigError, Core, CreatePoolError,
-    CreatedReply, Desk, EnterReply, Environment, FnHook, GetState, HandleReply, Held, Hook,
-    HookAnswer, HookError, HookResult, Hooks, Manager, Metrics, NoHook, ObjectId, PoolConfig,
-    PoolError, Position, Preparation, QueueMode, RecycleError, RecycleResult, Removal, Removals,
-    RetainResult, Retainer, Serving, Slot, Stage, Status, StepReply, SyncHook, TakeReply,
-    TimeoutType, Timeouts, Turn, laws,
+    AsyncHook, BuildError, ConfigError, CreatePoolError, FnHook, Hook, HookAnswer, HookError,
+    HookResult, Manager, Metrics, NoHook, ObjectId, PoolConfig, PoolError, QueueMode, RecycleError,
+    RecycleResult, RetainResult, Status, SyncHook, TimeoutType, Timeouts,
 };
 pub use deadpool_shared::{
-    Blanks, Entry, Get, GetRef, Journal, Ledgers, Object, OpenPool, Pool, PoolBuilder, Seat,
-    WeakPool, by_number,
+    Blanks, Entry, Get, GetRef, Journal, Ledgers, Object, OpenPool, Pool, PoolBuilder, WeakPool,
 };
 
 /// What a user of a pool names beside it, for a crate that gives a pool of its own out.

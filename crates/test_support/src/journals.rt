@@ -1,9 +1,8 @@
 //! The journal of a pool, driven again on one thread.
 use crate::expected::expect;
 use deadpool::Moment;
-use deadpool::managed::{
-    Core, Desk, Entry, Journal, Metrics, Removal, Removals, Retainer, Slot, Status, by_number,
-};
+use deadpool::managed::desk::{Core, Desk, Removal, Removals, Retainer, Slot, by_number};
+use deadpool::managed::{Entry, Journal, Metrics, Status};
 use std::alloc::{AllocError, Global};
 use std::test::Fail;
 

@@ -1,8 +1,7 @@
 //! A pool's state, by hand.
 use deadpool::Moment;
-use deadpool::managed::{
-    BackReply, Core, CreatedReply, Desk, EnterReply, Metrics, QueueMode, Serving, Slot,
-};
+use deadpool::managed::desk::{BackReply, Core, CreatedReply, Desk, EnterReply, Serving, Slot};
+use deadpool::managed::{Metrics, QueueMode};
 use std::alloc::Global;
 use std::test::Fail;
 

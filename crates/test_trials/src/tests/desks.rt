@@ -3,9 +3,8 @@ ghost use Rattle.deadpool.specs.Holding.{Holding};
 
 use super::cores::{created, keep};
 use super::managers::Counter;
-use deadpool::managed::{
-    Core, Desk, Environment, GetState, Hooks, Manager, NoHook, QueueMode, Slot, Timeouts, Turn,
-};
+use deadpool::managed::desk::{Core, Desk, Environment, GetState, Hooks, Slot, Turn};
+use deadpool::managed::{Manager, NoHook, QueueMode, Timeouts};
 use deadpool::{Moment, Runtime};
 use futures::task::Context;
 use futures::test::MockTask;

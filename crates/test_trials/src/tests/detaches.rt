@@ -4,10 +4,8 @@ use super::cores::{keep, new_core};
 use super::managers::{Calls, Counted};
 use super::polls::{poll, task};
 use super::watched::Watched;
-use deadpool::managed::{
-    Desk, EnterReply, Environment, GetState, Hook, Hooks, NoHook, PoolError, QueueMode, Serving,
-    Timeouts,
-};
+use deadpool::managed::desk::{Desk, EnterReply, Environment, GetState, Hooks, Serving};
+use deadpool::managed::{Hook, NoHook, PoolError, QueueMode, Timeouts};
 use futures::task::Solo;
 use std::random::RandomSource;
 use std::test::Fail;

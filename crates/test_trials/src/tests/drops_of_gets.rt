@@ -6,9 +6,8 @@ use super::managers::Calls;
 use super::polls::{poll, task};
 use super::told::{Answer, Lent, Object, Told, environment};
 use super::watched::Watched;
-use deadpool::managed::{
-    BackReply, Core, Desk, GetState, Hook, QueueMode, Slot, StepReply, Timeouts,
-};
+use deadpool::managed::desk::{BackReply, Core, Desk, GetState, Slot, StepReply};
+use deadpool::managed::{Hook, QueueMode, Timeouts};
 use futures::task::Solo;
 use std::alloc::Global;
 use std::test::Fail;

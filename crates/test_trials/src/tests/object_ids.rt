@@ -1,6 +1,7 @@
 //! Identifiers of objects.
 use deadpool::Moment;
-use deadpool::managed::{Metrics, ObjectId, Slot};
+use deadpool::managed::desk::Slot;
+use deadpool::managed::{Metrics, ObjectId};
 use std::alloc::Global;
 use std::cmp::Ordering;
 use std::test::Fail;

@@ -3,7 +3,8 @@ ghost use Rattle.deadpool.specs.Holding.{Holding};
 
 use super::answering::Answering;
 use deadpool::Moment;
-use deadpool::managed::{Desk, Environment, GetState, Manager, NoHook, PoolError, Slot, Turn};
+use deadpool::managed::desk::{Desk, Environment, GetState, Slot, Turn};
+use deadpool::managed::{Manager, NoHook, PoolError};
 use futures::task::{Doorbell, Solo};
 use std::random::RandomSource;
 use std::test::Fail;

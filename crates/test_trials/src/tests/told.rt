@@ -2,9 +2,8 @@
 use super::answering::Answering;
 use super::managers::Refused;
 use deadpool::Runtime;
-use deadpool::managed::{
-    Environment, Hooks, Manager, Metrics, NoHook, RecycleError, RecycleResult,
-};
+use deadpool::managed::desk::{Environment, Hooks};
+use deadpool::managed::{Manager, Metrics, NoHook, RecycleError, RecycleResult};
 use futures::task::{Context, Poll};
 use std::alloc::{AllocError, Global};
 use std::cell::Cell;

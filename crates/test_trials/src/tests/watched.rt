@@ -4,9 +4,10 @@ ghost use Rattle.std.specs.Prelude.{⊤};
 use super::managers::Calls;
 use deadpool::Status;
 use deadpool::gate::Ticket;
-use deadpool::managed::{
+use deadpool::managed::RetainResult;
+use deadpool::managed::desk::{
     AgainReply, AskReply, BackReply, Core, CreatedReply, Desk, EnterReply, HandleReply, Held,
-    RetainResult, Retainer, Slot, StepReply, TakeReply,
+    Retainer, Slot, StepReply, TakeReply,
 };
 use std::alloc::AllocError;
 

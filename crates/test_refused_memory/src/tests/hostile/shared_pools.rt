@@ -4,9 +4,8 @@ ghost use Rattle.std.specs.Prelude.{◌≡◌};
 
 use super::answers::{Answer, Answers, Switch, Told, ToldHook, builder, new_switch};
 use super::lanes::{Fault, LANES, LIMIT, Lanes, MOST_STEPS, Standing, play};
-use deadpool::managed::{
-    Blanks, EnterReply, Entry, Get, Journal, Ledgers, NoHook, Object, Pool, Serving,
-};
+use deadpool::managed::desk::{EnterReply, Serving};
+use deadpool::managed::{Blanks, Entry, Get, Journal, Ledgers, NoHook, Object, Pool};
 use deadpool::{Moment, NoTime, Status};
 use futures::task::Poll;
 use futures::test::MockTask;

@@ -1,6 +1,7 @@
 //! Who is in the queue of a shared pool, and whom its steps are to wake, by its journal.
 use deadpool::gate::Ticket;
-use deadpool::managed::{AskReply, Core, EnterReply, Entry, Held, Journal};
+use deadpool::managed::desk::{AskReply, Core, EnterReply, Held};
+use deadpool::managed::{Entry, Journal};
 use std::alloc::{AllocError, Global};
 use std::test::Fail;
 use test_support::journals::{answers_so, opened};

@@ -4,10 +4,10 @@ ghost use Rattle.std.specs.Prelude.{◌≡◌};
 
 use crate::tests::examples::threads::{Numbers, Zeros, total};
 use deadpool::NoTime;
-use deadpool::managed::{
-    AgainReply, AskReply, BackReply, Blanks, CreatedReply, Entry, Journal, Ledgers, PoolBuilder,
-    Status, StepReply, TakeReply,
+use deadpool::managed::desk::{
+    AgainReply, AskReply, BackReply, CreatedReply, StepReply, TakeReply,
 };
+use deadpool::managed::{Blanks, Entry, Journal, Ledgers, PoolBuilder, Status};
 use futures::executor::block_on;
 use std::alloc::Global;
 use std::marker::Brand;

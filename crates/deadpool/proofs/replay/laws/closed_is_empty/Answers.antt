@@ -1,6 +1,0 @@
-use Rattle.deadpool.proofs.Words.{may, IsEmptyIfClosed}
-use Rattle.deadpool.proofs.RunsWell.{each_state}
-use Rattle.deadpool.proofs.replay.laws.closed_is_empty.Goals as goal
-
-pub returns : goal.returns
-returns g c = λ manager. each_state (may g.M.Manager g.F.SyncHook g.A.AsyncHook manager) IsEmptyIfClosed (λ q w. w.closed)

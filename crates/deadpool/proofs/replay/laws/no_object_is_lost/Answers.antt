@@ -1,7 +1,0 @@
-use Rattle.deadpool.proofs.Words.{may_leave, may, OthersStayInPool}
-use Rattle.deadpool.proofs.RunsWell.{each_move}
-use Rattle.deadpool.proofs.Well.{others_stay}
-use Rattle.deadpool.proofs.replay.laws.no_object_is_lost.Goals as goal
-
-pub returns : goal.returns
-returns g c = λ manager. each_move (may g.M.Manager g.F.SyncHook g.A.AsyncHook manager) OthersStayInPool (λ n now q r h. h) (λ m p x w k h. others_stay (may_leave m p) p x.1 h.1.stay)

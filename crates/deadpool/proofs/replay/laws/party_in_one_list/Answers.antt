@@ -1,7 +1,0 @@
-use Rattle.deadpool.proofs.Words.{may, IsListedOnce}
-use Rattle.deadpool.proofs.OneList.{listed_once}
-use Rattle.deadpool.proofs.RunsWell.{each_state}
-use Rattle.deadpool.proofs.replay.laws.party_in_one_list.Goals as goal
-
-pub returns : goal.returns
-returns g c = λ manager. each_state (may g.M.Manager g.F.SyncHook g.A.AsyncHook manager) IsListedOnce (λ q w. listed_once q w.lawful)

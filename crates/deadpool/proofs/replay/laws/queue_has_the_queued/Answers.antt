@@ -1,6 +1,0 @@
-use Rattle.deadpool.proofs.Words.{may, MarksQueued}
-use Rattle.deadpool.proofs.RunsWell.{each_state}
-use Rattle.deadpool.proofs.replay.laws.queue_has_the_queued.Goals as goal
-
-pub returns : goal.returns
-returns g c = λ manager. each_state (may g.M.Manager g.F.SyncHook g.A.AsyncHook manager) MarksQueued (λ q w. w.lawful.marks)

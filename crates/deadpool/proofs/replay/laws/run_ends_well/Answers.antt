@@ -1,6 +1,0 @@
-use Rattle.deadpool.proofs.Words.{may}
-use Rattle.deadpool.proofs.RunsWell.{ends_well}
-use Rattle.deadpool.proofs.replay.laws.run_ends_well.Goals as goal
-
-pub returns : goal.returns
-returns g c = λ manager. ends_well (may g.M.Manager g.F.SyncHook g.A.AsyncHook manager)

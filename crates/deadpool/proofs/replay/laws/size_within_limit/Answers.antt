@@ -1,6 +1,0 @@
-use Rattle.deadpool.proofs.Words.{may}
-use Rattle.deadpool.proofs.RunsWell.{stays_within}
-use Rattle.deadpool.proofs.replay.laws.size_within_limit.Goals as goal
-
-pub returns : goal.returns
-returns g c = λ manager. stays_within (may g.M.Manager g.F.SyncHook g.A.AsyncHook manager)

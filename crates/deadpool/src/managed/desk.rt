@@ -1,0 +1,9 @@
+//! What a managed pool is made of: its state on one thread with the steps of gets and of its owner, their replies, and a
+//! get as a state that its owner polls. Who uses a pool needs none of it.
+
+pub use deadpool_managed::{
+    AgainReply, AskReply, BackReply, Core, CreatedReply, Desk, EnterReply, Environment, GetState,
+    HandleReply, Held, Hooks, Position, Preparation, Removal, Removals, Retainer, Serving, Slot,
+    Stage, StepReply, TakeReply, Turn, laws,
+};
+pub use deadpool_shared::{Seat, by_number};

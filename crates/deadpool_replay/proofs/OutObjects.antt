@@ -1,0 +1,106 @@
+-- Objects that are out: one gets another value, leaves the pool for good, or comes back.
+use Rattle.deadpool_replay.proofs.Basics.{◌≡◌, ℕ, suc, List, [], ◌∷◌, ◌==◌, length, set, refl, ap, inl, inr, Some, get_or, position, position_or_len, one-add, cases_Bool, place_is, found_at_place, arith, Option, ◌+◌, ◌-◌, length-without_numbered, ◌++◌, true, false, nat_le, sym, le-leb, lt-leb, eq-eqb, ne_eqb, Gives}
+use Rattle.deadpool_replay.proofs.Words.{find_slot, with_put, Slot, DeskState, Getting, IsCounted, settled, settle, without_slot, slot_number, May, TakesBack, Pool, size, moved, IsTaken, reply_to_back, BackReply, Reply}
+use Rattle.deadpool_desk.specs.declared.desk.BackReply.TheVariants as back
+use Rattle.deadpool_replay.specs.declared.moves.Move.TheVariants as move
+use Rattle.deadpool_replay.specs.declared.moves.Reply.TheVariants as reply
+use Rattle.deadpool_replay.proofs.DeskImage.{settles, counted_settled}
+use Rattle.deadpool_replay.proofs.Fixed.{Fixed, image_of}
+
+module _ {V : Type 0} where
+  -- a value put at the first place with the number
+  put_there : (n : ℕ) (v : V) (xs : List (Slot V)) (slot : Slot V) → find_slot n xs ≡ Some slot → set xs (position_or_len (λ s. s.number == n) xs) (record slot { value = v }) ≡ with_put n v xs
+  put_there n v [] slot h = cc
+  put_there n v (x ∷ xs) slot h =
+      elim (cases_Bool (x.number == n)) [
+        | inl same_number ↦ let same : x ≡ slot = let here = rw same_number at h in cc in rw (same_number, same) refl
+        | inr differs ↦
+            let there : find_slot n xs ≡ Some slot = rw differs at h in
+            rw (differs, one-add) (ap (λ ys. x ∷ ys) (put_there n v xs slot there))
+      ]
+
+  -- a value that is put at an object's place is put at its number
+  pub put_at_place : (n : ℕ) (v : V) (xs : List (Slot V)) (at : ℕ) (slot : Slot V) → position (λ s. s.number == n) xs ≡ Some at → slot ≡ get_or xs at slot
+      → set xs at (record slot { value = v }) ≡ with_put n v xs
+  put_at_place n v xs at slot h e =
+      let w = place_is (λ s. s.number == n) xs at h in
+      rw (← w.0) (put_there n v xs slot (found_at_place (λ s. s.number == n) xs at slot h e))
+
+  pub length-with_put : (n : ℕ) (v : V) (xs : List (Slot V)) → length (with_put n v xs) ≡ length xs
+  length-with_put n v [] = refl
+  length-with_put n v (x ∷ xs) =
+      elim (cases_Bool (x.number == n)) [
+        | inl same_number ↦ rw same_number refl
+        | inr differs ↦ rw differs (ap suc (length-with_put n v xs))
+      ]
+
+module _ {V C R S : Type 0} where
+  -- as many are out as before
+  pub put_counted : (core : DeskState (Slot V)) (gets : List (Option (Getting V C R S))) (out : List (Slot V)) (n : ℕ) (v : V) → IsCounted core gets out → IsCounted core gets (with_put n v out)
+  put_counted core gets out n v k =
+      let same = length-with_put n v out in
+      record { tickets = k.tickets; going = k.going; creations = k.creations; outside = omega (arith, same, k.outside); room = omega (arith, same, k.room) }
+
+module _ {V C R S : Type 0} (core : DeskState (Slot V)) (gets : List (Option (Getting V C R S))) (out : List (Slot V)) (n : ℕ) (slot : Slot V) (k : IsCounted core gets out) (h : find_slot n out ≡ Some slot) where
+  -- an object that is out has a place
+  pub one_outside : (core.outside - 1) + 1 ≡ core.outside
+  one_outside = omega (arith, k.outside, length-without_numbered slot_number n out slot h)
+
+  -- the desk that counts one object less, whatever is idle
+  pub taken_counted : (idle : List (Slot V)) → IsCounted (record core { idle = idle; outside = core.outside - 1 }) gets (without_slot n out)
+  taken_counted idle =
+      let less = length-without_numbered slot_number n out slot h in
+      record {
+        tickets = record { owned = k.tickets.owned; listed = k.tickets.listed };
+        going = k.going;
+        creations = k.creations;
+        outside = omega (arith, less, k.outside);
+        room = omega (arith, less, k.room);
+      }
+
+module _ {V C R S F A : Type 0} (fixed : Fixed F A)
+    (core core' : DeskState (Slot V)) (gets : List (Option (Getting V C R S))) (out : List (Slot V)) (n : ℕ) (slot : Slot V) (k : IsCounted core gets out) (h : find_slot n out ≡ Some slot) where
+  -- an object that leaves the pool for good takes its place with it
+  pub takes : core' ≡ settled (record core { outside = core.outside - 1 })
+      → (image_of fixed core' gets (without_slot n out) ≡ settle (record (image_of fixed core gets out) { out = without_slot n out }))
+      × IsCounted core' gets (without_slot n out)
+  takes e =
+      let counted = taken_counted core gets out n slot k h core.idle in
+      let core1 : DeskState (Slot V) = record core { outside = core.outside - 1 } in
+      rw e (
+        settles fixed core1 gets (without_slot n out) counted,
+        counted_settled core1 gets (without_slot n out) counted,
+      )
+
+module _ {V C R S : Type 0} (core core' : DeskState (Slot V)) (gets : List (Option (Getting V C R S))) (out : List (Slot V)) (n : ℕ) (slot : Slot V) (k : IsCounted core gets out) (h : find_slot n out ≡ Some slot) where
+  -- the desk knows of an object that is out, and counts it no more
+  pub back_counted : (r : BackReply (Slot V)) → TakesBack core slot r core' → IsCounted core' gets (without_slot n out) × IsTaken r
+  back_counted back.Kept e =
+      rw e.3 (counted_settled (record core { idle = core.idle ++ slot ∷ []; outside = core.outside - 1 }) gets (without_slot n out) (taken_counted core gets out n slot k h (core.idle ++ slot ∷ [])), tt)
+  back_counted (back.Dropped given) e = rw e.3 (counted_settled (record core { outside = core.outside - 1 }) gets (without_slot n out) (taken_counted core gets out n slot k h core.idle), tt)
+  back_counted (back.Detach given) e = rw e.4 (counted_settled (record core { outside = core.outside - 1 }) gets (without_slot n out) (taken_counted core gets out n slot k h core.idle), tt)
+  back_counted (back.Unknown given) e = absurd (omega (arith, one_outside core gets out n slot k h, e.0))
+
+module _ {V E C R S F A : Type 0} (may : May V E C R S F A) (fixed : Fixed F A)
+    (core core' : DeskState (Slot V)) (gets : List (Option (Getting V C R S))) (out : List (Slot V)) (n : ℕ) (slot : Slot V) (k : IsCounted core gets out) (h : find_slot n out ≡ Some slot) where
+  -- what the desk makes of an object that comes back is what the pool makes of it
+  pub backs : (r : BackReply (Slot V)) (answer : Reply V E) → TakesBack core slot r core' → Gives may (reply_to_back r) answer
+      → Gives may (moved (move.Back n) (image_of fixed core gets out)) (answer, image_of fixed core' gets (without_slot n out))
+  backs back.Kept answer e g =
+      let core1 : DeskState (Slot V) = record core { idle = core.idle ++ slot ∷ []; outside = core.outside - 1 } in
+      let counted = taken_counted core gets out n slot k h (core.idle ++ slot ∷ []) in
+      let has_handle : (core.handles == 0) ≡ false = ne_eqb core.handles 0 (omega (arith, e.1)) in
+      let fits : nat_le (size (image_of fixed core gets out)) core.limit ≡ true = le-leb _ _ (omega (arith, k.outside, e.2)) in
+      rw (h, ← g, e.3) (rw (has_handle, fits)
+      (ap (λ (p : Pool V C R S F A). (reply.Kept, p)) (sym (settles fixed core1 gets (without_slot n out) counted))))
+  backs (back.Dropped given) answer e g =
+      let no_handle : (core.handles == 0) ≡ true = eq-eqb core.handles 0 e.1 in
+      let left = takes fixed core core' gets out n slot k h e.3 in
+      rw (h, ← g) (rw no_handle (ap (λ (p : Pool V C R S F A). (reply.Dropped, p)) (sym left.0)))
+  backs (back.Detach given) answer e g =
+      let has_handle : (core.handles == 0) ≡ false = ne_eqb core.handles 0 (omega (arith, e.1)) in
+      let full : nat_le (size (image_of fixed core gets out)) core.limit ≡ false = lt-leb _ _ (omega (arith, k.outside, e.2)) in
+      let left = takes fixed core core' gets out n slot k h e.4 in
+      let allowed = rw e.3 at g.1.0 in
+      rw (h, ← g.1.1) (rw (has_handle, full) (g.0, (allowed, ap (λ (p : Pool V C R S F A). (reply.Detached, p)) (sym left.0))))
+  backs (back.Unknown given) answer e g = absurd (omega (arith, one_outside core gets out n slot k h, e.0))

@@ -1,0 +1,80 @@
+-- What is true of every state of every run of a managed pool that begins well, and of each two neighbours.
+use Rattle.deadpool_replay.proofs.Basics.{◌≡◌, ℕ, ◌≤◌, List, false, max, arith, inl, inr, refl, cases_Bool, has_number, all_states, Each, Neighbours}
+use Rattle.deadpool_replay.proofs.Words.{WithinReach, EachReply, Moment, May, Pool, size, reach, moved, PoolRuns, numbers, IsWell, Succeeds, sets_limit, NoneReturns, EachState, EachStep, EachLater, EachMove, EndsWell, StaysWithin, Move, Reply}
+use Rattle.deadpool_replay.specs.declared.moves.Move.TheVariants as move
+use Rattle.deadpool_replay.proofs.Computations.{Always-more}
+use Rattle.deadpool_replay.proofs.AllMoves.{Moved, moved_has}
+use Rattle.deadpool_replay.proofs.Runs.{Each-more, each_of, Neighbours-more, Later-of, Later-more, makes_next, makes_reply, runs_have}
+use Rattle.deadpool_replay.proofs.Well.{WellAfter, well_after, moved_well}
+
+module _ {V C R S F A : Type 0} where
+  -- what is gone stays gone, and more numbers were given
+  abbrev Leaves : Pool V C R S F A → Pool V C R S F A → Type 0
+  Leaves p q = (p.next ≤ q.next) × NoneReturns p q
+
+  leaves_on : (p q r : Pool V C R S F A) → Leaves p q → Leaves q r → Leaves p r
+  leaves_on p q r h k = (omega (arith, h.0, k.0), λ n given gone. k.1 n (omega (arith, given, h.0)) (h.1 n given gone))
+
+  succeeds_leaves : (p q : Pool V C R S F A) → Succeeds p q → Leaves p q
+  succeeds_leaves p q s =
+      let none : NoneReturns p q = λ n given gone. elim (cases_Bool (has_number n (numbers q))) [
+        | inl back ↦ let new = s.counted.new n back gone in absurd (omega (arith, given, new))
+        | inr none ↦ none
+      ] in
+      (s.counted.next, none)
+
+module _ {V E C R S F A : Type 0} (may : May V E C R S F A) where
+  -- every state is well, and each succeeds the one before it and is within its reach
+  runs_well : (moves : List (Move V)) (p after : Pool V C R S F A) (passed : List (List (Pool V C R S F A))) (answers : List (Reply V E)) → IsWell p → PoolRuns may p moves passed answers after
+      → Each IsWell (all_states p passed) × Neighbours (λ q r. Succeeds q r × WithinReach q r) (all_states p passed) × IsWell after
+  runs_well moves p after passed answers w ran =
+      runs_have may (λ m. Unit {0}) IsWell (λ q r. Succeeds q r × WithinReach q r) (λ n now meant. tt)
+      (λ m q meant h. Always-more (WellAfter q) (λ (x : Reply V E × Pool V C R S F A). IsWell x.1 × (Succeeds q x.1 × WithinReach q x.1)) (λ x k. (k.0, (k.1, k.2))) (moved m q) (moved_well E m q h))
+      moves p after passed answers (each_of (λ m. Unit {0}) (λ m. tt) moves) w ran
+
+  -- what follows for a pool that is well
+  pub each_state : (P : Pool V C R S F A → Type 0) → ((q : Pool V C R S F A) → IsWell q → P q) → EachState may P
+  each_state P implies moves p after passed answers w ran = Each-more IsWell P implies (all_states p passed) (runs_well moves p after passed answers w ran).0
+
+  -- what follows for one that succeeds another, and is within its reach
+  pub each_step : (P : Pool V C R S F A → Pool V C R S F A → Type 0) → ((q r : Pool V C R S F A) → Succeeds q r × WithinReach q r → P q r) → EachStep may P
+  each_step P implies moves p after passed answers w ran = Neighbours-more (λ q r. Succeeds q r × WithinReach q r) P implies (all_states p passed) (runs_well moves p after passed answers w ran).1
+
+  -- What each move has holds of the states that one move passes, if an advance within a poll is as any other.
+  pub each_move : (P : Move V → Pool V C R S F A → Pool V C R S F A → Type 0) → ((n : ℕ) (now : Moment) (q r : Pool V C R S F A) → P (move.Advance n now) q r → P (move.Poll n now) q r)
+      → ((m : Move V) (p : Pool V C R S F A) (x : Reply V E × Pool V C R S F A) → IsWell p → IsWell x.1 → Moved p m x → P m p x.1) → EachMove may P
+  each_move P polls keeps m p passed answer w made =
+      makes_next may (λ l. (q r : Pool V C R S F A) → P l q r → P m q r) IsWell (P m) (λ n now implies q r h. implies q r (polls n now q r h))
+      (λ l q implies h.
+      Always-more (Moved q l) (λ (x : Reply V E × Pool V C R S F A). IsWell x.1 × P m q x.1)
+      (λ x k. let after = (well_after l q x h k).0 in (after, implies q x.1 (keeps l q x h after k))) (moved l q) (moved_has E q h.lawful l))
+      m p passed answer (λ q r h. h) w made
+
+  pub each_reply : (P : Move V → Reply V E → Pool V C R S F A → Type 0) → ((m : Move V) (p : Pool V C R S F A) (x : Reply V E × Pool V C R S F A) → Moved p m x → P m x.0 x.1) → EachReply may P
+  each_reply P has m p passed answer w made =
+      makes_reply may (λ l. Unit {0}) IsWell (λ q r. Unit {0}) (λ n now meant. tt)
+      (λ l q meant h. Always-more (WellAfter q) (λ (x : Reply V E × Pool V C R S F A). IsWell x.1 × Unit {0}) (λ x k. (k.0, tt)) (moved l q) (moved_well E l q h)) P
+      (λ l q h. Always-more (Moved q l) (λ (x : Reply V E × Pool V C R S F A). P l x.0 x.1) (has l q) (moved l q) (moved_has E q h.lawful l)) m p passed answer tt w made
+
+  pub ends_well : EndsWell may
+  ends_well moves p after passed answers w ran = (runs_well moves p after passed answers w ran).2
+
+  -- a number that is gone stays gone from each state to each later one
+  pub none_returns : EachLater may NoneReturns
+  none_returns moves p after passed answers w ran =
+      let steps = each_step Leaves (λ q r s. succeeds_leaves q r s.0) moves p after passed answers w ran in
+      Later-more Leaves NoneReturns (λ q r k. k.1) (all_states p passed) (Later-of Leaves leaves_on (all_states p passed) steps)
+
+  -- if a run begins within its limit, and sets none, the size stays within it
+  pub stays_within : StaysWithin may
+  stays_within moves p after passed answers w within kept ran =
+      let have = runs_have may (λ m. sets_limit m ≡ false) (λ q. IsWell q × (reach q ≤ q.limit)) (λ q r. Unit {0}) (λ n now same. refl)
+      (λ m q same g. Always-more (Moved q m) (λ (x : Reply V E × Pool V C R S F A). (IsWell x.1 × (reach x.1 ≤ x.1.limit)) × Unit {0})
+      (λ x h.
+      let next = well_after m q x g.0 h in
+      let before : reach q ≤ q.limit = g.1 in
+      let reached : reach x.1 ≤ max x.1.limit (reach q) = next.2 in
+      let limit : x.1.limit ≡ q.limit = h.1.limit same in
+      ((next.0, omega (arith, before, reached, limit)), tt)) (moved m q) (moved_has E q g.0.lawful m))
+      moves p after passed answers kept (w, within) ran in
+      Each-more (λ q. IsWell q × (reach q ≤ q.limit)) (λ q. size q ≤ q.limit) (λ q g. let all = g.1 in omega (arith, all)) (all_states p passed) have.0

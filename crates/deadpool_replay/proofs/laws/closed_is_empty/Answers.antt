@@ -1,0 +1,6 @@
+use Rattle.deadpool_replay.proofs.Words.{may, IsEmptyIfClosed}
+use Rattle.deadpool_replay.proofs.RunsWell.{each_state}
+use Rattle.deadpool_replay.proofs.laws.closed_is_empty.Goals as goal
+
+pub returns : goal.returns
+returns g c = λ manager. each_state (may g.M.Manager g.F.SyncHook g.A.AsyncHook manager) IsEmptyIfClosed (λ q w. w.closed)

@@ -1,0 +1,6 @@
+use Rattle.deadpool_replay.proofs.Words.{may, HasFewIdle}
+use Rattle.deadpool_replay.proofs.RunsWell.{each_state}
+use Rattle.deadpool_replay.proofs.laws.idle_within_limit.Goals as goal
+
+pub returns : goal.returns
+returns g c = λ manager. each_state (may g.M.Manager g.F.SyncHook g.A.AsyncHook manager) HasFewIdle (λ q w. w.few_idle)

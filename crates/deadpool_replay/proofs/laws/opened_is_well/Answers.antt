@@ -1,0 +1,5 @@
+use Rattle.deadpool_replay.proofs.Well.{opened_well}
+use Rattle.deadpool_replay.proofs.laws.opened_is_well.Goals as goal
+
+pub returns : goal.returns
+returns g c = opened_well

@@ -1,0 +1,7 @@
+use Rattle.deadpool_replay.proofs.Words.{may, IsListedOnce}
+use Rattle.deadpool_replay.proofs.OneList.{listed_once}
+use Rattle.deadpool_replay.proofs.RunsWell.{each_state}
+use Rattle.deadpool_replay.proofs.laws.party_in_one_list.Goals as goal
+
+pub returns : goal.returns
+returns g c = λ manager. each_state (may g.M.Manager g.F.SyncHook g.A.AsyncHook manager) IsListedOnce (λ q w. listed_once q w.lawful)

@@ -1,0 +1,6 @@
+use Rattle.deadpool_replay.proofs.Words.{may, MarksQueued}
+use Rattle.deadpool_replay.proofs.RunsWell.{each_state}
+use Rattle.deadpool_replay.proofs.laws.queue_has_the_queued.Goals as goal
+
+pub returns : goal.returns
+returns g c = λ manager. each_state (may g.M.Manager g.F.SyncHook g.A.AsyncHook manager) MarksQueued (λ q w. w.lawful.marks)

@@ -1,0 +1,6 @@
+use Rattle.deadpool_replay.proofs.Words.{may, KeepsQueue}
+use Rattle.deadpool_replay.proofs.RunsWell.{each_step}
+use Rattle.deadpool_replay.proofs.laws.queue_keeps_order.Goals as goal
+
+pub returns : goal.returns
+returns g c = λ manager. each_step (may g.M.Manager g.F.SyncHook g.A.AsyncHook manager) KeepsQueue (λ q r s. s.0.queued)

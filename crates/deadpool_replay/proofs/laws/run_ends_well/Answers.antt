@@ -1,0 +1,6 @@
+use Rattle.deadpool_replay.proofs.Words.{may}
+use Rattle.deadpool_replay.proofs.RunsWell.{ends_well}
+use Rattle.deadpool_replay.proofs.laws.run_ends_well.Goals as goal
+
+pub returns : goal.returns
+returns g c = λ manager. ends_well (may g.M.Manager g.F.SyncHook g.A.AsyncHook manager)

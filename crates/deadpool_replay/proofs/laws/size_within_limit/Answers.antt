@@ -1,0 +1,6 @@
+use Rattle.deadpool_replay.proofs.Words.{may}
+use Rattle.deadpool_replay.proofs.RunsWell.{stays_within}
+use Rattle.deadpool_replay.proofs.laws.size_within_limit.Goals as goal
+
+pub returns : goal.returns
+returns g c = λ manager. stays_within (may g.M.Manager g.F.SyncHook g.A.AsyncHook manager)

@@ -1,0 +1,26 @@
+use Rattle.deadpool_replay.proofs.Basics.{refl}
+use Rattle.deadpool_replay.proofs.Words.{may}
+use Rattle.deadpool_replay.specs.declared.moves.Move.TheVariants as move
+use Rattle.deadpool_replay.proofs.TrialSteps.{leads_to_well, no_handle, some_handle}
+use Rattle.deadpool_replay.proofs.OwnerSteps.{closed_all}
+use Rattle.deadpool_replay.proofs.Fixed.{fixed_as}
+use Rattle.deadpool_replay.proofs.trial.Trial.close.Goals as goal
+
+pub returns-then-not-has_handle-clause-made : goal.returns-then-not-has_handle-clause-made
+returns-then-not-has_handle-clause-made g c =
+    let none = no_handle c.has_handle.result c.self.inside.core.desk.handles c.has_handle.ensures c.if-not-has_handle.true in
+    rw (← c.self.view_is) (rw none refl)
+
+pub invariant_of-self : goal.invariant_of-self
+invariant_of-self g c =
+    let f = c.self.inside in
+    let some = some_handle c.has_handle.result f.core.desk.handles c.has_handle.ensures c.if-not-has_handle.false in
+    let all = closed_all (may g.M.Manager g.F.SyncHook g.A.AsyncHook f.environment.manager) (λ found. tt) (fixed_as f.environment.runtime f.environment.hooks f.timeouts f.first f.most_parties) f.core.desk c.close.new.self.desk f.parties.items f.out.items c.self.invariant.counted some c.close.ensures.0 in
+    record { counted = all.1; well = leads_to_well g.M.Manager g.F.SyncHook g.A.AsyncHook f.environment.manager move.Close _ _ _ c.self.invariant.well all.0; parties = c.self.invariant.parties; seats = c.self.invariant.seats; hands = c.self.invariant.hands }
+
+pub returns-clause-made : goal.returns-clause-made
+returns-clause-made g c =
+    let f = c.self.inside in
+    let some = some_handle c.has_handle.result f.core.desk.handles c.has_handle.ensures c.if-not-has_handle.false in
+    let all = closed_all (may g.M.Manager g.F.SyncHook g.A.AsyncHook f.environment.manager) (λ found. tt) (fixed_as f.environment.runtime f.environment.hooks f.timeouts f.first f.most_parties) f.core.desk c.close.new.self.desk f.parties.items f.out.items c.self.invariant.counted some c.close.ensures.0 in
+    rw (← c.self.view_is) all.0

@@ -1,0 +1,58 @@
+use Rattle.deadpool_replay.proofs.Basics.{rules, ◌≡◌, [], ◌∷◌, length, vec_len, arith, refl, subst, ◌∙◌, append_assoc, append-nil, into_iter_items, into_iter_len, none_left, one_less}
+use Rattle.deadpool_replay.proofs.Words.{NobodyWaits, WithinReach, IsWell, may, Makes}
+use Rattle.deadpool_replay.proofs.Runs.{runs_more, runs_end}
+use Rattle.deadpool_replay.proofs.RunsWell.{each_state, each_step}
+use Rattle.deadpool_replay.proofs.trial.Trial.run.Goals as goal
+
+pub loop-first-init : goal.loop-first-init
+loop-first-init g c =
+    let len : vec_len c.args.moves ≡ length c.args.moves.items = search rules in
+    let gives = c.into_iter-first-iterator.ensures.into_iter_gives in
+    record {
+      manager = refl;
+      kept = λ fact h. h;
+      left = rw (gives.0, gives.1) len;
+      room = omega (arith, gives.1, c.in-Ok.ensures.len, c.in-Ok.ensures.capacity, c.len.ensures);
+      goes = λ passed answers after rest. rw (c.in-Ok.ensures.items) (passed, rw gives.0 at rest);
+    }
+
+pub append-requires : goal.append-requires
+append-requires g c = let steps = c.in-Some.ensures.steps in omega (arith, c.loop-first.invariant.room, steps.1)
+
+pub loop-first-preserved : goal.loop-first-preserved
+loop-first-preserved g c =
+    let l = c.loop-first in
+    let made = c.make-reply.ensures.made in
+    let steps = c.in-Some.ensures.steps in
+    let by : g.row.M.Denot → Type 0 = λ manager. Makes (may g.M.Manager g.F.SyncHook g.A.AsyncHook manager) l.self.pool c.in-Some.first made.0 c.make-reply.result in
+    record {
+      manager = c.make-reply.ensures.manager ∙ l.invariant.manager;
+      kept = λ fact h. c.make-reply.ensures.kept fact (l.invariant.kept fact h);
+      left = one_less (into_iter_items l.first-iterator) (into_iter_items c.next.new.self) c.in-Some.first _ _ l.invariant.left steps.0 steps.1;
+      room = omega (arith, l.invariant.room, steps.1, c.append.ensures.len, c.append.ensures.capacity);
+      goes = λ passed answers after rest.
+          rw (c.append.ensures.items, append_assoc)
+          (l.invariant.goes (made.0 ∷ passed) (c.make-reply.result ∷ answers) after
+          (runs_more (may g.M.Manager g.F.SyncHook g.A.AsyncHook c.args.self.now.manager) l.self.pool c.make-reply.new.self.pool after c.in-Some.first (into_iter_items c.next.new.self) (into_iter_items l.first-iterator)
+          c.make-reply.result answers made.0 passed steps.0 (subst by l.invariant.manager made.1) made.2 rest));
+    }
+
+pub returns-clause-run : goal.returns-clause-run
+returns-clause-run g c =
+    let l = c.loop-first in
+    let steps = c.in-None.ensures.steps in
+    let ended : into_iter_items l.first-iterator ≡ [] = none_left (into_iter_items l.first-iterator) (into_iter_len l.first-iterator) l.invariant.left steps.0 in
+    let ran = rw append-nil at (l.invariant.goes [] [] l.self.pool (runs_end (may g.M.Manager g.F.SyncHook g.A.AsyncHook c.args.self.now.manager) l.self.pool (into_iter_items l.first-iterator) ended)) in
+    let well : IsWell c.args.self.now.pool = rw (← c.self.view_is) c.self.invariant.well in
+    let may_answer = may g.M.Manager g.F.SyncHook g.A.AsyncHook c.args.self.now.manager in (
+      ran.0,
+      ran.1,
+      each_state may_answer NobodyWaits (λ q w. w.lawful.nobody_waits) c.args.moves.items c.args.self.now.pool l.self.pool ran.0 l.replies.items well ran.1,
+      each_step may_answer WithinReach (λ q r s. s.1) c.args.moves.items c.args.self.now.pool l.self.pool ran.0 l.replies.items well ran.1,
+    )
+
+pub returns-clause-manager : goal.returns-clause-manager
+returns-clause-manager g c = c.loop-first.invariant.manager
+
+pub returns-clause-kept : goal.returns-clause-kept
+returns-clause-kept g c = c.loop-first.invariant.kept

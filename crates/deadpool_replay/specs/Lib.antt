@@ -1,0 +1,22 @@
+-- Runs over a managed pool. In the order in which it can be read.
+
+-- The list machine: a pool in lists, its steps, what a party does, the moves, and what is true of each run.
+pub mod Pool
+pub mod Steps
+pub mod Party
+pub mod Moves
+pub mod Rank
+pub mod Laws
+pub mod RunLaws
+-- What a trial shows of it.
+pub mod Replay
+-- Scripts that it was checked with: each equation computes.
+pub mod Script
+pub mod ScriptsFirstPath
+pub mod ScriptsPreparation
+pub mod ScriptsTimeouts
+pub mod ScriptsOwnSteps
+pub mod ScriptsMinIdle
+-- How the fields of a trial are seen as the machine. No contract of another crate cites them.
+pub mod TrialFields
+pub mod Image

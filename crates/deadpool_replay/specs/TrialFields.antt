@@ -1,0 +1,79 @@
+-- What a trial makes of a turn, and of an object that comes back.
+use Rattle.std.specs.Prelude.{◌≡◌, true, false, List, Option, Some, None, Ok, Err, ⊤}
+use Rattle.deadpool_parts.specs.declared.moment.Moment.{Moment}
+use Rattle.deadpool_parts.specs.declared.moment.Runtime.{Runtime}
+use Rattle.deadpool_managed.specs.HookLists.{HookLists}
+use Rattle.deadpool_managed.specs.Stages.{Getting}
+use Rattle.deadpool_managed.specs.Get.{Made, Makes, AdvancesFrom}
+use Rattle.deadpool_desk.specs.declared.desk.Desk.{Ghosts as DeskOf}
+use Rattle.deadpool_parts.specs.Program.{Return, ask, ◌>>=◌}
+use Rattle.deadpool_managed.specs.Outside.{Asking, May, Detach}
+use Rattle.deadpool_replay.specs.Steps.{with_slot}
+use Rattle.deadpool_desk.specs.declared.slot.Slot.{Slot}
+use Rattle.deadpool_managed.specs.declared.get.Turn.{Turn}
+use Rattle.deadpool_managed.specs.declared.get.Turn.TheVariants.{More, Pending, Done}
+use Rattle.deadpool_parts.specs.declared.replies.HandleReply.{HandleReply}
+use Rattle.deadpool_parts.specs.declared.replies.HandleReply.TheVariants as handle
+use Rattle.deadpool_desk.specs.declared.desk.TakeReply.{TakeReply}
+use Rattle.deadpool_desk.specs.declared.desk.TakeReply.TheVariants as taking
+use Rattle.deadpool_desk.specs.declared.desk.BackReply.{BackReply}
+use Rattle.deadpool_desk.specs.declared.desk.BackReply.TheVariants as back
+use Rattle.deadpool_replay.specs.declared.moves.Reply.{Reply}
+use Rattle.deadpool_replay.specs.declared.moves.Reply.TheVariants as reply
+
+module _ {V E : Type 0} where
+  -- the objects out, with the one that a turn gives
+  abbrev pub given : Turn V E → List (Slot V) → List (Slot V)
+  given (Done (Ok slot)) out = with_slot slot out
+  given (Done (Err cause)) out = out
+  given More out = out
+  given Pending out = out
+
+  abbrev pub reply_to : Turn V E → Reply V E
+  reply_to More = reply.More
+  reply_to Pending = reply.Pending
+  reply_to (Done (Ok slot)) = reply.Object slot.number
+  reply_to (Done (Err cause)) = reply.Failed cause
+
+module _ {V : Type 0} where
+  -- the pool knew of the object
+  abbrev pub IsTaken : BackReply (Slot V) → Type 0
+  IsTaken (back.Unknown slot) = ⊥
+  IsTaken _ = ⊤
+
+module _ {V E C R S F A : Type 0} where
+  -- one that is given up is detached
+  abbrev pub reply_to_back : BackReply (Slot V) → Asking V E C R S F A (Reply V E)
+  reply_to_back back.Kept = Return reply.Kept
+  reply_to_back (back.Dropped slot) = Return reply.Dropped
+  reply_to_back (back.Detach slot) = ask (Detach slot.value) >>= λ left. Return reply.Detached
+  reply_to_back (back.Unknown slot) = Return reply.NoSuch
+
+module _ {V E C R S F A : Type 0} where
+  -- an object that has left the pool is detached while the pool has a handle
+  abbrev pub reply_to_take : V → TakeReply → Asking V E C R S F A (Reply V E)
+  reply_to_take value (taking.Taken true) = ask (Detach value) >>= λ left. Return (reply.Taken left)
+  reply_to_take value (taking.Taken false) = Return (reply.Taken value)
+  reply_to_take value taking.Unknown = Return reply.NoSuch
+
+-- a step that needs a handle is done, or there is none
+abbrev pub reply_to_handle : {V E : Type 0} → HandleReply → Reply V E
+reply_to_handle handle.Done = reply.Done
+reply_to_handle handle.NoHandle = reply.NoHandle
+
+-- one advance of a get by its two states: what it made of the desk, and its turn
+pub record AdvancedGet {D V E C R S F A : Type 0} (d : DeskOf D V) (may : May V E C R S F A) (runtime : Option Runtime) (hooks : HookLists F A) (now : Moment)
+    (g : Getting V C R S) (desk : D) (get' : Option (Getting V C R S)) (desk' : D) (turn : Option (Turn V E)) : Type 0 where
+  pub after : Getting V C R S
+  pub came_to : Turn V E
+  pub made : Made V
+  pub makes : Makes d desk made desk'
+  pub advances : AdvancesFrom may runtime hooks now g.timeouts g.stage made after.stage came_to
+  pub timeouts : after.timeouts ≡ g.timeouts
+  pub get_is : get' ≡ Some after
+  pub turn_is : turn ≡ Some came_to
+
+-- an advance of a get that was cancelled changes nothing
+abbrev pub AdvancesGet : {D V E C R S F A : Type 0} → DeskOf D V → May V E C R S F A → Option Runtime → HookLists F A → Moment → Option (Getting V C R S) → D → Option (Getting V C R S) → D → Option (Turn V E) → Type 0
+AdvancesGet d may runtime hooks now None desk get' desk' turn = (get' ≡ None) × (desk' ≡ desk) × (turn ≡ None)
+AdvancesGet d may runtime hooks now (Some g) desk get' desk' turn = AdvancedGet d may runtime hooks now g desk get' desk' turn
