@@ -1,4 +1,5 @@
 //! What a future that borrows its pool does, beside one that is a handle.
+mod drops;
 mod managed;
 mod threads;
 mod unmanaged;
