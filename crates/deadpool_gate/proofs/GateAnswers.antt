@@ -5,7 +5,7 @@ use Rattle.std.proofs.lemmas.Bool.{cases_Bool, ltb-false, or_left, or_right}
 use Rattle.deadpool_gate.specs.declared.gate.Ask.TheVariants as ask
 use Rattle.deadpool_gate.specs.declared.gate.Entry.TheVariants as entry
 use Rattle.deadpool_gate.specs.declared.gate.Withdrawn.TheVariants as withdrawn
-use Rattle.deadpool_gate.specs.Gate.{Waiter, arrived, find_waiter, without_waiter, granted_tickets, waiting_tickets, grant_count, entry_at_once, Joins, answer_of, asked, standing_of, IsLine}
+use Rattle.deadpool_gate.specs.Gate.{Waiter, arrived, find_waiter, without_waiter, granted_tickets, waiting_tickets, grant_count, entry_at_once, Joins, answer_of, asked, withdrawn_as, IsLine}
 use Rattle.deadpool_gate.specs.Numbers.{has_number}
 use Rattle.deadpool_gate.proofs.GateListed.{find_none-head, find_none-tail}
 use Rattle.deadpool_gate.proofs.GateTickets.{has_number_unlisted, has_number_granted, has_number_waiting, waiting_count-length}
@@ -104,7 +104,7 @@ module _ (c : Bool) (t : ℕ) (ws : List Waiter) (line : IsLine c ws) where
       by_cases (Some w) is = absurd (told_something c w.granted (rw is at answer))
 
   -- one that withdraws and is unknown is in no list, and nothing changes
-  pub withdrawn-unknown : withdrawn.Unknown ≡ standing_of (find_waiter t ws) → (has_ticket t ws ≡ false) × (without_waiter t ws ≡ ws)
+  pub withdrawn-unknown : withdrawn.Unknown ≡ withdrawn_as (find_waiter t ws) → (has_ticket t ws ≡ false) × (without_waiter t ws ≡ ws)
   withdrawn-unknown answer = by_cases (find_waiter t ws) refl
     where
       by_cases : (o : Option Waiter) → find_waiter t ws ≡ o → (has_ticket t ws ≡ false) × (without_waiter t ws ≡ ws)
@@ -112,7 +112,7 @@ module _ (c : Bool) (t : ℕ) (ws : List Waiter) (line : IsLine c ws) where
       by_cases (Some w) is = absurd (was_something w.granted (rw is at answer))
 
   -- any other is in one of the lists
-  pub withdrawn-known : standing_of (find_waiter t ws) ≢ withdrawn.Unknown → has_ticket t ws ≡ true
+  pub withdrawn-known : withdrawn_as (find_waiter t ws) ≢ withdrawn.Unknown → has_ticket t ws ≡ true
   withdrawn-known answer = by_cases (find_waiter t ws) refl
     where
       by_cases : (o : Option Waiter) → find_waiter t ws ≡ o → has_ticket t ws ≡ true

@@ -103,9 +103,9 @@ asked is_closed ticket ws =
     if option_map_or (λ w. w.granted || is_closed) (find_waiter ticket ws) false then without_waiter ticket ws else ws
 
 -- what a waiter that withdraws was, given what its ticket finds
-abbrev pub standing_of : Option Waiter → Withdrawn
-standing_of None = withdrawn.Unknown
-standing_of (Some w) = if w.granted then withdrawn.Granted else withdrawn.Waiting
+abbrev pub withdrawn_as : Option Waiter → Withdrawn
+withdrawn_as None = withdrawn.Unknown
+withdrawn_as (Some w) = if w.granted then withdrawn.Granted else withdrawn.Waiting
 
 -- the wait of this waiter has ended, and it was not told so
 abbrev pub is_due : Bool → Waiter → Bool

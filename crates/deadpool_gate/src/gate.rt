@@ -2,7 +2,7 @@
 
 ghost use Rattle.std.specs.Prelude.{◌≡◌, ℕ, ◌<◌, ◌≤◌, ◌^◌, ◌*◌, ◌++◌, [], true, false, not, IfSome, IfNone, is_some, length, take, drop};
 ghost use Rattle.std.specs.Option.{option_map};
-ghost use Rattle.deadpool_gate.specs.Gate.{find_waiter, without_waiter, grant_next, grant, granted_count, waiting_count, granted_tickets, waiting_tickets, untold_tickets, grant_count, entry_at_once, Joins, answer_of, asked, standing_of, tell_next, due_ticket, RisesAtMost, touched, IsLine};
+ghost use Rattle.deadpool_gate.specs.Gate.{find_waiter, without_waiter, grant_next, grant, granted_count, waiting_count, granted_tickets, waiting_tickets, untold_tickets, grant_count, entry_at_once, Joins, answer_of, asked, withdrawn_as, tell_next, due_ticket, RisesAtMost, touched, IsLine};
 ghost use Rattle.deadpool_gate.specs.GateLinks.{moved_on, ChangesAt};
 ghost use Rattle.deadpool_gate.specs.GateNodes.{changed};
 ghost use Rattle.deadpool_gate.specs.Waking.{next_due, still_untold};
@@ -312,7 +312,7 @@ impl Gate {
     /// Takes a waiter out of the list, be the gate open or closed, and says what it was. The others keep their order, and
     /// a place that it had is free. `Unknown` changes nothing.
     pub fn withdraw(&mut self, ticket: Ticket) -> Withdrawn
-        ensures answer { result ≡ standing_of (find_waiter ticket self.old.waiters) }
+        ensures answer { result ≡ withdrawn_as (find_waiter ticket self.old.waiters) }
         ensures waiters { self.new.waiters ≡ without_waiter ticket self.old.waiters }
         ensures closed { self.new.is_closed ≡ self.old.is_closed }
         ensures line { IsLine self.old.is_closed self.old.waiters }

@@ -21,7 +21,7 @@ use Rattle.deadpool_journal.specs.ByNumber.{numbered}
 use Rattle.deadpool_journal.specs.LogState.{noted}
 use Rattle.deadpool_journal.specs.Journaling.{Journaling, opening}
 use Rattle.deadpool_journal.specs.Kept.{IsKept}
-use Rattle.deadpool_journal.specs.Replay.{Makes, after, after_serving, replayed, AreSteps}
+use Rattle.deadpool_journal.specs.Replay.{IsStep, after, after_serving, replayed, AreSteps}
 use Rattle.deadpool_journal.specs.declared.entry.Entry.{Entry}
 use Rattle.deadpool_journal.specs.declared.entry.Entry.TheVariants as entry
 
@@ -32,7 +32,7 @@ serves_after d d' allowance serving.Create h = h.2
 serves_after d d' allowance serving.Exhausted h = h.2
 
 -- the state that an entry leaves
-makes_after : (d d' : DeskState ℕ) (e : Entry) → Makes d e d' → d' ≡ after d e
+makes_after : (d d' : DeskState ℕ) (e : Entry) → IsStep d e d' → d' ≡ after d e
 makes_after d d' (entry.Enter wait enter.Closed) h = h.1
 makes_after d d' (entry.Enter wait (enter.Served by)) h = serves_after d d' None by h.2
 makes_after d d' (entry.Enter wait enter.Full) h = h.3
@@ -85,7 +85,7 @@ replayed-snoc : (d : DeskState ℕ) (es : List Entry) (e : Entry) → replayed d
 replayed-snoc d [] e = refl
 replayed-snoc d (x ∷ es) e = replayed-snoc (after d x) es e
 
-AreSteps-snoc : (d : DeskState ℕ) (es : List Entry) (e : Entry) → AreSteps d es → Makes (replayed d es) e (after (replayed d es) e) → AreSteps d (es ++ e ∷ [])
+AreSteps-snoc : (d : DeskState ℕ) (es : List Entry) (e : Entry) → AreSteps d es → IsStep (replayed d es) e (after (replayed d es) e) → AreSteps d (es ++ e ∷ [])
 AreSteps-snoc d [] e are makes = (makes, tt)
 AreSteps-snoc d (x ∷ es) e are makes = (are.0, AreSteps-snoc (after d x) es e are.1 makes)
 
@@ -95,7 +95,7 @@ module _ {T : Type 0} where
   stepped j core e = record j { core = core; log = noted e j.log }
 
   -- there is room for the entry
-  step_noted : (j : Journaling T) (core : CoreState T) (e : Entry) → IsKept j → Makes (numbered j.core.desk) e (numbered core.desk) → length j.log.entries < j.log.most
+  step_noted : (j : Journaling T) (core : CoreState T) (e : Entry) → IsKept j → IsStep (numbered j.core.desk) e (numbered core.desk) → length j.log.entries < j.log.most
       → IsKept (record j { core = core; log = record j.log { entries = j.log.entries ++ e ∷ [] } })
   step_noted j core e kept makes free =
       let not_full : j.log.is_full ≡ false =
@@ -105,7 +105,7 @@ module _ {T : Type 0} where
       ] in
       let was = kept.replays not_full in
       let now = makes_after (numbered j.core.desk) (numbered core.desk) e makes in
-      let here : Makes (replayed (opening j) j.log.entries) e (after (replayed (opening j) j.log.entries) e) = rw (was, ← now) makes in
+      let here : IsStep (replayed (opening j) j.log.entries) e (after (replayed (opening j) j.log.entries) e) = rw (was, ← now) makes in
       let longer = length-append j.log.entries (e ∷ []) in
       record {
         steps = AreSteps-snoc (opening j) j.log.entries e kept.steps here;
@@ -115,7 +115,7 @@ module _ {T : Type 0} where
       }
 
   -- or there is none
-  pub step_full : (j : Journaling T) (core : CoreState T) (e : Entry) → IsKept j → Makes (numbered j.core.desk) e (numbered core.desk)
+  pub step_full : (j : Journaling T) (core : CoreState T) (e : Entry) → IsKept j → IsStep (numbered j.core.desk) e (numbered core.desk)
       → j.log.most ≤ length j.log.entries → IsKept (record j { core = core; log = record j.log { is_full = true } })
   step_full j core e kept makes none = record {
     steps = kept.steps;
@@ -124,7 +124,7 @@ module _ {T : Type 0} where
     full = λ is_full. let within = kept.within in omega (arith, none, within);
   }
 
-  pub step_kept : (j : Journaling T) (core : CoreState T) (e : Entry) → IsKept j → Makes (numbered j.core.desk) e (numbered core.desk) → IsKept (stepped j core e)
+  pub step_kept : (j : Journaling T) (core : CoreState T) (e : Entry) → IsKept j → IsStep (numbered j.core.desk) e (numbered core.desk) → IsKept (stepped j core e)
   step_kept j core e kept makes =
       elim (cases_Bool (nat_lt (length j.log.entries) j.log.most)) [
         | inl room ↦ rw room (step_noted j core e kept makes (ltb-true (length j.log.entries) j.log.most room))

@@ -17,7 +17,7 @@ use Rattle.deadpool_journal.specs.ByNumber.{number_of, numbered}
 use Rattle.deadpool_journal.specs.Journaling.{Journaling}
 use Rattle.deadpool_journal.specs.Kept.{IsKept}
 use Rattle.deadpool_journal.specs.Removals.{remaining, StandIn}
-use Rattle.deadpool_journal.specs.Replay.{Makes}
+use Rattle.deadpool_journal.specs.Replay.{IsStep}
 use Rattle.deadpool_journal.specs.Steps.{NotesRetain}
 use Rattle.deadpool_journal.specs.declared.entry.Entry.TheVariants as entry
 use Rattle.deadpool_journal.proofs.ByNumber.{some_numbered}
@@ -90,13 +90,13 @@ module _ {T R : Type 0} (asks : RetainerOf R T) where
       let all = reviews_noted (least_idle d.limit d) (length d.idle) 0 d.idle r h.0 given.removed r' h.1 in (all.0, (h.0, all.1, h.2, h.3))
 
   pub retain_numbered : (d d' : DeskState (Slot T)) (r r' : R) (given : Retained T × List Removal) → RetainsNoting asks d r (Ok given) d' r'
-      → Makes (numbered d) (entry.Retain (Ok given.1)) (numbered d')
+      → IsStep (numbered d) (entry.Retain (Ok given.1)) (numbered d')
   retain_numbered d d' r r' given h =
       let all = stands (least_idle d.limit d) (length d.idle) 0 d.idle r h.0 given.0.removed given.1 r' h.1 in
       let few = noted_few (least_idle d.limit d) (length d.idle) 0 d.idle r h.0 given.0.removed given.1 r' h.1 in
       (all.0, rw (length-map d.idle (number_of {T = T})) few, ap numbered h.3 ∙ ap (λ (i : List ℕ). record (numbered d) { idle = i }) all.1)
 
-  pub refused_retain_numbered : (d d' : DeskState (Slot T)) (r r' : R) (e : AllocError) → RetainsNoting asks d r (Err e) d' r' → Makes (numbered d) (entry.Retain (Err e)) (numbered d')
+  pub refused_retain_numbered : (d d' : DeskState (Slot T)) (r r' : R) (e : AllocError) → RetainsNoting asks d r (Err e) d' r' → IsStep (numbered d) (entry.Retain (Err e)) (numbered d')
   refused_retain_numbered d d' r r' e h = (some_numbered d.idle h.0, ap numbered h.1)
 
   -- If there is no room for the entry only the mark is set, and what the retain gave up could have been noted.

@@ -19,27 +19,27 @@ use Rattle.deadpool_journal.specs.declared.entry.Entry.{Entry}
 use Rattle.deadpool_journal.specs.declared.entry.Entry.TheVariants.{Enter, Ask, Again, Discard, Created, Failed, Refused, Back, Cancel, Status, Take, Resize, Retain, Close, CloneHandle, DropHandle, Upgrade}
 
 -- the entry is a step of the desk machine, with the reply that it has there
-abbrev pub Makes : DeskState ℕ → Entry → DeskState ℕ → Type 0
-Makes d (Enter wait reply) d' = Enters d wait reply d'
-Makes d (Ask ticket expired reply) d' = Asks d ticket expired reply d'
-Makes d (Again allowance reply) d' = AsksAgain d allowance reply d'
-Makes d (Discard reply) d' = Discards d reply d'
-Makes d (Created reply) d' = Creates d reply d'
-Makes d (Failed reply) d' = Fails d reply d'
-Makes d (Refused reply) d' = Refuses d reply d'
-Makes d (Back number reply) d' = TakesBack d number reply d'
-Makes d (Cancel what reply) d' = Cancels d what reply d'
-Makes d (Status status) d' = Stands d status d'
-Makes d (Take reply) d' = Takes d reply d'
-Makes d (Resize limit reply) d' = Resizes d limit reply d'
-Makes d (Retain (Ok removed)) d' =
+abbrev pub IsStep : DeskState ℕ → Entry → DeskState ℕ → Type 0
+IsStep d (Enter wait reply) d' = Enters d wait reply d'
+IsStep d (Ask ticket expired reply) d' = Asks d ticket expired reply d'
+IsStep d (Again allowance reply) d' = AsksAgain d allowance reply d'
+IsStep d (Discard reply) d' = Discards d reply d'
+IsStep d (Created reply) d' = Creates d reply d'
+IsStep d (Failed reply) d' = Fails d reply d'
+IsStep d (Refused reply) d' = Refuses d reply d'
+IsStep d (Back number reply) d' = TakesBack d number reply d'
+IsStep d (Cancel what reply) d' = Cancels d what reply d'
+IsStep d (Status status) d' = Stands d status d'
+IsStep d (Take reply) d' = Takes d reply d'
+IsStep d (Resize limit reply) d' = Resizes d limit reply d'
+IsStep d (Retain (Ok removed)) d' =
     StandIn 0 removed d.idle × (length removed ≤ length d.idle - least_idle d.limit d)
     × (d' ≡ record d { idle = remaining 0 removed d.idle })
-Makes d (Retain (Err refused)) d' = (d.idle ≢ []) × (d' ≡ d)
-Makes d Close d' = Closes d d'
-Makes d (CloneHandle reply) d' = Clones d reply d'
-Makes d (DropHandle reply) d' = DropsHandle d reply d'
-Makes d (Upgrade is_left) d' = Upgrades d is_left d'
+IsStep d (Retain (Err refused)) d' = (d.idle ≢ []) × (d' ≡ d)
+IsStep d Close d' = Closes d d'
+IsStep d (CloneHandle reply) d' = Clones d reply d'
+IsStep d (DropHandle reply) d' = DropsHandle d reply d'
+IsStep d (Upgrade is_left) d' = Upgrades d is_left d'
 
 -- a get is served, whose place is in no count
 abbrev pub after_serving : DeskState ℕ → Serving ℕ → DeskState ℕ
@@ -102,4 +102,4 @@ replayed d (e ∷ es) = replayed (after d e) es
 -- each entry is a step of the desk machine at its point, with the reply that it has there
 abbrev pub AreSteps : DeskState ℕ → List Entry → Type 0
 AreSteps d [] = ⊤
-AreSteps d (e ∷ es) = Makes d e (after d e) × AreSteps (after d e) es
+AreSteps d (e ∷ es) = IsStep d e (after d e) × AreSteps (after d e) es

@@ -1,6 +1,6 @@
 -- Advances of a get with a creation under way, with an object, or that has ended.
 use Rattle.deadpool_replay.proofs.Basics.{◌≡◌, ℕ, ◌+◌, ◌-◌, ◌≤◌, List, false, set, refl, ap, ◌∙◌, arith, inl, inr, Option, Some, None, Result, Ok, Err, slice_get, cond-true, cond-false, Return, ◌>>=◌, Gives, Gives-bind, set-same, owned-set, length-with_numbered, length}
-use Rattle.deadpool_replay.proofs.Words.{Poll, deadline_after, is_reached, lacks_runtime, Moment, Timeouts, PoolError, Timeout, Backend, NoRuntimeSpecified, PostCreateHook, start, new_metrics, DeskState, settled, Fails, Getting, May, create, prepare, check, with_value, Made, no_step, discarding, by_creation as creating, failing, refusing, DeskMakes as Makes, AfterCreation, AfterPrepared, AfterChecked, AdvancesCreation, ended_by, Pool, fail, rest, go_on, with_slot, slot_number, created, reviewed, checked, hand_out, advance_at, party_of, standing_of, IsCounted, has_ticket, queue_of, given, reply_to, Slot, Position, Verdict, Preparation, Prepared, Stage, Turn, StepReply, Reply, core_desk}
+use Rattle.deadpool_replay.proofs.Words.{Poll, deadline_after, is_reached, lacks_runtime, Moment, Timeouts, PoolError, Timeout, Backend, NoRuntimeSpecified, PostCreateHook, start, new_metrics, DeskState, settled, Fails, Getting, May, create, prepare, check, with_value, Made, no_step, discarding, by_creation as creating, failing, refusing, Makes, AfterCreation, AfterPrepared, AfterChecked, AdvancesCreation, ended_by, Pool, fail, rest, go_on, with_slot, slot_number, created, reviewed, checked, hand_out, advance_at, party_of, standing_of, IsCounted, has_ticket, queue_of, given, reply_to, Slot, Position, Verdict, Preparation, Prepared, Stage, Turn, StepReply, Reply, core_desk}
 use Rattle.futures.specs.declared.task.Poll.TheVariants as poll
 use Rattle.deadpool_parts.specs.declared.errors.TimeoutType.TheVariants as phase
 use Rattle.deadpool_managed.specs.declared.prepare.Verdict.TheVariants as verdict

@@ -1,6 +1,6 @@
 -- Runs, move by move: their states, and what each move keeps, which holds of every state and of each two neighbours.
 use Rattle.deadpool_replay.proofs.Basics.{◌≡◌, List, [], ◌∷◌, ◌++◌, refl, ap, last_of, all_states, Each, Neighbours, ℕ, false, subst, Gives, sym, Always, Later, Always-Gives}
-use Rattle.deadpool_replay.proofs.Words.{Moment, May, Pool, moved, Polls, is_more, Reply, Makes, PoolRuns, Move, rest, given}
+use Rattle.deadpool_replay.proofs.Words.{Moment, May, Pool, moved, Polls, is_more, Reply, MakesMove, PoolRuns, Move, rest, given}
 use Rattle.deadpool_replay.specs.declared.moves.Move.TheVariants as move
 use Rattle.deadpool_replay.specs.declared.moves.Reply.TheVariants as reply
 
@@ -56,7 +56,7 @@ module _ {V E C R S F A : Type 0} (may : May V E C R S F A) where
   -- one move, before the others of a run
   pub runs_more : (p q after : Pool V C R S F A) (first : Move V) (moves all : List (Move V)) (answer : Reply V E) (answers : List (Reply V E))
       (passed : List (Pool V C R S F A)) (rest : List (List (Pool V C R S F A)))
-      → all ≡ first ∷ moves → Makes may p first passed answer → q ≡ last_of p passed → PoolRuns may q moves rest answers after
+      → all ≡ first ∷ moves → MakesMove may p first passed answer → q ≡ last_of p passed → PoolRuns may q moves rest answers after
       → PoolRuns may p all (passed ∷ rest) (answer ∷ answers) after
   runs_more p q after first moves all answer answers passed rest e made last ran =
       subst (λ (ms : List (Move V)). PoolRuns may p ms (passed ∷ rest) (answer ∷ answers) after) (sym e)
@@ -124,18 +124,18 @@ module _ {V E C R S F A : Type 0} (may : May V E C R S F A) (IsMeant : Move V �
       rw e ((next.0, tt), (next.1, tt), next.0, (p, good, given))
 
   -- the states that one move passes: a poll by its advances, and each other move by its one state
-  makes_have : (m : Move V) (p : Pool V C R S F A) (passed : List (Pool V C R S F A)) (answer : Reply V E) → IsMeant m → Good p → Makes may p m passed answer → Passing m p passed answer
+  makes_have : (m : Move V) (p : Pool V C R S F A) (passed : List (Pool V C R S F A)) (answer : Reply V E) → IsMeant m → Good p → MakesMove may p m passed answer → Passing m p passed answer
   makes_have (move.Poll n now) p passed answer meant good ran = polls_have n now p passed answer (advances n now meant) good ran
   makes_have m p passed answer meant good ran = one_has m p ran.0 passed answer meant good ran.1 ran.2
 
   -- each two neighbours of them
-  pub makes_next : (m : Move V) (p : Pool V C R S F A) (passed : List (Pool V C R S F A)) (answer : Reply V E) → IsMeant m → Good p → Makes may p m passed answer → Neighbours Next (p ∷ passed)
+  pub makes_next : (m : Move V) (p : Pool V C R S F A) (passed : List (Pool V C R S F A)) (answer : Reply V E) → IsMeant m → Good p → MakesMove may p m passed answer → Neighbours Next (p ∷ passed)
   unfolding Passing
   makes_next m p passed answer meant good ran = (makes_have m p passed answer meant good ran).1
 
   -- and its reply, with the last of them
   pub makes_reply : (P : Move V → Reply V E → Pool V C R S F A → Type 0) → ((m : Move V) (p : Pool V C R S F A) → Good p → Always (λ (x : Reply V E × Pool V C R S F A). P m x.0 x.1) (moved m p))
-      → (m : Move V) (p : Pool V C R S F A) (passed : List (Pool V C R S F A)) (answer : Reply V E) → IsMeant m → Good p → Makes may p m passed answer → P m answer (last_of p passed)
+      → (m : Move V) (p : Pool V C R S F A) (passed : List (Pool V C R S F A)) (answer : Reply V E) → IsMeant m → Good p → MakesMove may p m passed answer → P m answer (last_of p passed)
   unfolding Passing
   makes_reply P always m p passed answer meant good ran =
       let end = (makes_have m p passed answer meant good ran).3 in

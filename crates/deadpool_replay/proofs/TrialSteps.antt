@@ -1,6 +1,6 @@
 -- What a step of a trial keeps: the counts, and the laws that each move keeps.
 use Rattle.deadpool_replay.proofs.Basics.{◌∙◌, option_map, slice_get-map, ◌≡◌, ℕ, ◌≤◌, List, Bool, true, false, nat_lt, ◌==◌, length, set, Option, Some, None, sym, ap, arith, slice_get, nat_tests, length-set_n as length-set, Gives, Always-Gives, set-same}
-use Rattle.deadpool_replay.proofs.Words.{party_of, by_party, cancel, advance, DeskMakes, Moment, Timeouts, may, DeskState, TakesBack, Getting, Made, CancelsFrom, Pool, find_slot, without_slot, moved, IsWell, IsCounted, AdvancesGet, given, reply_to, reply_to_back, Slot, ManagerOf, SyncHookOf, AsyncHookOf, Turn, BackReply, Move, Reply, CoreState, own_desk, makes_at_desk}
+use Rattle.deadpool_replay.proofs.Words.{party_of, by_party, cancel, advance, Makes, Moment, Timeouts, may, DeskState, TakesBack, Getting, Made, CancelsFrom, Pool, find_slot, without_slot, moved, IsWell, IsCounted, AdvancesGet, given, reply_to, reply_to_back, Slot, ManagerOf, SyncHookOf, AsyncHookOf, Turn, BackReply, Move, Reply, CoreState, own_desk, makes_at_desk}
 use Rattle.deadpool_replay.specs.declared.moves.Move.TheVariants as move
 use Rattle.deadpool_replay.specs.declared.moves.Reply.TheVariants as reply
 use Rattle.deadpool_replay.proofs.Simulation.{get_advanced}
@@ -59,7 +59,7 @@ module _ {M V E C R S F A : Type 0} (m : ManagerOf M V E C R) (f : SyncHookOf F 
     not_turned now (Some g) get' turn here x is = let some = x.turn_is in cc
 
     -- the party n is cancelled
-    pub cancelled : (g : Getting V C R S) (made : Made V) → slice_get gets n ≡ Some (Some g) → DeskMakes own_desk core made core' → CancelsFrom (may m f a manager) g.stage made
+    pub cancelled : (g : Getting V C R S) (made : Made V) → slice_get gets n ≡ Some (Some g) → Makes own_desk core made core' → CancelsFrom (may m f a manager) g.stage made
         → Gives (may m f a manager) (moved (move.Cancel n) (image_of fixed core.desk gets out)) (reply.Cancelled, image_of fixed core'.desk (set gets n None) out)
         × IsCounted core'.desk (set gets n None) out × IsWell (image_of fixed core'.desk (set gets n None) out)
     cancelled g made here makes gives_back =

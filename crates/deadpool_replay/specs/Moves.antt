@@ -130,13 +130,13 @@ module _ {V E C R S F A : Type 0} (may : May V E C R S F A) where
   Polls n now p (s ∷ t ∷ ss) answer = Gives may (moved (move.Advance n now) p) (reply.More, s) × Polls n now s (t ∷ ss) answer
 
   -- one move, with the states that it passes, and its reply
-  abbrev pub Makes : Pool V C R S F A → Move V → List (Pool V C R S F A) → Reply V E → Type 0
-  Makes p (move.Poll n now) passed answer = Polls n now p passed answer
-  Makes p m passed answer = (q : Pool V C R S F A) × (passed ≡ q ∷ []) × Gives may (moved m p) (answer, q)
+  abbrev pub MakesMove : Pool V C R S F A → Move V → List (Pool V C R S F A) → Reply V E → Type 0
+  MakesMove p (move.Poll n now) passed answer = Polls n now p passed answer
+  MakesMove p m passed answer = (q : Pool V C R S F A) × (passed ≡ q ∷ []) × Gives may (moved m p) (answer, q)
 
   -- a list of moves, with the states that each passes, the replies, and the state after them
   abbrev pub PoolRuns : Pool V C R S F A → List (Move V) → List (List (Pool V C R S F A)) → List (Reply V E) → Pool V C R S F A → Type 0
-  PoolRuns = Runs Makes
+  PoolRuns = Runs MakesMove
 
 module _ {V C R S F A : Type 0} where
   -- nobody waits while a place is free

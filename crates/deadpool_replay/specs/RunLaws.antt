@@ -11,7 +11,7 @@ use Rattle.deadpool_managed.specs.HookLists.{HookLists}
 use Rattle.deadpool_managed.specs.Outside.{May}
 use Rattle.deadpool_replay.specs.Pool.{Pool, Party, opened, is_going, is_creating, prepared_by, preparing, size, least_idle, reach}
 use Rattle.deadpool_replay.specs.Steps.{given_up}
-use Rattle.deadpool_replay.specs.Moves.{Makes, PoolRuns}
+use Rattle.deadpool_replay.specs.Moves.{MakesMove, PoolRuns}
 use Rattle.deadpool_replay.specs.Laws.{IsLawful, queue}
 use Rattle.deadpool_desk.specs.declared.slot.Slot.{Slot}
 use Rattle.deadpool_replay.specs.declared.moves.Move.{Move}
@@ -196,11 +196,11 @@ module _ {V E C R S F A : Type 0} (may : May V E C R S F A) where
 
   -- P holds of each two neighbours among a state that is well and those that one move passes from it
   abbrev pub EachMove : (Move V → Pool V C R S F A → Pool V C R S F A → Type 0) → Type 0
-  EachMove P = (m : Move V) (p : Pool V C R S F A) (passed : List (Pool V C R S F A)) (answer : Reply V E) → IsWell p → Makes may p m passed answer → Neighbours (P m) (p ∷ passed)
+  EachMove P = (m : Move V) (p : Pool V C R S F A) (passed : List (Pool V C R S F A)) (answer : Reply V E) → IsWell p → MakesMove may p m passed answer → Neighbours (P m) (p ∷ passed)
 
   -- P holds of each move, its reply and the last state that it passes, from a state that is well
   abbrev pub EachReply : (Move V → Reply V E → Pool V C R S F A → Type 0) → Type 0
-  EachReply P = (m : Move V) (p : Pool V C R S F A) (passed : List (Pool V C R S F A)) (answer : Reply V E) → IsWell p → Makes may p m passed answer → P m answer (last_of p passed)
+  EachReply P = (m : Move V) (p : Pool V C R S F A) (passed : List (Pool V C R S F A)) (answer : Reply V E) → IsWell p → MakesMove may p m passed answer → P m answer (last_of p passed)
 
   -- every such run ends well
   abbrev pub EndsWell : Type 0

@@ -10,7 +10,7 @@ ghost use Rattle.deadpool_shared.specs.Building.{lacks_any_runtime};
 ghost use Rattle.deadpool_managed.specs.Outside.{may};
 ghost use Rattle.deadpool_replay.specs.Pool.{Pool, opened};
 ghost use Rattle.deadpool_replay.specs.Steps.{find_slot};
-ghost use Rattle.deadpool_replay.specs.Moves.{moved, Polls, Makes, PoolRuns, NobodyWaits, WithinReach};
+ghost use Rattle.deadpool_replay.specs.Moves.{moved, Polls, MakesMove, PoolRuns, NobodyWaits, WithinReach};
 ghost use Rattle.deadpool_replay.specs.Rank.{rank_at};
 ghost use Rattle.deadpool_replay.specs.RunLaws.{IsWell};
 ghost use Rattle.deadpool_replay.specs.TrialFields.{AdvancesGet, given, reply_to, IsTaken, reply_to_back, reply_to_take, reply_to_handle};
@@ -62,8 +62,8 @@ impl<M: Manager, F: SyncHook<M>, A: AsyncHook<M>, C: Drop> Model for Trial<M, F,
       counted : IsCounted t.core.desk t.parties.items t.out.items;
       well : IsWell (image t.environment.runtime t.environment.hooks t.timeouts t.first t.most_parties t.core.desk t.parties.items t.out.items);
       parties : vec_len t.parties ≤ t.most_parties;
-      seats : t.most_parties ≤ vec_capacity t.parties;
-      hands : t.most_parties ≤ vec_capacity t.out;
+      party_room : t.most_parties ≤ vec_capacity t.parties;
+      out_room : t.most_parties ≤ vec_capacity t.out;
     } };
 }
 
@@ -143,7 +143,7 @@ impl<M: Manager, F: SyncHook<M>, A: AsyncHook<M>, C: Drop> Trial<M, F, A, C> {
 
     /// Makes one move, and gives its reply. A move that finds no memory says so in its reply, and has changed nothing.
     pub fn make(&mut self, next: Move<M::Type>, cx: &mut Context<'_>) -> Reply<M::Type, M::Error>
-        ensures made { (passed : List (Pool M.Type M.Creating M.Recycling A.State F A)) × Makes (may M.Manager F.SyncHook A.AsyncHook self.old.manager) self.old.pool next passed result × (self.new.pool ≡ last_of self.old.pool passed) }
+        ensures made { (passed : List (Pool M.Type M.Creating M.Recycling A.State F A)) × MakesMove (may M.Manager F.SyncHook A.AsyncHook self.old.manager) self.old.pool next passed result × (self.new.pool ≡ last_of self.old.pool passed) }
         ensures manager { self.new.manager ≡ self.old.manager }
         ensures kept { Keeps cx.old cx.new }
     {

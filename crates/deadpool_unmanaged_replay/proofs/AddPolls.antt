@@ -1,36 +1,13 @@
 -- A poll of an add at a core is a poll of its party in the pool.
-use Rattle.std.proofs.Common.{◌≡◌, ℕ, List, Bool, true, false, set, map, refl, sym, ap, ◌∙◌, subst, arith, Option, Some, eq-eqb, nat_lt, Result}
-use Rattle.std.specs.List.{slice_get}
-use Rattle.std.proofs.lemmas.Bool.{lt-ltb, le-ltb}
-use Rattle.futures.specs.declared.task.Poll.{Poll}
-use Rattle.deadpool_gate.specs.Numbers.{has_number}
-use Rattle.deadpool_parts.specs.declared.moment.Moment.{Moment}
-use Rattle.deadpool_parts.specs.declared.moment.Runtime.{Runtime}
-use Rattle.deadpool_gate.specs.Owners.{owner}
-use Rattle.deadpool_gate.specs.Queue.{is_listed, joined}
-use Rattle.deadpool_gate.proofs.Owners.{granted-renamed}
-use Rattle.deadpool_unmanaged.specs.Adds.{PollsAdd, stage_entered, turn_entered, stage_asked, turn_asked, held_by}
-use Rattle.deadpool_unmanaged_replay.specs.Image.{image, party_of, has_add, IsCounted}
-use Rattle.deadpool_unmanaged_replay.specs.RunLaws.{IsWell}
-use Rattle.deadpool_unmanaged_replay.specs.Moves.{NobodyWaits}
-use Rattle.deadpool_unmanaged_replay.specs.Pool.{Pool, new_add, queued_add, finished, free_room}
-use Rattle.deadpool_unmanaged.specs.State.{State, free_room as room_left}
-use Rattle.deadpool_unmanaged.specs.StateSteps.{AddEnters, AddAsks, without_add, with_add, stored}
-use Rattle.deadpool_unmanaged_replay.specs.Steps.{ended, store, enter_add, inquire_add}
-use Rattle.deadpool_unmanaged_replay.specs.TrialFields.{added, given, reply_to}
-use Rattle.deadpool_unmanaged.specs.declared.add.AddStage.{AddStage}
+use Rattle.deadpool_unmanaged_replay.proofs.Basics.{◌≡◌, ℕ, List, Bool, true, false, set, map, refl, sym, ap, ◌∙◌, subst, arith, Option, Some, eq-eqb, nat_lt, Result, slice_get, lt-ltb, le-ltb, Poll, has_number, Moment, Runtime, owner, is_listed, joined, granted-renamed}
+use Rattle.deadpool_unmanaged_replay.proofs.Words.{PollsAdd, held_by, image, party_of, has_add, IsCounted, IsWell, NobodyWaits, Pool, new_add, queued_add, finished, free_room, State, AddEnters, AddAsks, without_add, with_add, stored, ended, store, enter_add, inquire_add, added, given, reply_to, AddStage, PoolError, Closed, OutOfMemory, Item, Reply, Visitor, AddAskReply, AddEnterReply}
+use Rattle.deadpool_unmanaged.specs.Adds.{stage_entered, turn_entered, stage_asked, turn_asked}
+use Rattle.deadpool_unmanaged.specs.State.{free_room as room_left}
 use Rattle.deadpool_unmanaged.specs.declared.add.AddStage.TheVariants.{Unpolled, Queued, Finished}
-use Rattle.deadpool_unmanaged.specs.declared.error.PoolError.{PoolError}
-use Rattle.deadpool_unmanaged.specs.declared.error.PoolError.TheVariants.{Closed, OutOfMemory}
-use Rattle.deadpool_unmanaged_replay.specs.declared.moves.Item.{Item}
 use Rattle.deadpool_unmanaged_replay.specs.declared.moves.Move.TheVariants as move
-use Rattle.deadpool_unmanaged_replay.specs.declared.moves.Reply.{Reply}
 use Rattle.deadpool_unmanaged_replay.specs.declared.moves.Reply.TheVariants as reply
-use Rattle.deadpool_unmanaged_replay.specs.declared.trial.Visitor.{Visitor}
 use Rattle.deadpool_unmanaged_replay.specs.declared.trial.Visitor.TheVariants as visitor
-use Rattle.deadpool_unmanaged.specs.declared.steps.AddAskReply.{AddAskReply}
 use Rattle.deadpool_unmanaged.specs.declared.steps.AddAskReply.TheVariants as asked
-use Rattle.deadpool_unmanaged.specs.declared.steps.AddEnterReply.{AddEnterReply}
 use Rattle.deadpool_unmanaged.specs.declared.steps.AddEnterReply.TheVariants as entered
 use Rattle.deadpool_unmanaged_replay.proofs.Follows.{by_settling, by_resting}
 use Rattle.deadpool_unmanaged_replay.proofs.GetPolls.{Polled, pool, by_visitor, unchanged}

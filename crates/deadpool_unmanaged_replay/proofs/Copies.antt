@@ -1,12 +1,6 @@
 -- How many objects have a number, when the last of them goes out.
-use Rattle.std.proofs.Common.{◌≡◌, ℕ, ◌+◌, ◌-◌, zero, suc, List, [], ◌∷◌, ◌==◌, length, take, arith, Some}
-use Rattle.std.specs.List.{slice_get}
-use Rattle.deadpool_unmanaged_replay.specs.RunLaws.{so_many}
-use Rattle.deadpool_unmanaged.specs.State.{last_idle, other_idle}
-use Rattle.deadpool_unmanaged_replay.specs.Steps.{item_number}
-use Rattle.deadpool_unmanaged_replay.specs.declared.moves.Item.{Item}
-use Rattle.deadpool_gate.proofs.Counts.{one_if}
-use Rattle.deadpool_parts.proofs.NumberedCounts.{count-cons}
+use Rattle.deadpool_unmanaged_replay.proofs.Basics.{◌≡◌, ℕ, ◌+◌, ◌-◌, zero, suc, List, [], ◌∷◌, ◌==◌, length, take, arith, Some, slice_get, one_if, count-cons}
+use Rattle.deadpool_unmanaged_replay.proofs.Words.{so_many, last_idle, other_idle, item_number, Item}
 
 module _ {V : Type 0} (n : ℕ) where
   -- 1 if the object has the number

@@ -1,15 +1,6 @@
 -- A step of the core is a move of its pool, whether the pool settles then or stays as it is.
-use Rattle.std.proofs.Common.{◌≡◌, ℕ, List, Bool, sym, ap, ◌∙◌, subst, Option}
-use Rattle.deadpool_parts.specs.declared.moment.Runtime.{Runtime}
-use Rattle.deadpool_unmanaged_replay.specs.Image.{image, IsCounted}
-use Rattle.deadpool_unmanaged_replay.specs.RunLaws.{IsWell}
-use Rattle.deadpool_unmanaged_replay.specs.Moves.{NobodyWaits, Gives, unsettled, moved}
-use Rattle.deadpool_unmanaged_replay.specs.Pool.{Pool, settle}
-use Rattle.deadpool_unmanaged.specs.State.{State, settled}
-use Rattle.deadpool_unmanaged_replay.specs.declared.moves.Item.{Item}
-use Rattle.deadpool_unmanaged_replay.specs.declared.moves.Move.{Move}
-use Rattle.deadpool_unmanaged_replay.specs.declared.moves.Reply.{Reply}
-use Rattle.deadpool_unmanaged_replay.specs.declared.trial.Visitor.{Visitor}
+use Rattle.deadpool_unmanaged_replay.proofs.Basics.{◌≡◌, ℕ, List, Bool, sym, ap, ◌∙◌, subst, Option, Runtime}
+use Rattle.deadpool_unmanaged_replay.proofs.Words.{image, IsCounted, IsWell, NobodyWaits, Gives, unsettled, moved, Pool, settle, State, settled, Item, Move, Reply, Visitor}
 use Rattle.deadpool_unmanaged_replay.proofs.Lawful.{moved_lawful}
 use Rattle.deadpool_unmanaged_replay.proofs.Settling.{settle-none, settles, counted-settled}
 use Rattle.deadpool_unmanaged_replay.proofs.Well.{moved_well}

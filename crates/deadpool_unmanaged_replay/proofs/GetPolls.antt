@@ -1,39 +1,11 @@
 -- A poll of a get at a core is a poll of its party in the pool.
-use Rattle.std.proofs.Common.{◌≡◌, ℕ, ◌+◌, ◌-◌, ◌<◌, List, [], Bool, true, false, not, length, set, map, refl, sym, ap, ◌∙◌, subst, arith, inl, inr, Option, Some, eq-eqb, nat_lt, Result}
-use Rattle.std.specs.List.{slice_get}
-use Rattle.std.specs.declared.time.Duration.{Duration}
-use Rattle.std.proofs.lemmas.Bool.{cases_Bool, lt-ltb, le-ltb, not-true}
-use Rattle.futures.specs.declared.task.Poll.{Poll}
-use Rattle.deadpool_parts.specs.Moments.{deadline_after, is_reached, cannot_wait}
-use Rattle.deadpool_gate.specs.Numbers.{has_number}
-use Rattle.deadpool_parts.specs.declared.moment.Moment.{Moment}
-use Rattle.deadpool_parts.specs.declared.moment.Runtime.{Runtime}
-use Rattle.deadpool_gate.specs.Owners.{owner}
-use Rattle.deadpool_gate.specs.Queue.{Queue, is_listed, joined}
-use Rattle.deadpool_gate.proofs.Lists.{set-same}
-use Rattle.deadpool_gate.proofs.Owners.{renamed-set, granted-renamed}
-use Rattle.deadpool_unmanaged.specs.Gets.{PollsGet, stage_entered, turn_entered, stage_asked, turn_asked}
-use Rattle.deadpool_unmanaged_replay.specs.Image.{image, party_of, has_get, has_add, IsCounted}
-use Rattle.deadpool_unmanaged_replay.specs.RunLaws.{IsWell}
-use Rattle.deadpool_unmanaged_replay.specs.Moves.{NobodyWaits, unsettled, by_party}
-use Rattle.deadpool_unmanaged_replay.specs.Pool.{Pool, Party, new_get, queued_get, finished, free_objects}
-use Rattle.deadpool_unmanaged.specs.State.{State, free_objects as objects_left}
-use Rattle.deadpool_unmanaged.specs.StateSteps.{GetEnters, GetAsks, without_get, with_get, handed}
-use Rattle.deadpool_unmanaged_replay.specs.Steps.{ended, hand_out, with_item, poll, enter_get, inquire_get}
-use Rattle.deadpool_unmanaged_replay.specs.TrialFields.{got, given, reply_to}
-use Rattle.deadpool_unmanaged.specs.declared.error.PoolError.{PoolError}
-use Rattle.deadpool_unmanaged.specs.declared.error.PoolError.TheVariants.{Timeout, Closed, NoRuntimeSpecified, OutOfMemory}
-use Rattle.deadpool_unmanaged.specs.declared.get.GetStage.{GetStage}
-use Rattle.deadpool_unmanaged.specs.declared.get.GetStage.TheVariants.{Unpolled, Queued, Finished}
-use Rattle.deadpool_unmanaged_replay.specs.declared.moves.Item.{Item}
+use Rattle.deadpool_unmanaged_replay.proofs.Basics.{◌≡◌, ℕ, ◌+◌, ◌-◌, ◌<◌, List, [], Bool, true, false, not, length, set, map, refl, sym, ap, ◌∙◌, subst, arith, inl, inr, Option, Some, eq-eqb, nat_lt, Result, slice_get, Duration, cases_Bool, lt-ltb, le-ltb, not-true, Poll, deadline_after, is_reached, cannot_wait, has_number, Moment, Runtime, owner, Queue, is_listed, joined, set-same, renamed-set, granted-renamed}
+use Rattle.deadpool_unmanaged_replay.proofs.Words.{PollsGet, stage_entered, turn_entered, stage_asked, turn_asked, image, party_of, has_get, has_add, IsCounted, IsWell, NobodyWaits, unsettled, by_party, Pool, Party, new_get, queued_get, finished, free_objects, State, GetEnters, GetAsks, without_get, with_get, handed, ended, hand_out, with_item, poll, enter_get, inquire_get, got, given, reply_to, PoolError, Timeout, Closed, NoRuntimeSpecified, OutOfMemory, GetStage, Unpolled, Queued, Finished, Item, Reply, Visitor, GetAskReply, GetEnterReply}
+use Rattle.deadpool_unmanaged.specs.State.{free_objects as objects_left}
 use Rattle.deadpool_unmanaged_replay.specs.declared.moves.Move.TheVariants as move
-use Rattle.deadpool_unmanaged_replay.specs.declared.moves.Reply.{Reply}
 use Rattle.deadpool_unmanaged_replay.specs.declared.moves.Reply.TheVariants as reply
-use Rattle.deadpool_unmanaged_replay.specs.declared.trial.Visitor.{Visitor}
 use Rattle.deadpool_unmanaged_replay.specs.declared.trial.Visitor.TheVariants as visitor
-use Rattle.deadpool_unmanaged.specs.declared.steps.GetAskReply.{GetAskReply}
 use Rattle.deadpool_unmanaged.specs.declared.steps.GetAskReply.TheVariants as asked
-use Rattle.deadpool_unmanaged.specs.declared.steps.GetEnterReply.{GetEnterReply}
 use Rattle.deadpool_unmanaged.specs.declared.steps.GetEnterReply.TheVariants as entered
 use Rattle.deadpool_unmanaged_replay.proofs.Follows.{Follows, by_settling, by_resting}
 use Rattle.deadpool_unmanaged_replay.proofs.Visitors.{objects-image, hands_out, counted-handed, party-here, counted-set, image-set, left-none, nobody-set, counted-without_get, image-without_get, counted-joined_get, image-joined_get}

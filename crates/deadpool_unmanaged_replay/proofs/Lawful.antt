@@ -1,25 +1,9 @@
 -- Each move keeps what is true of every state, and the limit.
-use Rattle.std.proofs.Common.{◌≡◌, ℕ, ◌+◌, ◌-◌, ◌≤◌, nat_lt, if◌then◌else◌, ◌==◌, List, [], ◌∷◌, Bool, true, false, not, length, refl, ◌∙◌, arith, inl, inr, Option, Some, None, length-append, length-take}
-use Rattle.std.proofs.lemmas.Bool.{cases_Bool, cond_both, ltb-true}
-use Rattle.std.proofs.lemmas.Option.{slice_get_within}
-use Rattle.std.specs.declared.time.Duration.{Duration}
-use Rattle.std.specs.List.{slice_get}
-use Rattle.deadpool_parts.specs.Moments.{deadline_after, is_reached, cannot_wait}
-use Rattle.deadpool_parts.specs.declared.moment.Runtime.{Runtime}
-use Rattle.deadpool_gate.specs.Numbers.{has_number, largest_usize, most_handles}
-use Rattle.deadpool_parts.specs.declared.moment.Moment.{Moment}
-use Rattle.deadpool_gate.proofs.Numbers.{without_number-shorter, without_number-fewer}
-use Rattle.deadpool_unmanaged_replay.specs.Laws.{HasRoom, IsLawful}
-use Rattle.deadpool_unmanaged_replay.specs.Moves.{IsWithinLimit, unsettled, moved, by_party, by_newcomer, by_number, started}
-use Rattle.deadpool_unmanaged_replay.specs.Pool.{Pool, Party, new_get, queued_get, new_add, queued_add, finished, opened, size, free_objects, free_room, settle, status_of}
-use Rattle.deadpool_unmanaged.specs.State.{last_idle}
-use Rattle.deadpool_unmanaged_replay.specs.Steps.{find_item, without_item, with_item, handed, hand_out, store, ended, enter_get, inquire_get, enter_add, inquire_add, poll, cancelled, try_get, try_store, back, take_out, closed, cloned, handle_dropped}
-use Rattle.deadpool_unmanaged_replay.specs.declared.moves.Item.{Item}
-use Rattle.deadpool_unmanaged_replay.specs.declared.moves.Move.{Move}
+use Rattle.deadpool_unmanaged_replay.proofs.Basics.{◌≡◌, ℕ, ◌+◌, ◌-◌, ◌≤◌, nat_lt, if◌then◌else◌, ◌==◌, List, [], ◌∷◌, Bool, true, false, not, length, refl, ◌∙◌, arith, inl, inr, Option, Some, None, length-append, length-take, cases_Bool, cond_both, ltb-true, slice_get_within, Duration, slice_get, deadline_after, is_reached, cannot_wait, Runtime, has_number, largest_usize, most_handles, Moment, without_number-shorter, without_number-fewer}
+use Rattle.deadpool_unmanaged_replay.proofs.Words.{HasRoom, IsLawful, IsWithinLimit, unsettled, moved, by_party, by_newcomer, by_number, started, Pool, Party, new_get, queued_get, new_add, queued_add, finished, opened, size, free_objects, free_room, settle, status_of, last_idle, find_item, without_item, with_item, hand_out, store, ended, enter_get, inquire_get, enter_add, inquire_add, poll, cancelled, try_get, try_store, back, take_out, closed, cloned, handle_dropped, Item, Move, Reply, nobody_left, served_within}
+use Rattle.deadpool_unmanaged_replay.specs.Steps.{handed}
 use Rattle.deadpool_unmanaged_replay.specs.declared.moves.Move.TheVariants as move
-use Rattle.deadpool_unmanaged_replay.specs.declared.moves.Reply.{Reply}
 use Rattle.deadpool_unmanaged_replay.specs.declared.moves.Reply.TheVariants as reply
-use Rattle.deadpool_unmanaged.proofs.Queues.{nobody_left, served_within}
 
 module _ {V : Type 0} where
   -- one more object in a list by number

@@ -1,4 +1,5 @@
 pub mod AddPolls
+pub mod Basics
 pub mod Copies
 pub mod Follows
 pub mod GetPolls
@@ -13,3 +14,4 @@ pub mod Runs
 pub mod Settling
 pub mod Visitors
 pub mod Well
+pub mod Words

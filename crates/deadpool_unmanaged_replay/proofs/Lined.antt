@@ -1,17 +1,6 @@
 -- Who is in a queue, as parties change and some leave or join.
-use Rattle.std.proofs.Common.{◌≡◌, ◌≢◌, ℕ, List, [], ◌∷◌, ◌++◌, Bool, true, false, set, refl, sym, ap, ◌∙◌, ◌⊎◌, inl, inr, subst, Option, Some, None}
-use Rattle.std.specs.List.{slice_get}
-use Rattle.std.proofs.Math.Bool.{and-true, and-false, or-true, or-false}
-use Rattle.std.proofs.lemmas.Bool.Decides.{eqb_tells}
-use Rattle.deadpool_gate.specs.Numbers.{has_number, without_number}
-use Rattle.deadpool_gate.specs.Orders.{KeepsOrder}
-use Rattle.deadpool_gate.specs.Queue.{Queue, members, joined, without}
-use Rattle.deadpool_gate.proofs.Numbers.{has_number-append, has_number-without}
-use Rattle.deadpool_gate.proofs.Orders.{IsOnce-without, IsOnce-push, order_same, order_without, order_joined}
-use Rattle.deadpool_gate.proofs.Lists.{get-set_same, get-set_other, get-append, get-pushed}
-use Rattle.deadpool_unmanaged_replay.specs.Pool.{Party}
-use Rattle.deadpool_unmanaged_replay.specs.RunLaws.{IsLined}
-use Rattle.deadpool_unmanaged.proofs.Queues.{members-without, members-joined}
+use Rattle.deadpool_unmanaged_replay.proofs.Basics.{◌≡◌, ◌≢◌, ℕ, List, [], ◌∷◌, ◌++◌, Bool, true, false, set, refl, sym, ap, ◌∙◌, ◌⊎◌, inl, inr, subst, Option, Some, None, slice_get, and-true, and-false, or-true, or-false, eqb_tells, has_number, without_number, KeepsOrder, Queue, members, joined, without, has_number-append, has_number-without, IsOnce-without, IsOnce-push, order_same, order_without, order_joined, get-set_same, get-set_other, get-append, get-pushed}
+use Rattle.deadpool_unmanaged_replay.proofs.Words.{Party, IsLined, members-without, members-joined}
 
 module _ {V : Type 0} (asks : Option (Option (Party V)) → Bool) where
   -- but for n the same ask as before

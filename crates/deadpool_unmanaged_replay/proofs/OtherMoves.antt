@@ -1,35 +1,13 @@
 -- Tries, objects that come back or leave, and the owner's steps.
-use Rattle.std.proofs.Common.{◌≡◌, ◌≢◌, ℕ, ◌+◌, ◌-◌, ◌<◌, List, [], Bool, true, false, eqb, ◌==◌, ◌&&◌, nat_lt, length, refl, ◌∙◌, arith, inl, inr, Option, Some, if◌then◌else◌}
-use Rattle.std.proofs.lemmas.Bool.{cases_Bool, lt-ltb, le-ltb}
-use Rattle.std.proofs.lemmas.Bool.Decides.{nat_tests}
-use Rattle.std.proofs.lemmas.List.{length-map}
-use Rattle.deadpool_gate.specs.Numbers.{largest_usize, most_handles}
-use Rattle.deadpool_parts.specs.declared.status.Status.{Status}
-use Rattle.deadpool_parts.specs.declared.moment.Runtime.{Runtime}
-use Rattle.deadpool_gate.specs.Owners.{owner}
-use Rattle.deadpool_unmanaged_replay.specs.Image.{image, has_get, IsCounted}
-use Rattle.deadpool_unmanaged_replay.specs.RunLaws.{IsWell}
-use Rattle.deadpool_unmanaged_replay.specs.Moves.{unsettled}
-use Rattle.deadpool_unmanaged_replay.specs.Pool.{Pool, free_objects, free_room, status_of as pool_status}
-use Rattle.deadpool_unmanaged.specs.State.{State, settled, status_of}
-use Rattle.deadpool_unmanaged.specs.StateSteps.{GetEnters, AddEnters, TakesBack, Takes, Clones, DropsHandle, Upgrades, handed, stored, closed_pool, one_handle_more}
-use Rattle.deadpool_unmanaged_replay.specs.Steps.{find_item, with_item, without_item, hand_out}
-use Rattle.deadpool_unmanaged_replay.specs.TrialFields.{IsAtOnce, IsKnown, reply_to_back, reply_to_handle, reply_to_try_add}
-use Rattle.deadpool_unmanaged.specs.declared.error.PoolError.TheVariants.{Timeout, Closed}
-use Rattle.deadpool_unmanaged_replay.specs.declared.moves.Item.{Item}
-use Rattle.deadpool_unmanaged_replay.specs.declared.moves.Move.{Move}
+use Rattle.deadpool_unmanaged_replay.proofs.Basics.{◌≡◌, ◌≢◌, ℕ, ◌+◌, ◌-◌, ◌<◌, List, [], Bool, true, false, eqb, ◌==◌, ◌&&◌, nat_lt, length, refl, ◌∙◌, arith, inl, inr, Option, Some, if◌then◌else◌, cases_Bool, lt-ltb, le-ltb, nat_tests, length-map, largest_usize, most_handles, Status, Runtime, owner, HandleReply}
+use Rattle.deadpool_unmanaged_replay.proofs.Words.{image, has_get, IsCounted, IsWell, unsettled, Pool, free_objects, free_room, status_of as pool_status, State, settled, GetEnters, AddEnters, TakesBack, Takes, Clones, DropsHandle, Upgrades, handed, stored, closed_pool, one_handle_more, find_item, with_item, without_item, hand_out, IsAtOnce, IsKnown, reply_to_back, reply_to_handle, reply_to_try_add, Timeout, Closed, Item, Move, Reply, Visitor, AddEnterReply, BackReply, TakeReply}
+use Rattle.deadpool_unmanaged.specs.State.{status_of}
 use Rattle.deadpool_unmanaged_replay.specs.declared.moves.Move.TheVariants as move
-use Rattle.deadpool_unmanaged_replay.specs.declared.moves.Reply.{Reply}
 use Rattle.deadpool_unmanaged_replay.specs.declared.moves.Reply.TheVariants as reply
-use Rattle.deadpool_unmanaged_replay.specs.declared.trial.Visitor.{Visitor}
-use Rattle.deadpool_unmanaged.specs.declared.steps.AddEnterReply.{AddEnterReply}
 use Rattle.deadpool_unmanaged.specs.declared.steps.AddEnterReply.TheVariants as add
-use Rattle.deadpool_unmanaged.specs.declared.steps.BackReply.{BackReply}
 use Rattle.deadpool_unmanaged.specs.declared.steps.BackReply.TheVariants as back_reply
 use Rattle.deadpool_unmanaged.specs.declared.steps.GetEnterReply.TheVariants as get
-use Rattle.deadpool_parts.specs.declared.replies.HandleReply.{HandleReply}
 use Rattle.deadpool_parts.specs.declared.replies.HandleReply.TheVariants as handle
-use Rattle.deadpool_unmanaged.specs.declared.steps.TakeReply.{TakeReply}
 use Rattle.deadpool_unmanaged.specs.declared.steps.TakeReply.TheVariants as taking
 use Rattle.deadpool_unmanaged_replay.proofs.Follows.{Follows, by_settling, by_resting}
 use Rattle.deadpool_unmanaged_replay.proofs.Lawful.{length-without_item}

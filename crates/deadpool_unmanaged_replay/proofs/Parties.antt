@@ -1,30 +1,11 @@
 -- Parties that start, are cancelled, or were never there.
-use Rattle.std.proofs.Common.{◌≡◌, ◌≢◌, ℕ, ◌+◌, List, [], ◌∷◌, ◌++◌, Bool, true, false, eqb, nat_lt, length, set, map, refl, sym, ap, ◌∙◌, subst, arith, Option, Some, None, eq-eqb}
-use Rattle.std.specs.List.{slice_get}
-use Rattle.std.specs.declared.time.Duration.{Duration}
-use Rattle.std.proofs.lemmas.Bool.Decides.{nat_tests}
-use Rattle.std.proofs.lemmas.List.{map-append}
-use Rattle.deadpool_gate.specs.Numbers.{largest_usize}
-use Rattle.deadpool_parts.specs.declared.moment.Runtime.{Runtime}
-use Rattle.deadpool_gate.proofs.Owners.{NoTicket, owned-push, renamed-push}
-use Rattle.deadpool_unmanaged_replay.specs.Image.{image, party_of, has_get, has_add, IsCounted}
-use Rattle.deadpool_unmanaged_replay.specs.RunLaws.{IsWell}
-use Rattle.deadpool_unmanaged_replay.specs.Moves.{NobodyWaits, unsettled, by_party}
-use Rattle.deadpool_unmanaged_replay.specs.Pool.{Pool}
-use Rattle.deadpool_unmanaged.specs.State.{State}
-use Rattle.deadpool_unmanaged.specs.StateSteps.{without_get, without_add}
-use Rattle.deadpool_unmanaged_replay.specs.Steps.{cancelled}
-use Rattle.deadpool_unmanaged_replay.specs.TrialFields.{CancelsVisitor}
+use Rattle.deadpool_unmanaged_replay.proofs.Basics.{◌≡◌, ◌≢◌, ℕ, ◌+◌, List, [], ◌∷◌, ◌++◌, Bool, true, false, eqb, nat_lt, length, set, map, refl, sym, ap, ◌∙◌, subst, arith, Option, Some, None, eq-eqb, slice_get, Duration, nat_tests, map-append, largest_usize, Runtime, NoTicket, owned-push, renamed-push, Done, Unknown}
+use Rattle.deadpool_unmanaged_replay.proofs.Words.{image, party_of, has_get, has_add, IsCounted, IsWell, NobodyWaits, unsettled, by_party, Pool, State, without_get, without_add, cancelled, CancelsVisitor, Item, Move, Reply, Visitor}
 use Rattle.deadpool_unmanaged.specs.declared.add.AddStage.TheVariants as add
 use Rattle.deadpool_unmanaged.specs.declared.get.GetStage.TheVariants as get
-use Rattle.deadpool_unmanaged_replay.specs.declared.moves.Item.{Item}
-use Rattle.deadpool_unmanaged_replay.specs.declared.moves.Move.{Move}
 use Rattle.deadpool_unmanaged_replay.specs.declared.moves.Move.TheVariants as move
-use Rattle.deadpool_unmanaged_replay.specs.declared.moves.Reply.{Reply}
 use Rattle.deadpool_unmanaged_replay.specs.declared.moves.Reply.TheVariants as reply
-use Rattle.deadpool_unmanaged_replay.specs.declared.trial.Visitor.{Visitor}
 use Rattle.deadpool_unmanaged_replay.specs.declared.trial.Visitor.TheVariants as visitor
-use Rattle.deadpool_parts.specs.declared.replies.StepReply.TheVariants.{Done, Unknown}
 use Rattle.deadpool_unmanaged_replay.proofs.Follows.{Follows, by_settling, by_resting}
 use Rattle.deadpool_unmanaged_replay.proofs.Visitors.{party-here, counted-set, image-set, left-none, nobody-set, counted-without_get, image-without_get, counted-without_add, image-without_add}
 

@@ -1,24 +1,11 @@
 -- What each move keeps of numbers, promises and queues, before anybody is granted anything.
-use Rattle.std.proofs.Common.{◌≡◌, ℕ, ◌+◌, ◌-◌, ◌<◌, ◌≤◌, eqb, nat_lt, if◌then◌else◌, ◌==◌, List, [], ◌∷◌, ◌++◌, Bool, true, false, not, length, refl, arith, inl, inr, Option, Some, None, length-append}
-use Rattle.std.specs.List.{slice_get, filter}
-use Rattle.std.specs.declared.time.Duration.{Duration}
-use Rattle.std.proofs.lemmas.Bool.{cases_Bool, cond_both, ltb-true}
-use Rattle.std.proofs.lemmas.Bool.Decides.{nat_tests}
-use Rattle.deadpool_gate.specs.Numbers.{largest_usize, most_handles}
-use Rattle.deadpool_gate.proofs.Lists.{get-append}
-use Rattle.deadpool_unmanaged_replay.specs.Pool.{Pool, Party, new_get, new_add, free_objects, free_room, status_of}
-use Rattle.deadpool_unmanaged_replay.specs.RunLaws.{IsWell, CountsOn, brings, asks_for_object, asks_for_room, copies, brought_in, named, may_leave}
-use Rattle.deadpool_unmanaged_replay.specs.Steps.{find_item, without_item, store, poll, cancelled, try_get, try_store, back, take_out, closed, cloned, handle_dropped, item_number}
-use Rattle.deadpool_unmanaged_replay.specs.declared.moves.Item.{Item}
-use Rattle.deadpool_unmanaged_replay.specs.declared.moves.Reply.{Reply}
+use Rattle.deadpool_unmanaged_replay.proofs.Basics.{◌≡◌, ℕ, ◌+◌, ◌-◌, ◌<◌, ◌≤◌, eqb, nat_lt, if◌then◌else◌, ◌==◌, List, [], ◌∷◌, ◌++◌, Bool, true, false, not, length, refl, arith, inl, inr, Option, Some, None, length-append, slice_get, filter, Duration, cases_Bool, cond_both, ltb-true, nat_tests, largest_usize, most_handles, get-append, count-push, count-without, count-found, count-push_held}
+use Rattle.deadpool_unmanaged_replay.proofs.Words.{Pool, Party, new_get, new_add, free_objects, free_room, status_of, IsWell, CountsOn, brings, asks_for_object, asks_for_room, copies, brought_in, named, may_leave, find_item, without_item, store, poll, cancelled, try_get, try_store, back, take_out, closed, cloned, handle_dropped, item_number, Item, Reply, unsettled, by_newcomer, by_number, by_party, started, Move}
 use Rattle.deadpool_unmanaged_replay.specs.declared.moves.Reply.TheVariants as reply
-use Rattle.deadpool_unmanaged_replay.specs.Moves.{unsettled, by_newcomer, by_number, by_party, started}
-use Rattle.deadpool_unmanaged_replay.specs.declared.moves.Move.{Move}
 use Rattle.deadpool_unmanaged_replay.specs.declared.moves.Move.TheVariants as move
 use Rattle.deadpool_unmanaged_replay.proofs.Copies.{one}
 use Rattle.deadpool_unmanaged_replay.proofs.Lined.{push_quiet}
 use Rattle.deadpool_unmanaged_replay.proofs.Passes.{Passes, none_drawn, same_passes, cancelled_passes, hand_out_passes, poll_passes}
-use Rattle.deadpool_parts.proofs.NumberedCounts.{count-push, count-without, count-found, count-push_held}
 
 -- one is left, if it is not none
 some_left : (n : ℕ) → eqb n 0 ≡ false → 0 < n

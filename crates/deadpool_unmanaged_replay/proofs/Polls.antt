@@ -1,18 +1,7 @@
 -- A poll by the visitor of a party.
-use Rattle.std.proofs.Common.{◌≡◌, ℕ, List, set, sym, ◌∙◌, subst, Option, Some, None}
-use Rattle.std.specs.List.{slice_get}
-use Rattle.deadpool_parts.specs.declared.moment.Moment.{Moment}
-use Rattle.deadpool_parts.specs.declared.moment.Runtime.{Runtime}
-use Rattle.deadpool_gate.proofs.Lists.{set-same}
-use Rattle.deadpool_unmanaged.specs.Adds.{held_by}
-use Rattle.deadpool_unmanaged_replay.specs.Image.{image, IsCounted}
-use Rattle.deadpool_unmanaged_replay.specs.RunLaws.{IsWell}
-use Rattle.deadpool_unmanaged.specs.State.{State}
-use Rattle.deadpool_unmanaged_replay.specs.TrialFields.{PollsVisitor, got, added, given, reply_to}
-use Rattle.deadpool_unmanaged_replay.specs.declared.moves.Item.{Item}
-use Rattle.deadpool_unmanaged_replay.specs.declared.trial.Visitor.{Visitor}
+use Rattle.deadpool_unmanaged_replay.proofs.Basics.{◌≡◌, ℕ, List, set, sym, ◌∙◌, subst, Option, Some, None, slice_get, Moment, Runtime, set-same}
+use Rattle.deadpool_unmanaged_replay.proofs.Words.{held_by, image, IsCounted, IsWell, State, PollsVisitor, got, added, given, reply_to, Item, Visitor, Turn}
 use Rattle.deadpool_unmanaged_replay.specs.declared.trial.Visitor.TheVariants as visitor
-use Rattle.deadpool_unmanaged_replay.specs.declared.trial.Turn.{Turn}
 use Rattle.deadpool_unmanaged_replay.proofs.AddPolls.{add_polled}
 use Rattle.deadpool_unmanaged_replay.proofs.GetPolls.{Polled, get_polled}
 

@@ -1,11 +1,6 @@
 -- Runs, move by move, and what each of their states has.
-use Rattle.std.proofs.Common.{◌≡◌, List, [], ◌∷◌, Bool, refl, sym, ap, ◌∙◌, subst}
-use Rattle.deadpool_parts.specs.Runs.{all_states, Each, Neighbours}
-use Rattle.deadpool_unmanaged_replay.specs.Laws.{IsLawful}
-use Rattle.deadpool_unmanaged_replay.specs.Moves.{moved, Gives, PoolRuns, NobodyWaits, IsWithinLimit}
-use Rattle.deadpool_unmanaged_replay.specs.Pool.{Pool}
-use Rattle.deadpool_unmanaged_replay.specs.declared.moves.Move.{Move}
-use Rattle.deadpool_unmanaged_replay.specs.declared.moves.Reply.{Reply}
+use Rattle.deadpool_unmanaged_replay.proofs.Basics.{◌≡◌, List, [], ◌∷◌, Bool, refl, sym, ap, ◌∙◌, subst, all_states, Each, Neighbours}
+use Rattle.deadpool_unmanaged_replay.proofs.Words.{IsLawful, moved, Gives, PoolRuns, NobodyWaits, IsWithinLimit, Pool, Move, Reply}
 use Rattle.deadpool_unmanaged_replay.proofs.Lawful.{within_limit, moved_lawful}
 
 module _ {V : Type 0} where

@@ -1,21 +1,8 @@
 -- What the change of one visitor makes of the pool.
-use Rattle.std.proofs.Common.{◌≡◌, ℕ, List, false, set, map, refl, sym, ap, ◌∙◌, arith, Option, Some}
-use Rattle.std.specs.List.{slice_get}
-use Rattle.std.proofs.lemmas.List.{map-set, length-map}
-use Rattle.std.proofs.lemmas.Option.{slice_get-map}
-use Rattle.deadpool_parts.specs.declared.moment.Runtime.{Runtime}
-use Rattle.deadpool_gate.specs.Owners.{owner}
-use Rattle.deadpool_gate.specs.Queue.{renamed, is_listed, joined}
-use Rattle.deadpool_gate.proofs.Owners.{NoTicket, OneTicket, owned-set, renamed-set, absent, owned-leaves, renamed-leaves, owned-joins, renamed-joins}
-use Rattle.deadpool_unmanaged_replay.specs.Image.{image, party_of, has_get, has_add, IsCounted}
-use Rattle.deadpool_unmanaged_replay.specs.Moves.{NobodyWaits}
-use Rattle.deadpool_unmanaged_replay.specs.Pool.{Pool, free_objects, free_room}
-use Rattle.deadpool_unmanaged.specs.State.{State, free_objects as objects_left, free_room as room_left, last_idle}
-use Rattle.deadpool_unmanaged.specs.StateSteps.{without_get, without_add, with_get, with_add, handed, stored}
-use Rattle.deadpool_unmanaged_replay.specs.Steps.{left, hand_out, store, with_item}
-use Rattle.deadpool_unmanaged_replay.specs.declared.moves.Item.{Item}
+use Rattle.deadpool_unmanaged_replay.proofs.Basics.{◌≡◌, ℕ, List, false, set, map, refl, sym, ap, ◌∙◌, arith, Option, Some, slice_get, map-set, length-map, slice_get-map, Runtime, owner, renamed, is_listed, joined, NoTicket, OneTicket, owned-set, renamed-set, absent, owned-leaves, renamed-leaves, owned-joins, renamed-joins}
+use Rattle.deadpool_unmanaged_replay.proofs.Words.{image, party_of, has_get, has_add, IsCounted, NobodyWaits, Pool, free_objects, free_room, State, last_idle, without_get, without_add, with_get, with_add, handed, stored, left, hand_out, store, with_item, Item, Visitor}
+use Rattle.deadpool_unmanaged.specs.State.{free_objects as objects_left, free_room as room_left}
 use Rattle.deadpool_unmanaged_replay.specs.declared.moves.Reply.TheVariants as reply
-use Rattle.deadpool_unmanaged_replay.specs.declared.trial.Visitor.{Visitor}
 use Rattle.deadpool_unmanaged_replay.proofs.Lawful.{length-with_item}
 
 module _ {V : Type 0} (runtime : Option Runtime) (most next : ℕ) where

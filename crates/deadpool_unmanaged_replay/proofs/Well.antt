@@ -1,18 +1,6 @@
 -- Each move leads from a pool that is well to one, so the laws hold of every run.
-use Rattle.std.proofs.Common.{◌≡◌, ℕ, ◌+◌, ◌-◌, ◌<◌, ◌≤◌, List, [], ◌∷◌, Bool, true, false, length, refl, sym, ap, ◌∙◌, subst, arith, inl, inr, Option, Some, None}
-use Rattle.std.specs.List.{slice_get}
-use Rattle.std.proofs.lemmas.Bool.{cases_Bool}
-use Rattle.std.proofs.lemmas.Bool.Decides.{eqb_tells}
-use Rattle.deadpool_gate.specs.Numbers.{has_number}
-use Rattle.deadpool_parts.specs.Runs.{all_states, Neighbours, Later}
-use Rattle.deadpool_gate.specs.Queue.{Queue, members, served}
-use Rattle.deadpool_gate.proofs.Orders.{IsOnce-append}
-use Rattle.deadpool_unmanaged_replay.specs.Moves.{unsettled, moved}
-use Rattle.deadpool_unmanaged_replay.specs.Pool.{Pool, Party, new_get, queued_get, new_add, queued_add, finished}
-use Rattle.deadpool_unmanaged_replay.specs.RunLaws.{IsWell, OpensWell, IsNumbered, CountsOn, IsLined, HasRoomForAll, IsListedOnce, Succeeds, EachState, EachStep, EachLater, EachMove, EndsWell, NoneReturns, copies, asks_for_object, asks_for_room, named, OthersStayInPool, OthersStayQueued, OthersStand}
-use Rattle.deadpool_unmanaged_replay.specs.declared.moves.Move.{Move}
-use Rattle.deadpool_unmanaged_replay.specs.declared.moves.Reply.{Reply}
-use Rattle.deadpool_unmanaged.proofs.Queues.{served_within, members-served}
+use Rattle.deadpool_unmanaged_replay.proofs.Basics.{◌≡◌, ℕ, ◌+◌, ◌-◌, ◌<◌, ◌≤◌, List, [], ◌∷◌, Bool, true, false, length, refl, sym, ap, ◌∙◌, subst, arith, inl, inr, Option, Some, None, slice_get, cases_Bool, eqb_tells, has_number, all_states, Neighbours, Later, Queue, members, served, IsOnce-append}
+use Rattle.deadpool_unmanaged_replay.proofs.Words.{unsettled, moved, Pool, Party, new_get, queued_get, new_add, queued_add, finished, IsWell, OpensWell, IsNumbered, CountsOn, IsLined, HasRoomForAll, IsListedOnce, Succeeds, EachState, EachStep, EachLater, EachMove, EndsWell, NoneReturns, copies, asks_for_object, asks_for_room, named, OthersStayInPool, OthersStayQueued, OthersStand, Move, Reply, served_within, members-served}
 use Rattle.deadpool_unmanaged_replay.proofs.Lawful.{opened_lawful, moved_lawful}
 use Rattle.deadpool_unmanaged_replay.proofs.Lined.{moves_lined, moves_stay}
 use Rattle.deadpool_unmanaged_replay.proofs.PassesMoves.{unsettled_passes}

@@ -62,12 +62,12 @@ module _ {V : Type 0} where
   Gives m p answer q = (found : Bool) × (moved found m p ≡ (answer, q))
 
   -- one move, with the one state that it passes, and its reply
-  abbrev pub Makes : Pool V → Move V → List (Pool V) → Reply V → Type 0
-  Makes p m passed answer = (q : Pool V) × ((passed ≡ q ∷ []) × Gives m p answer q)
+  abbrev pub MakesMove : Pool V → Move V → List (Pool V) → Reply V → Type 0
+  MakesMove p m passed answer = (q : Pool V) × ((passed ≡ q ∷ []) × Gives m p answer q)
 
   -- a list of moves, with the state that each passes, the replies, and the state after them
   abbrev pub PoolRuns : Pool V → List (Move V) → List (List (Pool V)) → List (Reply V) → Pool V → Type 0
-  PoolRuns = Runs Makes
+  PoolRuns = Runs MakesMove
 
   -- in an open pool no get waits for an object, and no add for room, that is free
   pub record NobodyWaits (p : Pool V) : Type 0 where

@@ -8,7 +8,7 @@ use Rattle.deadpool_parts.specs.Runs.{all_states, Each, Neighbours, Later}
 use Rattle.deadpool_parts.specs.declared.moment.Runtime.{Runtime}
 use Rattle.deadpool_gate.specs.Queue.{Queue, members}
 use Rattle.deadpool_unmanaged_replay.specs.Laws.{IsLawful}
-use Rattle.deadpool_unmanaged_replay.specs.Moves.{Makes, PoolRuns}
+use Rattle.deadpool_unmanaged_replay.specs.Moves.{MakesMove, PoolRuns}
 use Rattle.deadpool_unmanaged_replay.specs.Pool.{Pool, Party, queued_get, new_add, queued_add, opened}
 use Rattle.deadpool_unmanaged_replay.specs.declared.moves.Item.{Item}
 use Rattle.deadpool_unmanaged_replay.specs.declared.moves.Move.{Move}
@@ -189,7 +189,7 @@ EachLater {V} P = (moves : List (Move V)) (p after : Pool V) (passed : List (Lis
 
 -- P holds of each move, a state that is well, and the one that the move leads to
 abbrev pub EachMove : {V : Type 0} → (Move V → Pool V → Pool V → Type 0) → Type 0
-EachMove {V} P = (m : Move V) (p : Pool V) (passed : List (Pool V)) (answer : Reply V) → IsWell p → Makes p m passed answer → Neighbours (P m) (p ∷ passed)
+EachMove {V} P = (m : Move V) (p : Pool V) (passed : List (Pool V)) (answer : Reply V) → IsWell p → MakesMove p m passed answer → Neighbours (P m) (p ∷ passed)
 
 -- every such run ends well
 abbrev pub EndsWell : Type 0 → Type 0

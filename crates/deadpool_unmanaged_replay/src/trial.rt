@@ -70,7 +70,7 @@ impl<T> Model for Trial<T> {
       well : IsWell (image t.runtime t.most_parties t.next t.core.pool t.visitors.items t.out.items);
       parties : vec_len t.visitors ≤ t.most_parties;
       places : t.most_parties ≤ vec_capacity t.visitors;
-      hands : t.core.pool.limit ≤ vec_capacity t.out;
+      out_room : t.core.pool.limit ≤ vec_capacity t.out;
     } };
 }
 

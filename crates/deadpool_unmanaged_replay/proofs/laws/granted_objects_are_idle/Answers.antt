@@ -1,5 +1,5 @@
+use Rattle.deadpool_unmanaged_replay.proofs.Words.{KeepsPromises}
 use Rattle.deadpool_unmanaged_replay.proofs.Well.{each_state}
-use Rattle.deadpool_unmanaged_replay.specs.RunLaws.{KeepsPromises}
 use Rattle.deadpool_unmanaged_replay.proofs.laws.granted_objects_are_idle.Goals as goal
 
 pub returns : goal.returns

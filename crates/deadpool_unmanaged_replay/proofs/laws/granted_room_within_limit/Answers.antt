@@ -1,5 +1,5 @@
+use Rattle.deadpool_unmanaged_replay.proofs.Words.{HasRoomForAll}
 use Rattle.deadpool_unmanaged_replay.proofs.Well.{each_state, room_for_all}
-use Rattle.deadpool_unmanaged_replay.specs.RunLaws.{HasRoomForAll}
 use Rattle.deadpool_unmanaged_replay.proofs.laws.granted_room_within_limit.Goals as goal
 
 pub returns : goal.returns

@@ -1,4 +1,4 @@
-use Rattle.deadpool_unmanaged_replay.specs.RunLaws.{OthersStayInPool}
+use Rattle.deadpool_unmanaged_replay.proofs.Words.{OthersStayInPool}
 use Rattle.deadpool_unmanaged_replay.proofs.Well.{each_move, moved_objects}
 use Rattle.deadpool_unmanaged_replay.proofs.laws.no_object_is_lost.Goals as goal
 

@@ -1,4 +1,4 @@
-use Rattle.deadpool_unmanaged_replay.specs.RunLaws.{OthersStayQueued, OthersStand}
+use Rattle.deadpool_unmanaged_replay.proofs.Words.{OthersStayQueued, OthersStand}
 use Rattle.deadpool_unmanaged_replay.proofs.Well.{each_move, moved_queued, moved_parties}
 use Rattle.deadpool_unmanaged_replay.proofs.laws.no_waiter_is_lost.Goals as goal
 

@@ -1,5 +1,5 @@
+use Rattle.deadpool_unmanaged_replay.proofs.Words.{KeepsQueues}
 use Rattle.deadpool_unmanaged_replay.proofs.Well.{each_step}
-use Rattle.deadpool_unmanaged_replay.specs.RunLaws.{KeepsQueues}
 use Rattle.deadpool_unmanaged_replay.proofs.laws.queues_keep_order.Goals as goal
 
 pub returns : goal.returns

@@ -1,5 +1,5 @@
-use Rattle.std.proofs.Common.{◌≡◌, ◌≤◌, length, vec_len, vec_capacity, arith, rules}
-use Rattle.deadpool_unmanaged_replay.specs.Steps.{with_item}
+use Rattle.deadpool_unmanaged_replay.proofs.Basics.{◌≡◌, ◌≤◌, length, vec_len, vec_capacity, arith, rules}
+use Rattle.deadpool_unmanaged_replay.proofs.Words.{with_item}
 use Rattle.deadpool_unmanaged_replay.proofs.Lawful.{length-with_item}
 use Rattle.deadpool_unmanaged_replay.proofs.trial.hand_out.Goals as goal
 

@@ -18,7 +18,7 @@ hand_out-requires g c =
     let here = slice_get_read f.parties.items (vec_len f.parties) c.args.party c.index_mut-get.result.now (search rules) (omega (arith, c.len.ensures, c.if-party-len.false)) c.index_mut-get.ensures.value in
     let all = turned g.M.Manager g.F.SyncHook g.A.AsyncHook f.environment.manager (fixed_as f.environment.runtime f.environment.hooks f.timeouts f.first f.most_parties) f.core c.advance_get.new.desk f.parties.items f.out.items
     c.self.invariant.counted c.self.invariant.well c.args.party c.args.now c.index_mut-get.result.now c.advance_get.new.get c.advance_get.result c.in-Some.turn here c.advance_get.ensures.advanced c.in-Some.is in
-    out_fits c.advance_get.new.desk.desk f.parties.items c.args.party c.advance_get.new.get _ (vec_len f.parties) f.most_parties (vec_capacity f.out) all.1 (search rules) c.self.invariant.parties c.self.invariant.hands
+    out_fits c.advance_get.new.desk.desk f.parties.items c.args.party c.advance_get.new.get _ (vec_len f.parties) f.most_parties (vec_capacity f.out) all.1 (search rules) c.self.invariant.parties c.self.invariant.out_room
 
 pub invariant_of-self-in-Some : goal.invariant_of-self-in-Some
 invariant_of-self-in-Some g c =
@@ -26,7 +26,7 @@ invariant_of-self-in-Some g c =
     let here = slice_get_read f.parties.items (vec_len f.parties) c.args.party c.index_mut-get.result.now (search rules) (omega (arith, c.len.ensures, c.if-party-len.false)) c.index_mut-get.ensures.value in
     let all = turned g.M.Manager g.F.SyncHook g.A.AsyncHook f.environment.manager (fixed_as f.environment.runtime f.environment.hooks f.timeouts f.first f.most_parties) f.core c.advance_get.new.desk f.parties.items f.out.items
     c.self.invariant.counted c.self.invariant.well c.args.party c.args.now c.index_mut-get.result.now c.advance_get.new.get c.advance_get.result c.in-Some.turn here c.advance_get.ensures.advanced c.in-Some.is in
-    record { counted = rw c.hand_out.ensures.out all.1; well = rw c.hand_out.ensures.out all.2; parties = c.self.invariant.parties; seats = c.self.invariant.seats; hands = omega (arith, c.self.invariant.hands, c.hand_out.ensures.capacity) }
+    record { counted = rw c.hand_out.ensures.out all.1; well = rw c.hand_out.ensures.out all.2; parties = c.self.invariant.parties; party_room = c.self.invariant.party_room; out_room = omega (arith, c.self.invariant.out_room, c.hand_out.ensures.capacity) }
 
 pub returns-in-Some-clause-made : goal.returns-in-Some-clause-made
 returns-in-Some-clause-made g c =
@@ -50,7 +50,7 @@ invariant_of-self g c =
     let here = slice_get_read f.parties.items (vec_len f.parties) c.args.party c.index_mut-get.result.now (search rules) (omega (arith, c.len.ensures, c.if-party-len.false)) c.index_mut-get.ensures.value in
     let all = not_turned g.M.Manager g.F.SyncHook g.A.AsyncHook f.environment.manager (fixed_as f.environment.runtime f.environment.hooks f.timeouts f.first f.most_parties) f.core c.advance_get.new.desk f.parties.items f.out.items
     c.self.invariant.counted c.self.invariant.well c.args.party c.args.now c.index_mut-get.result.now c.advance_get.new.get c.advance_get.result here c.advance_get.ensures.advanced c.in-None.is in
-    rw (all.1, all.2) record { counted = c.self.invariant.counted; well = c.self.invariant.well; parties = c.self.invariant.parties; seats = c.self.invariant.seats; hands = c.self.invariant.hands }
+    rw (all.1, all.2) record { counted = c.self.invariant.counted; well = c.self.invariant.well; parties = c.self.invariant.parties; party_room = c.self.invariant.party_room; out_room = c.self.invariant.out_room }
 
 pub returns-in-None-clause-made : goal.returns-in-None-clause-made
 returns-in-None-clause-made g c =

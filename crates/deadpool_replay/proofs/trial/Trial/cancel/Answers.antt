@@ -17,7 +17,7 @@ invariant_of-self g c =
     let here = slice_get_read f.parties.items (vec_len f.parties) c.args.party c.index_mut.result.now (search rules) (omega (arith, c.len.ensures, c.if-party-len.false)) c.index_mut.ensures.value in
     let none : slice_get f.parties.items c.args.party ≡ Some None = here ∙ ap Some (sym c.take.ensures.value ∙ c.in-None.is) in
     let same = set-same f.parties.items c.args.party None none in
-    rw (c.take.ensures.after, same) record { counted = c.self.invariant.counted; well = c.self.invariant.well; parties = c.self.invariant.parties; seats = c.self.invariant.seats; hands = c.self.invariant.hands }
+    rw (c.take.ensures.after, same) record { counted = c.self.invariant.counted; well = c.self.invariant.well; parties = c.self.invariant.parties; party_room = c.self.invariant.party_room; out_room = c.self.invariant.out_room }
 
 pub returns-in-None-clause-made : goal.returns-in-None-clause-made
 returns-in-None-clause-made g c =
@@ -35,7 +35,7 @@ invariant_of-self-in-Some g c =
     let made = c.cancel.ensures.cancelled in
     let all = cancelled g.M.Manager g.F.SyncHook g.A.AsyncHook f.environment.manager (fixed_as f.environment.runtime f.environment.hooks f.timeouts f.first f.most_parties) f.core c.cancel.new.desk f.parties.items f.out.items
     c.self.invariant.counted c.self.invariant.well c.args.party c.in-Some.state made.0 (here ∙ ap Some (sym c.take.ensures.value ∙ c.in-Some.is)) made.1.0 made.1.1 in
-    rw c.take.ensures.after record { counted = all.1; well = all.2; parties = c.self.invariant.parties; seats = c.self.invariant.seats; hands = c.self.invariant.hands }
+    rw c.take.ensures.after record { counted = all.1; well = all.2; parties = c.self.invariant.parties; party_room = c.self.invariant.party_room; out_room = c.self.invariant.out_room }
 
 pub returns-in-Some-clause-made : goal.returns-in-Some-clause-made
 returns-in-Some-clause-made g c =

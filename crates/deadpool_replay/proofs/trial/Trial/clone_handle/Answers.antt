@@ -9,7 +9,7 @@ pub invariant_of-self : goal.invariant_of-self
 invariant_of-self g c =
     let f = c.self.inside in
     let all = cloned_handle (may g.M.Manager g.F.SyncHook g.A.AsyncHook f.environment.manager) (λ found. tt) (fixed_as f.environment.runtime f.environment.hooks f.timeouts f.first f.most_parties) f.core.desk c.clone_handle-reply.new.self.desk f.parties.items f.out.items c.self.invariant.counted c.clone_handle-reply.result c.after_handle.result c.clone_handle-reply.ensures.0 c.after_handle.ensures in
-    record { counted = all.1; well = leads_to_well g.M.Manager g.F.SyncHook g.A.AsyncHook f.environment.manager move.Clone _ _ _ c.self.invariant.well all.0; parties = c.self.invariant.parties; seats = c.self.invariant.seats; hands = c.self.invariant.hands }
+    record { counted = all.1; well = leads_to_well g.M.Manager g.F.SyncHook g.A.AsyncHook f.environment.manager move.Clone _ _ _ c.self.invariant.well all.0; parties = c.self.invariant.parties; party_room = c.self.invariant.party_room; out_room = c.self.invariant.out_room }
 
 pub returns-clause-made : goal.returns-clause-made
 returns-clause-made g c =

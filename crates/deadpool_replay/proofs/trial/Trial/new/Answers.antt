@@ -18,8 +18,8 @@ invariant_of-result g c =
       well = rw (pool.core, pool.environment, pool.timeouts, c.in_ok-with_capacity.ensures.items, c.in_ok-with_capacity-2.ensures.items)
           (opened_well b.max_size b.queue_mode b.runtime b.hooks b.timeouts c.args.first_number c.args.parties b.min_idle);
       parties = omega (arith, c.in_ok-with_capacity.ensures.len);
-      seats = omega (arith, c.in_ok-with_capacity.ensures.capacity);
-      hands = omega (arith, c.in_ok-with_capacity-2.ensures.capacity);
+      party_room = omega (arith, c.in_ok-with_capacity.ensures.capacity);
+      out_room = omega (arith, c.in_ok-with_capacity-2.ensures.capacity);
     }
 
 pub returns-clause-pool : goal.returns-clause-pool

@@ -23,7 +23,7 @@ invariant_of-self g c =
     let pool = image_of (fixed_as f.environment.runtime f.environment.hooks f.timeouts f.first f.most_parties) f.core.desk f.parties.items f.out.items in
     let led = leads_to_well g.M.Manager g.F.SyncHook g.A.AsyncHook f.environment.manager (move.Put c.args.number c.args.value) pool
     (record pool { out = with_put c.args.number c.args.value f.out.items }) reply.Done c.self.invariant.well (rw found refl) in
-    record { counted = rw put (put_counted f.core.desk f.parties.items f.out.items c.args.number c.args.value c.self.invariant.counted); well = rw put led; parties = c.self.invariant.parties; seats = c.self.invariant.seats; hands = c.self.invariant.hands }
+    record { counted = rw put (put_counted f.core.desk f.parties.items f.out.items c.args.number c.args.value c.self.invariant.counted); well = rw put led; parties = c.self.invariant.parties; party_room = c.self.invariant.party_room; out_room = c.self.invariant.out_room }
 
 pub returns-in-None-clause-made : goal.returns-in-None-clause-made
 returns-in-None-clause-made g c =

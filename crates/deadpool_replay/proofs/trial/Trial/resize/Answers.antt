@@ -20,10 +20,10 @@ invariant_of-self g c =
     elim c.match-resize.branch [
       | in-Ok w ↦
           let all = resized_ok (may g.M.Manager g.F.SyncHook g.A.AsyncHook f.environment.manager) (λ found. tt) fixed f.core.desk c.resize.new.self.desk f.parties.items f.out.items c.self.invariant.counted c.args.limit some (rw w.in-Ok.is at c.resize.ensures).0 in
-          record { counted = all.1; well = leads_to_well g.M.Manager g.F.SyncHook g.A.AsyncHook f.environment.manager (move.Resize c.args.limit) _ _ _ c.self.invariant.well all.0; parties = c.self.invariant.parties; seats = c.self.invariant.seats; hands = c.self.invariant.hands }
+          record { counted = all.1; well = leads_to_well g.M.Manager g.F.SyncHook g.A.AsyncHook f.environment.manager (move.Resize c.args.limit) _ _ _ c.self.invariant.well all.0; parties = c.self.invariant.parties; party_room = c.self.invariant.party_room; out_room = c.self.invariant.out_room }
       | in-Err w ↦
           let all = resized_err (may g.M.Manager g.F.SyncHook g.A.AsyncHook f.environment.manager) (λ found. tt) fixed f.core.desk c.resize.new.self.desk f.parties.items f.out.items c.self.invariant.counted c.args.limit w.in-Err.field-0 some (rw w.in-Err.is at c.resize.ensures).0 in
-          record { counted = all.1; well = leads_to_well g.M.Manager g.F.SyncHook g.A.AsyncHook f.environment.manager (move.Resize c.args.limit) _ _ _ c.self.invariant.well all.0; parties = c.self.invariant.parties; seats = c.self.invariant.seats; hands = c.self.invariant.hands }
+          record { counted = all.1; well = leads_to_well g.M.Manager g.F.SyncHook g.A.AsyncHook f.environment.manager (move.Resize c.args.limit) _ _ _ c.self.invariant.well all.0; parties = c.self.invariant.parties; party_room = c.self.invariant.party_room; out_room = c.self.invariant.out_room }
     ]
 
 pub returns-clause-made : goal.returns-clause-made

@@ -28,10 +28,10 @@ invariant_of-self g c =
     elim c.match-retain.branch [
       | in-Ok w ↦
           let all = retained_ok (may g.M.Manager g.F.SyncHook g.A.AsyncHook f.environment.manager) (λ found. tt) (keeps_as g.M.Manager) c.args.kept.now.items (λ q. q ≡ _) (λ q slot answer left is a. (rw (is, c.as_slice.ensures.value) at a.0, a.1 ∙ is)) (λ q value left after is a. (rw is at a.0, a.1 ∙ is)) fixed f.core.desk c.retain.new.self.desk f.parties.items f.out.items c.self.invariant.counted some _ c.retain.new.retainer refl w.in-Ok.retained (rw w.in-Ok.is at c.retain.ensures.retained).0 in
-          record { counted = all.1; well = leads_to_well g.M.Manager g.F.SyncHook g.A.AsyncHook f.environment.manager (move.Retain c.args.kept.now) _ _ _ c.self.invariant.well all.0; parties = c.self.invariant.parties; seats = c.self.invariant.seats; hands = c.self.invariant.hands }
+          record { counted = all.1; well = leads_to_well g.M.Manager g.F.SyncHook g.A.AsyncHook f.environment.manager (move.Retain c.args.kept.now) _ _ _ c.self.invariant.well all.0; parties = c.self.invariant.parties; party_room = c.self.invariant.party_room; out_room = c.self.invariant.out_room }
       | in-Err w ↦
           let all = retained_err (may g.M.Manager g.F.SyncHook g.A.AsyncHook f.environment.manager) (λ found. tt) (keeps_as g.M.Manager) c.args.kept.now.items (λ q. q ≡ _) (λ q slot answer left is a. (rw (is, c.as_slice.ensures.value) at a.0, a.1 ∙ is)) (λ q value left after is a. (rw is at a.0, a.1 ∙ is)) fixed f.core.desk c.retain.new.self.desk f.parties.items f.out.items c.self.invariant.counted some _ c.retain.new.retainer refl w.in-Err.field-0 (rw w.in-Err.is at c.retain.ensures.retained).0 in
-          record { counted = all.1; well = leads_to_well g.M.Manager g.F.SyncHook g.A.AsyncHook f.environment.manager (move.Retain c.args.kept.now) _ _ _ c.self.invariant.well all.0; parties = c.self.invariant.parties; seats = c.self.invariant.seats; hands = c.self.invariant.hands }
+          record { counted = all.1; well = leads_to_well g.M.Manager g.F.SyncHook g.A.AsyncHook f.environment.manager (move.Retain c.args.kept.now) _ _ _ c.self.invariant.well all.0; parties = c.self.invariant.parties; party_room = c.self.invariant.party_room; out_room = c.self.invariant.out_room }
     ]
 
 pub returns-clause-made : goal.returns-clause-made

@@ -1,5 +1,5 @@
 use Rattle.deadpool_replay.proofs.Basics.{rules, ◌≡◌, [], ◌∷◌, length, vec_len, arith, refl, subst, ◌∙◌, append_assoc, append-nil, into_iter_items, into_iter_len, none_left, one_less}
-use Rattle.deadpool_replay.proofs.Words.{NobodyWaits, WithinReach, IsWell, may, Makes}
+use Rattle.deadpool_replay.proofs.Words.{NobodyWaits, WithinReach, IsWell, may, MakesMove}
 use Rattle.deadpool_replay.proofs.Runs.{runs_more, runs_end}
 use Rattle.deadpool_replay.proofs.RunsWell.{each_state, each_step}
 use Rattle.deadpool_replay.proofs.trial.Trial.run.Goals as goal
@@ -24,7 +24,7 @@ loop-first-preserved g c =
     let l = c.loop-first in
     let made = c.make-reply.ensures.made in
     let steps = c.in-Some.ensures.steps in
-    let by : g.row.M.Denot → Type 0 = λ manager. Makes (may g.M.Manager g.F.SyncHook g.A.AsyncHook manager) l.self.pool c.in-Some.first made.0 c.make-reply.result in
+    let by : g.row.M.Denot → Type 0 = λ manager. MakesMove (may g.M.Manager g.F.SyncHook g.A.AsyncHook manager) l.self.pool c.in-Some.first made.0 c.make-reply.result in
     record {
       manager = c.make-reply.ensures.manager ∙ l.invariant.manager;
       kept = λ fact h. c.make-reply.ensures.kept fact (l.invariant.kept fact h);

@@ -49,6 +49,6 @@ invariant_of-self g c =
       counted = rw items all.1;
       well = rw (items, all.0, c.unwrap_or-timeouts.ensures) led;
       parties = omega (arith, c.append.ensures.len, c.if-party-self.false, c.len-party.ensures);
-      seats = omega (arith, c.self.invariant.seats, c.append.ensures.capacity);
-      hands = c.self.invariant.hands;
+      party_room = omega (arith, c.self.invariant.party_room, c.append.ensures.capacity);
+      out_room = c.self.invariant.out_room;
     }

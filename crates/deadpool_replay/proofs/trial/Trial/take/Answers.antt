@@ -9,7 +9,7 @@ use Rattle.deadpool_replay.proofs.trial.Trial.take.Goals as goal
 pub invariant_of-self : goal.invariant_of-self
 invariant_of-self g c =
     let f = c.self.inside in
-    rw (c.take_out.ensures.items ∙ none_there slot_number c.args.number f.out.items (sym c.take_out.ensures.item ∙ c.in-None.is)) record { counted = c.self.invariant.counted; well = c.self.invariant.well; parties = c.self.invariant.parties; seats = c.self.invariant.seats; hands = rw c.take_out.ensures.capacity c.self.invariant.hands }
+    rw (c.take_out.ensures.items ∙ none_there slot_number c.args.number f.out.items (sym c.take_out.ensures.item ∙ c.in-None.is)) record { counted = c.self.invariant.counted; well = c.self.invariant.well; parties = c.self.invariant.parties; party_room = c.self.invariant.party_room; out_room = rw c.take_out.ensures.capacity c.self.invariant.out_room }
 
 pub returns-in-None-clause-made : goal.returns-in-None-clause-made
 returns-in-None-clause-made g c =
@@ -27,7 +27,7 @@ pub invariant_of-self-in-Some : goal.invariant_of-self-in-Some
 invariant_of-self-in-Some g c =
     let f = c.self.inside in
     let all = taken (may g.M.Manager g.F.SyncHook g.A.AsyncHook f.environment.manager) (λ found. tt) (fixed_as f.environment.runtime f.environment.hooks f.timeouts f.first f.most_parties) f.core.desk c.take-reply.new.self.desk f.parties.items f.out.items c.self.invariant.counted c.args.number c.in-Some.slot c.take-reply.result c.after_take.result (sym c.take_out.ensures.item ∙ c.in-Some.is) c.take-reply.ensures.taken.0 c.after_take.ensures in
-    rw c.take_out.ensures.items record { counted = all.1; well = leads_to_well g.M.Manager g.F.SyncHook g.A.AsyncHook f.environment.manager (move.Take c.args.number) _ _ _ c.self.invariant.well all.0; parties = c.self.invariant.parties; seats = c.self.invariant.seats; hands = rw c.take_out.ensures.capacity c.self.invariant.hands }
+    rw c.take_out.ensures.items record { counted = all.1; well = leads_to_well g.M.Manager g.F.SyncHook g.A.AsyncHook f.environment.manager (move.Take c.args.number) _ _ _ c.self.invariant.well all.0; parties = c.self.invariant.parties; party_room = c.self.invariant.party_room; out_room = rw c.take_out.ensures.capacity c.self.invariant.out_room }
 
 pub returns-in-Some-clause-made : goal.returns-in-Some-clause-made
 returns-in-Some-clause-made g c =

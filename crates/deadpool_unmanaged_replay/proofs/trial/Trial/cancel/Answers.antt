@@ -1,10 +1,5 @@
-use Rattle.std.proofs.Common.{◌≡◌, ◌∙◌, Some, None, length, vec_len, arith, rules, map, refl, ap, sym}
-use Rattle.std.specs.List.{slice_get}
-use Rattle.std.specs.Option.{option_map}
-use Rattle.std.proofs.lemmas.List.{length-map}
-use Rattle.std.proofs.lemmas.Option.{slice_get_read, slice_get_past, slice_get-map}
-use Rattle.deadpool_gate.proofs.Lists.{set-same}
-use Rattle.deadpool_unmanaged_replay.specs.Image.{party_of}
+use Rattle.deadpool_unmanaged_replay.proofs.Basics.{◌≡◌, ◌∙◌, Some, None, length, vec_len, arith, rules, map, refl, ap, sym, slice_get, option_map, length-map, slice_get_read, slice_get_past, slice_get-map, set-same}
+use Rattle.deadpool_unmanaged_replay.proofs.Words.{party_of}
 use Rattle.deadpool_unmanaged_replay.specs.declared.moves.Move.TheVariants as move
 use Rattle.deadpool_unmanaged_replay.specs.declared.moves.Reply.TheVariants as reply
 use Rattle.deadpool_unmanaged_replay.proofs.Parties.{stays, cancels}
@@ -47,7 +42,7 @@ invariant_of-self-in-Some g c =
     let here : slice_get f.visitors.items c.args.party ≡ Some c.index_mut.result.now =
     slice_get_read f.visitors.items (length f.visitors.items) c.args.party c.index_mut.result.now refl (omega (arith, len, c.len.ensures, c.if-party-len.false)) c.index_mut.ensures.value in
     let all = cancels f.runtime f.most_parties f.next f.core.pool f.visitors.items f.out.items c.self.invariant.counted c.self.invariant.well c.args.party c.in-Some.visitor (here ∙ ap Some (sym c.take.ensures.value ∙ c.in-Some.is)) c.cancel_visitor.new.core.pool c.cancel_visitor.ensures in
-    rw c.take.ensures.after record { counted = all.counted; well = all.well; parties = c.self.invariant.parties; places = c.self.invariant.places; hands = omega (arith, all.limit, c.self.invariant.hands) }
+    rw c.take.ensures.after record { counted = all.counted; well = all.well; parties = c.self.invariant.parties; places = c.self.invariant.places; out_room = omega (arith, all.limit, c.self.invariant.out_room) }
 
 pub returns-in-Some : goal.returns-in-Some
 returns-in-Some g c =

@@ -1,4 +1,4 @@
-use Rattle.std.proofs.Common.{arith}
+use Rattle.deadpool_unmanaged_replay.proofs.Basics.{arith}
 use Rattle.deadpool_unmanaged_replay.proofs.OtherMoves.{clones}
 use Rattle.deadpool_unmanaged_replay.proofs.trial.Trial.clone_handle.Goals as goal
 
@@ -6,7 +6,7 @@ pub invariant_of-self : goal.invariant_of-self
 invariant_of-self g c =
     let f = c.self.inside in
     let all = clones f.runtime f.most_parties f.next f.core.pool f.visitors.items f.out.items c.self.invariant.counted c.self.invariant.well c.clone_handle-reply.result c.clone_handle-reply.new.self.pool c.clone_handle-reply.ensures in
-    record { counted = all.counted; well = all.well; parties = c.self.invariant.parties; places = c.self.invariant.places; hands = omega (arith, all.limit, c.self.invariant.hands) }
+    record { counted = all.counted; well = all.well; parties = c.self.invariant.parties; places = c.self.invariant.places; out_room = omega (arith, all.limit, c.self.invariant.out_room) }
 
 pub returns : goal.returns
 returns g c =

@@ -1,4 +1,4 @@
-use Rattle.std.proofs.Common.{arith}
+use Rattle.deadpool_unmanaged_replay.proofs.Basics.{arith}
 use Rattle.deadpool_unmanaged_replay.specs.declared.moves.Move.TheVariants as move
 use Rattle.deadpool_unmanaged_replay.specs.declared.moves.Reply.TheVariants as reply
 use Rattle.deadpool_unmanaged_replay.proofs.OtherMoves.{closes}
@@ -17,7 +17,7 @@ invariant_of-self g c =
     let f = c.self.inside in
     let some = some_handle c.has_handle.result f.core.pool.handles c.has_handle.ensures c.if-not-has_handle.false in
     let all = closes f.runtime f.most_parties f.next f.core.pool f.visitors.items f.out.items c.self.invariant.counted c.self.invariant.well some c.close.new.self.pool c.close.ensures in
-    record { counted = all.counted; well = all.well; parties = c.self.invariant.parties; places = c.self.invariant.places; hands = omega (arith, all.limit, c.self.invariant.hands) }
+    record { counted = all.counted; well = all.well; parties = c.self.invariant.parties; places = c.self.invariant.places; out_room = omega (arith, all.limit, c.self.invariant.out_room) }
 
 pub returns : goal.returns
 returns g c =

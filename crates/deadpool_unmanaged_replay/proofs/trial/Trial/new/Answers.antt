@@ -1,4 +1,4 @@
-use Rattle.std.proofs.Common.{refl, arith}
+use Rattle.deadpool_unmanaged_replay.proofs.Basics.{refl, arith}
 use Rattle.deadpool_unmanaged_replay.proofs.Well.{opened_well}
 use Rattle.deadpool_unmanaged_replay.proofs.trial.Trial.new.Goals as goal
 
@@ -14,5 +14,5 @@ invariant_of-result g c =
       well = opened_well c.args.max_size c.args.runtime c.args.parties;
       parties = omega (arith, c.in_ok-with_capacity.ensures.len);
       places = omega (arith, c.in_ok-with_capacity.ensures.capacity);
-      hands = omega (arith, c.in_ok-with_capacity-2.ensures.capacity);
+      out_room = omega (arith, c.in_ok-with_capacity-2.ensures.capacity);
     }

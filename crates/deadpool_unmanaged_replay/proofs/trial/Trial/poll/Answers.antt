@@ -1,9 +1,5 @@
-use Rattle.std.proofs.Common.{◌≡◌, ◌∙◌, Some, None, length, vec_len, arith, rules, map, refl, ap}
-use Rattle.std.specs.List.{slice_get}
-use Rattle.std.specs.Option.{option_map}
-use Rattle.std.proofs.lemmas.List.{length-map}
-use Rattle.std.proofs.lemmas.Option.{slice_get_read, slice_get_past, slice_get-map}
-use Rattle.deadpool_unmanaged_replay.specs.Image.{party_of}
+use Rattle.deadpool_unmanaged_replay.proofs.Basics.{◌≡◌, ◌∙◌, Some, None, length, vec_len, arith, rules, map, refl, ap, slice_get, option_map, length-map, slice_get_read, slice_get_past, slice_get-map}
+use Rattle.deadpool_unmanaged_replay.proofs.Words.{party_of}
 use Rattle.deadpool_unmanaged_replay.specs.declared.moves.Move.TheVariants as move
 use Rattle.deadpool_unmanaged_replay.specs.declared.moves.Reply.TheVariants as reply
 use Rattle.deadpool_unmanaged_replay.proofs.Parties.{stays}
@@ -47,7 +43,7 @@ hand_out-requires g c =
     let here : slice_get f.visitors.items c.args.party ≡ Some c.index_mut-visitor.result.now =
     slice_get_read f.visitors.items (length f.visitors.items) c.args.party c.index_mut-visitor.result.now refl (omega (arith, len, c.len.ensures, c.if-party-len.false)) c.index_mut-visitor.ensures.value in
     let all = visitor_polled f.runtime f.most_parties f.next f.core.pool f.visitors.items f.out.items c.self.invariant.counted c.self.invariant.well c.args.party c.args.now c.index_mut-visitor.result.now c.poll_visitor.new.visitor c.poll_visitor.result c.in-Some.turn c.poll_visitor.new.core.pool here c.in-Some.is c.poll_visitor.ensures in
-    omega (arith, all.well.lawful.room, all.limit, c.self.invariant.hands)
+    omega (arith, all.well.lawful.room, all.limit, c.self.invariant.out_room)
 
 pub invariant_of-self-in-Some : goal.invariant_of-self-in-Some
 invariant_of-self-in-Some g c =
@@ -58,7 +54,7 @@ invariant_of-self-in-Some g c =
     let all = visitor_polled f.runtime f.most_parties f.next f.core.pool f.visitors.items f.out.items c.self.invariant.counted c.self.invariant.well c.args.party c.args.now c.index_mut-visitor.result.now c.poll_visitor.new.visitor c.poll_visitor.result c.in-Some.turn c.poll_visitor.new.core.pool here c.in-Some.is c.poll_visitor.ensures in
     let i = c.self.invariant in
     rw c.hand_out.ensures.out
-    record { counted = all.counted; well = all.well; parties = i.parties; places = i.places; hands = omega (arith, all.limit, i.hands, c.hand_out.ensures.capacity) }
+    record { counted = all.counted; well = all.well; parties = i.parties; places = i.places; out_room = omega (arith, all.limit, i.out_room, c.hand_out.ensures.capacity) }
 
 pub returns-in-Some : goal.returns-in-Some
 returns-in-Some g c =

@@ -1,7 +1,5 @@
-use Rattle.std.proofs.Common.{rules, ◌≡◌, [], ◌∷◌, length, vec_len, arith, append_assoc, append-nil}
-use Rattle.std.specs.Vec.Iter.{into_iter_items, into_iter_len}
-use Rattle.deadpool_gate.proofs.Lists.{none_left, one_less}
-use Rattle.deadpool_unmanaged_replay.specs.Laws.{IsLawful}
+use Rattle.deadpool_unmanaged_replay.proofs.Basics.{rules, ◌≡◌, [], ◌∷◌, length, vec_len, arith, append_assoc, append-nil, into_iter_items, into_iter_len, none_left, one_less}
+use Rattle.deadpool_unmanaged_replay.proofs.Words.{IsLawful}
 use Rattle.deadpool_unmanaged_replay.proofs.Runs.{runs_more, runs_end, runs_lawful}
 use Rattle.deadpool_unmanaged_replay.proofs.trial.Trial.run.Goals as goal
 

@@ -1,8 +1,5 @@
-use Rattle.std.proofs.Common.{◌≡◌, ◌≤◌, List, ◌++◌, length, vec_len, vec_capacity, ◌+◌}
-use Rattle.std.specs.Vec.Iter.{into_iter_items, into_iter_len}
-use Rattle.deadpool_unmanaged_replay.specs.Pool.{Pool}
-use Rattle.deadpool_unmanaged_replay.specs.Moves.{PoolRuns}
-use Rattle.deadpool_unmanaged_replay.specs.declared.moves.Reply.{Reply}
+use Rattle.deadpool_unmanaged_replay.proofs.Basics.{◌≡◌, ◌≤◌, List, ◌++◌, length, vec_len, vec_capacity, ◌+◌, into_iter_items, into_iter_len}
+use Rattle.deadpool_unmanaged_replay.proofs.Words.{Pool, PoolRuns, Reply}
 use Rattle.deadpool_unmanaged_replay.proofs.trial.Trial.run.Given as goal
 
 -- what the moves that are left make from here, all the moves make from the beginning

@@ -1,7 +1,5 @@
-use Rattle.std.proofs.Common.{◌≡◌, nat_lt, true, false, rules, length, vec_len, arith, map}
-use Rattle.std.proofs.lemmas.Bool.{lt-ltb, le-ltb}
-use Rattle.std.proofs.lemmas.List.{length-map}
-use Rattle.deadpool_unmanaged_replay.specs.Image.{party_of}
+use Rattle.deadpool_unmanaged_replay.proofs.Basics.{◌≡◌, nat_lt, true, false, rules, length, vec_len, arith, map, lt-ltb, le-ltb, length-map}
+use Rattle.deadpool_unmanaged_replay.proofs.Words.{party_of}
 use Rattle.deadpool_unmanaged_replay.specs.declared.moves.Move.TheVariants as move
 use Rattle.deadpool_unmanaged_replay.specs.declared.moves.Reply.TheVariants as reply
 use Rattle.deadpool_unmanaged_replay.proofs.Parties.{no_handle, some_handle, stays, get_started}
@@ -40,7 +38,7 @@ invariant_of-self g c =
       well = all.well;
       parties = omega (arith, c.append.ensures.len, c.if-party-self.false, c.len-party.ensures);
       places = omega (arith, c.self.invariant.places, c.append.ensures.capacity);
-      hands = c.self.invariant.hands;
+      out_room = c.self.invariant.out_room;
     }
 
 pub returns : goal.returns

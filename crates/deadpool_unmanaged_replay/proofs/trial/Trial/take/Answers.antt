@@ -1,10 +1,9 @@
-use Rattle.std.proofs.Common.{◌≡◌, ◌∙◌, Some, None, sym, arith}
-use Rattle.deadpool_unmanaged_replay.specs.Steps.{find_item, item_number}
+use Rattle.deadpool_unmanaged_replay.proofs.Basics.{◌≡◌, ◌∙◌, Some, None, sym, arith, none_there}
+use Rattle.deadpool_unmanaged_replay.proofs.Words.{find_item, item_number}
 use Rattle.deadpool_unmanaged_replay.specs.declared.moves.Move.TheVariants as move
 use Rattle.deadpool_unmanaged_replay.specs.declared.moves.Reply.TheVariants as reply
 use Rattle.deadpool_unmanaged_replay.proofs.OtherMoves.{take_known, taken}
 use Rattle.deadpool_unmanaged_replay.proofs.Parties.{stays}
-use Rattle.deadpool_parts.proofs.Numbered.{none_there}
 use Rattle.deadpool_unmanaged_replay.proofs.trial.Trial.take.Goals as goal
 
 pub invariant_of-self : goal.invariant_of-self
@@ -13,7 +12,7 @@ invariant_of-self g c =
     let none : find_item c.args.number f.out.items ≡ None = sym c.take_out.ensures.item ∙ c.in-None.is in
     let same = c.take_out.ensures.items ∙ none_there item_number c.args.number f.out.items none in
     let i = c.self.invariant in
-    rw same record { counted = i.counted; well = i.well; parties = i.parties; places = i.places; hands = rw c.take_out.ensures.capacity i.hands }
+    rw same record { counted = i.counted; well = i.well; parties = i.parties; places = i.places; out_room = rw c.take_out.ensures.capacity i.out_room }
 
 pub returns-in-None : goal.returns-in-None
 returns-in-None g c =
@@ -34,7 +33,7 @@ invariant_of-self-in-Some g c =
     let f = c.self.inside in
     let here : find_item c.args.number f.out.items ≡ Some c.in-Some.item = sym c.take_out.ensures.item ∙ c.in-Some.is in
     let all = taken f.runtime f.most_parties f.next f.core.pool f.visitors.items f.out.items c.self.invariant.counted c.self.invariant.well c.args.number c.in-Some.item here c.take-reply.new.self.pool c.take-reply.result c.take-reply.ensures in
-    rw c.take_out.ensures.items record { counted = all.counted; well = all.well; parties = c.self.invariant.parties; places = c.self.invariant.places; hands = omega (arith, all.limit, c.self.invariant.hands, c.take_out.ensures.capacity) }
+    rw c.take_out.ensures.items record { counted = all.counted; well = all.well; parties = c.self.invariant.parties; places = c.self.invariant.places; out_room = omega (arith, all.limit, c.self.invariant.out_room, c.take_out.ensures.capacity) }
 
 pub returns-in-Some : goal.returns-in-Some
 returns-in-Some g c =

@@ -1,5 +1,4 @@
-use Rattle.std.proofs.Common.{arith, eq-eqb}
-use Rattle.deadpool_gate.specs.Numbers.{largest_usize}
+use Rattle.deadpool_unmanaged_replay.proofs.Basics.{arith, eq-eqb, largest_usize}
 use Rattle.deadpool_unmanaged_replay.specs.declared.moves.Move.TheVariants as move
 use Rattle.deadpool_unmanaged_replay.specs.declared.moves.Reply.TheVariants as reply
 use Rattle.deadpool_unmanaged_replay.proofs.OtherMoves.{at_once, tried_add}
@@ -37,7 +36,7 @@ invariant_of-self-2 g c =
     let some = some_handle c.has_handle.result f.core.pool.handles c.has_handle.ensures c.if-not-has_handle.false in
     let left = differs f.next largest_usize c.in-Ok.ensures.0 in
     let all = tried_add f.runtime f.most_parties f.next f.core.pool f.visitors.items f.out.items c.self.invariant.counted c.self.invariant.well some c.add_enter-reply.new.self.pool c.args.value left c.add_enter-reply.result (rw c.in-Ok.ensures.1 at c.add_enter-reply.ensures.enters) in
-    rw c.in-Ok.ensures.2 record { counted = all.counted; well = all.well; parties = c.self.invariant.parties; places = c.self.invariant.places; hands = omega (arith, all.limit, c.self.invariant.hands) }
+    rw c.in-Ok.ensures.2 record { counted = all.counted; well = all.well; parties = c.self.invariant.parties; places = c.self.invariant.places; out_room = omega (arith, all.limit, c.self.invariant.out_room) }
 
 pub returns : goal.returns
 returns g c =

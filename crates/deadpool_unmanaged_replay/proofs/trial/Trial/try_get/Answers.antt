@@ -1,4 +1,4 @@
-use Rattle.std.proofs.Common.{arith, rules, length, vec_len, ◌≡◌}
+use Rattle.deadpool_unmanaged_replay.proofs.Basics.{arith, rules, length, vec_len, ◌≡◌}
 use Rattle.deadpool_unmanaged_replay.proofs.Lawful.{length-with_item}
 use Rattle.deadpool_unmanaged_replay.specs.declared.moves.Move.TheVariants as move
 use Rattle.deadpool_unmanaged_replay.specs.declared.moves.Reply.TheVariants as reply
@@ -19,7 +19,7 @@ put_in-requires g c =
     let some = some_handle c.has_handle.result f.core.pool.handles c.has_handle.ensures c.if-not-has_handle.false in
     let all = try_get_object f.runtime f.most_parties f.next f.core.pool f.visitors.items f.out.items c.self.invariant.counted c.self.invariant.well some c.get_enter.new.self.pool c.in-Object.item c.in-Object.ensures.enters in
     let len : vec_len f.out ≡ length f.out.items = search rules in
-    omega (arith, all.well.lawful.room, all.limit, c.self.invariant.hands, len, length-with_item c.in-Object.item f.out.items)
+    omega (arith, all.well.lawful.room, all.limit, c.self.invariant.out_room, len, length-with_item c.in-Object.item f.out.items)
 
 pub invariant_of-self : goal.invariant_of-self
 invariant_of-self g c =
@@ -28,7 +28,7 @@ invariant_of-self g c =
     let all = try_get_object f.runtime f.most_parties f.next f.core.pool f.visitors.items f.out.items c.self.invariant.counted c.self.invariant.well some c.get_enter.new.self.pool c.in-Object.item c.in-Object.ensures.enters in
     let i = c.self.invariant in
     rw c.put_in.ensures.items
-    record { counted = all.counted; well = all.well; parties = i.parties; places = i.places; hands = omega (arith, all.limit, i.hands, c.put_in.ensures.capacity) }
+    record { counted = all.counted; well = all.well; parties = i.parties; places = i.places; out_room = omega (arith, all.limit, i.out_room, c.put_in.ensures.capacity) }
 
 pub returns-in-Object : goal.returns-in-Object
 returns-in-Object g c =

@@ -1,4 +1,4 @@
-use Rattle.std.proofs.Common.{arith}
+use Rattle.deadpool_unmanaged_replay.proofs.Basics.{arith}
 use Rattle.deadpool_unmanaged_replay.proofs.OtherMoves.{upgrades}
 use Rattle.deadpool_unmanaged_replay.proofs.trial.Trial.upgrade.Goals as goal
 
@@ -6,7 +6,7 @@ pub invariant_of-self : goal.invariant_of-self
 invariant_of-self g c =
     let f = c.self.inside in
     let all = upgrades f.runtime f.most_parties f.next f.core.pool f.visitors.items f.out.items c.self.invariant.counted c.self.invariant.well c.upgrade.result c.upgrade.new.self.pool c.upgrade.ensures in
-    record { counted = all.counted; well = all.well; parties = c.self.invariant.parties; places = c.self.invariant.places; hands = omega (arith, all.limit, c.self.invariant.hands) }
+    record { counted = all.counted; well = all.well; parties = c.self.invariant.parties; places = c.self.invariant.places; out_room = omega (arith, all.limit, c.self.invariant.out_room) }
 
 pub returns : goal.returns
 returns g c =
