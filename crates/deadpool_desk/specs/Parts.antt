@@ -2,6 +2,10 @@
 use Rattle.std.specs.Prelude.{◌≡◌, Option, Some, None}
 use Rattle.deadpool_desk.specs.declared.desk.Serving.{Serving}
 use Rattle.deadpool_desk.specs.declared.desk.Serving.TheVariants as serving
+use Rattle.deadpool_desk.specs.declared.desk.AgainReply.{AgainReply}
+use Rattle.deadpool_desk.specs.declared.desk.AgainReply.TheVariants as again
+use Rattle.deadpool_desk.specs.declared.desk.AskReply.{AskReply}
+use Rattle.deadpool_desk.specs.declared.desk.AskReply.TheVariants as ask
 use Rattle.deadpool_desk.specs.declared.desk.EnterReply.{EnterReply}
 use Rattle.deadpool_desk.specs.declared.desk.EnterReply.TheVariants as enter
 
@@ -22,3 +26,18 @@ module _ {O : Type 0} where
   IsParted whole enter.Full was place = (whole ≡ enter.Full) × (place ≡ was)
   IsParted whole (enter.Waiting ticket) was place = (whole ≡ enter.Waiting ticket) × (place ≡ was)
   IsParted whole enter.OutOfMemory was place = (whole ≡ enter.OutOfMemory) × (place ≡ was)
+
+  -- and of that to a get in the queue
+  abbrev pub IsPartedAsk : AskReply O → AskReply (Unit {0}) → Option O → Option O → Type 0
+  IsPartedAsk whole (ask.Served rest) was place =
+      (served : Serving O) × (IsPartedServing served rest was place × (whole ≡ ask.Served served))
+  IsPartedAsk whole ask.Closed was place = (whole ≡ ask.Closed) × (place ≡ was)
+  IsPartedAsk whole ask.Expired was place = (whole ≡ ask.Expired) × (place ≡ was)
+  IsPartedAsk whole ask.Waiting was place = (whole ≡ ask.Waiting) × (place ≡ was)
+  IsPartedAsk whole ask.Unknown was place = (whole ≡ ask.Unknown) × (place ≡ was)
+
+  -- and of that to a get that goes on
+  abbrev pub IsPartedAgain : AgainReply O → AgainReply (Unit {0}) → Option O → Option O → Type 0
+  IsPartedAgain whole (again.Served rest) was place =
+      (served : Serving O) × (IsPartedServing served rest was place × (whole ≡ again.Served served))
+  IsPartedAgain whole again.Unknown was place = (whole ≡ again.Unknown) × (place ≡ was)

@@ -12,7 +12,7 @@ ghost use Rattle.deadpool_parts.specs.declared.status.Status.{Status};
 ghost use Rattle.deadpool_desk.specs.Allowance.{IsWithinAllowance};
 ghost use Rattle.deadpool_desk.specs.Held.{held_if_served, held_if_entered, held_if_asked, held_if_asked_again, held_if_created, held_if_discarded, held_as};
 ghost use Rattle.deadpool_desk.specs.declared.desk.Holding.{Holding};
-ghost use Rattle.deadpool_desk.specs.Parts.{IsParted, IsPartedServing};
+ghost use Rattle.deadpool_desk.specs.Parts.{IsParted, IsPartedAgain, IsPartedAsk, IsPartedServing};
 ghost use Rattle.deadpool_desk.specs.Retained.{Retained};
 ghost use Rattle.deadpool_desk.specs.declared.retain.Retainer.{Ghosts as RetainerOf};
 ghost use Rattle.deadpool_desk.specs.declared.slot.Slot.{Slot};
@@ -168,24 +168,6 @@ impl<T> Serving<T> {
     }
 }
 
-impl<O: Drop> Serving<O> {
-    /// The rest of it, with an object that it gives put into `place`. What is there stays otherwise.
-    pub fn part(self, place: &mut Option<O>) -> Serving<()>
-        ensures parted { IsPartedServing self result place.old place.new }
-        ensures holding { held_if_served result ≡ held_if_served self }
-    {
-        match self {
-            Serving::Object(object, left) => {
-                *place = Some(object);
-                Serving::Object((), left)
-            }
-            Serving::Create => Serving::Create,
-            Serving::Going => Serving::Going,
-            Serving::Exhausted => Serving::Exhausted,
-        }
-    }
-}
-
 impl Serving<()> {
     /// The whole of it, with the object that was put into an empty place.
     pub(crate) fn with<O>(self, place: Option<O>) -> Serving<O>
@@ -248,6 +230,27 @@ impl<T> AskReply<T> {
     }
 }
 
+impl AskReply<()> {
+    /// The whole of it, with the object that was put into an empty place.
+    pub fn with<O>(self, place: Option<O>) -> AskReply<O>
+        requires { (whole : AskReply O) × IsPartedAsk whole self None place }
+        ensures whole { (whole : AskReply O) → IsPartedAsk whole self None place → result ≡ whole }
+        ensures holding { held_if_asked result ≡ held_if_asked self }
+    {
+        let reply = match self {
+            AskReply::Served(serving) => return AskReply::Served(serving.with(place)),
+            AskReply::Closed => AskReply::Closed,
+            AskReply::Expired => AskReply::Expired,
+            AskReply::Waiting => AskReply::Waiting,
+            AskReply::Unknown => AskReply::Unknown,
+        };
+        match place {
+            None => reply,
+            Some(_) => unreachable!(),
+        }
+    }
+}
+
 impl<T> AgainReply<T> {
     /// What a get that goes on holds after this reply.
     pub fn holding(&self) -> Holding
@@ -256,6 +259,22 @@ impl<T> AgainReply<T> {
         match self {
             AgainReply::Served(serving) => serving.holding(),
             AgainReply::Unknown => Holding::Nothing,
+        }
+    }
+}
+
+impl AgainReply<()> {
+    /// The whole of it, with the object that was put into an empty place.
+    pub fn with<O>(self, place: Option<O>) -> AgainReply<O>
+        requires { (whole : AgainReply O) × IsPartedAgain whole self None place }
+        ensures whole { (whole : AgainReply O) → IsPartedAgain whole self None place → result ≡ whole }
+        ensures allowed { (allowance : Option ℕ) → IsWithinAllowance allowance self → IsWithinAllowance allowance result }
+        ensures holding { held_if_asked_again result ≡ held_if_asked_again self }
+    {
+        match (self, place) {
+            (AgainReply::Served(serving), place) => AgainReply::Served(serving.with(place)),
+            (AgainReply::Unknown, None) => AgainReply::Unknown,
+            _ => unreachable!(),
         }
     }
 }
@@ -320,18 +339,45 @@ pub trait Desk<T> {
         rest.with(place)
     }
 
-    /// A get in the queue asks for its place. `expired` says that it has waited long enough.
+    /// A get in the queue asks for its place. `expired` says that it has waited long enough. An object that it is given
+    /// goes into `place`, and what is there stays otherwise.
+    fn ask_in(&mut self, ticket: Ticket, expired: bool, place: &mut Option<Slot<T>>) -> AskReply<()>
+        requires { holds self.old Holding.Nothing }
+        ensures asked { (whole : AskReply (Slot T)) × (asks self.old ticket expired whole self.new
+            × IsPartedAsk whole result place.old place.new) }
+        ensures holds { holds self.new (held_if_asked result) };
+
+    /// As `ask_in`, with the object in the reply.
     fn ask(&mut self, ticket: Ticket, expired: bool) -> AskReply<Slot<T>>
         requires { holds self.old Holding.Nothing }
         ensures asked { asks self.old ticket expired result self.new }
-        ensures holds { holds self.new (held_if_asked result) };
+        ensures holds { holds self.new (held_if_asked result) }
+    {
+        let mut place = None;
+        let rest = self.ask_in(ticket, expired, &mut place);
+        rest.with(place)
+    }
 
-    /// A get that holds a place is served. It may take so many idle objects; none set is as many as are idle.
+    /// A get that holds a place is served. It may take so many idle objects; none set is as many as are idle. An object
+    /// that it is given goes into `place`, and what is there stays otherwise.
+    fn again_in(&mut self, allowance: Option<usize>, place: &mut Option<Slot<T>>) -> AgainReply<()>
+        requires { holds self.old Holding.Place }
+        ensures served { (whole : AgainReply (Slot T)) × (asks_again self.old allowance whole self.new
+            × IsPartedAgain whole result place.old place.new) }
+        ensures allowed { IsWithinAllowance allowance result }
+        ensures holds { holds self.new (held_if_asked_again result) };
+
+    /// As `again_in`, with the object in the reply.
     fn again(&mut self, allowance: Option<usize>) -> AgainReply<Slot<T>>
         requires { holds self.old Holding.Place }
         ensures served { asks_again self.old allowance result self.new }
         ensures allowed { IsWithinAllowance allowance result }
-        ensures holds { holds self.new (held_if_asked_again result) };
+        ensures holds { holds self.new (held_if_asked_again result) }
+    {
+        let mut place = None;
+        let rest = self.again_in(allowance, &mut place);
+        rest.with(place)
+    }
 
     /// An idle object under preparation is given up, and its get keeps the place.
     fn discard(&mut self) -> StepReply

@@ -178,12 +178,21 @@ impl<T: Drop> Desk<T> for Core<T> {
         self.state.enter_in(wait, place)
     }
 
-    fn ask(&mut self, ticket: Ticket, expired: bool) -> AskReply<Slot<T>> {
-        self.state.ask(ticket, expired)
+    fn ask_in(
+        &mut self,
+        ticket: Ticket,
+        expired: bool,
+        place: &mut Option<Slot<T>>,
+    ) -> AskReply<()> {
+        self.state.ask_in(ticket, expired, place)
     }
 
-    fn again(&mut self, allowance: Option<usize>) -> AgainReply<Slot<T>> {
-        self.state.again(allowance)
+    fn again_in(
+        &mut self,
+        allowance: Option<usize>,
+        place: &mut Option<Slot<T>>,
+    ) -> AgainReply<()> {
+        self.state.again_in(allowance, place)
     }
 
     fn discard(&mut self) -> StepReply {

@@ -3,7 +3,7 @@ ghost use Rattle.std.specs.Prelude.{◌≡◌, ◌+◌, ◌-◌, ◌≤◌, ◌&
 ghost use Rattle.deadpool_desk.specs.Allowance.{IsWithinAllowance};
 ghost use Rattle.deadpool_desk.specs.DeskState.{least_idle, new_core, places, settled, next_idle, other_idle};
 ghost use Rattle.deadpool_desk.specs.DeskSteps.{Serves, surplus};
-ghost use Rattle.deadpool_desk.specs.Parts.{IsParted, IsPartedServing};
+ghost use Rattle.deadpool_desk.specs.Parts.{IsParted, IsPartedAgain, IsPartedAsk, IsPartedServing};
 ghost use Rattle.deadpool_desk.specs.CoreSteps.{Enters, Asks, AsksAgain, Discards, Creates, Fails, Refuses, TakesBack, Cancels, Takes, Resizes, Stands, Retains, RetainsNoting, Closes, Clones, DropsHandle, Upgrades, Tells, due_now};
 
 use crate::desk::{
@@ -229,17 +229,6 @@ impl<T: Drop> PoolState<T> {
         }
     }
 
-    // The same, with the object in the reply.
-    fn serve(&mut self, allowance: Option<usize>) -> Serving<Slot<T>>
-        requires { places self.old.desk + 1 ≤ self.old.desk.reserve }
-        ensures served { Serves self.old.desk allowance result self.new.desk }
-        ensures untold { self.new.untold ≡ self.old.untold }
-    {
-        let mut place = None;
-        let rest = self.serve_in(allowance, &mut place);
-        rest.with(place)
-    }
-
     /// A new get is served, joins the queue, or is refused.
     #[inline(always)]
     pub fn enter_in(&mut self, wait: bool, place: &mut Option<Slot<T>>) -> EnterReply<()>
@@ -259,12 +248,18 @@ impl<T: Drop> PoolState<T> {
         }
     }
 
-    /// A queued get is served, stays, or leaves the queue.
-    pub fn ask(&mut self, ticket: Ticket, expired: bool) -> AskReply<Slot<T>>
-        ensures { Asks self.old ticket expired result self.new }
+    /// A queued get is served, stays, or leaves the queue. An object that it is given goes into `place`.
+    pub fn ask_in(
+        &mut self,
+        ticket: Ticket,
+        expired: bool,
+        place: &mut Option<Slot<T>>,
+    ) -> AskReply<()>
+        ensures { (whole : AskReply (Slot T)) × (Asks self.old ticket expired whole self.new
+            × IsPartedAsk whole result place.old place.new) }
     {
         match self.gate.ask(ticket) {
-            Ask::Granted => AskReply::Served(self.serve(None)),
+            Ask::Granted => AskReply::Served(self.serve_in(None, place)),
             Ask::Closed => AskReply::Closed,
             Ask::Unknown => AskReply::Unknown,
             Ask::Waiting => {
@@ -278,16 +273,21 @@ impl<T: Drop> PoolState<T> {
         }
     }
 
-    /// A get that holds a place goes on.
-    pub fn again(&mut self, allowance: Option<usize>) -> AgainReply<Slot<T>>
-        ensures served { AsksAgain self.old allowance result self.new }
+    /// A get that holds a place goes on. An object that it is given goes into `place`.
+    pub fn again_in(
+        &mut self,
+        allowance: Option<usize>,
+        place: &mut Option<Slot<T>>,
+    ) -> AgainReply<()>
+        ensures served { (whole : AgainReply (Slot T)) × (AsksAgain self.old allowance whole self.new
+            × IsPartedAgain whole result place.old place.new) }
         ensures allowed { IsWithinAllowance allowance result }
     {
         if self.going == 0 {
             return AgainReply::Unknown;
         }
         self.going -= 1;
-        AgainReply::Served(self.serve(allowance))
+        AgainReply::Served(self.serve_in(allowance, place))
     }
 
     /// An object under preparation is given up. Its get keeps the place.

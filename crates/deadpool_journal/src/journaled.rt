@@ -218,15 +218,24 @@ impl<T: Drop> Desk<T> for Journaled<T> {
         reply
     }
 
-    fn ask(&mut self, ticket: Ticket, expired: bool) -> AskReply<Slot<T>> {
-        let reply = self.core.ask(ticket, expired);
-        self.log.add_ask(ticket, expired, &reply);
+    fn ask_in(
+        &mut self,
+        ticket: Ticket,
+        expired: bool,
+        place: &mut Option<Slot<T>>,
+    ) -> AskReply<()> {
+        let reply = self.core.ask_in(ticket, expired, place);
+        self.log.add_ask(ticket, expired, &reply, place);
         reply
     }
 
-    fn again(&mut self, allowance: Option<usize>) -> AgainReply<Slot<T>> {
-        let reply = self.core.again(allowance);
-        self.log.add_again(allowance, &reply);
+    fn again_in(
+        &mut self,
+        allowance: Option<usize>,
+        place: &mut Option<Slot<T>>,
+    ) -> AgainReply<()> {
+        let reply = self.core.again_in(allowance, place);
+        self.log.add_again(allowance, &reply, place);
         reply
     }
 

@@ -1,6 +1,8 @@
 //! A list of entries with room for so many.
 ghost use Rattle.std.specs.Prelude.{◌≡◌, ◌≤◌, IfOk, Option, length, nat_lt, true, option_copied, slice_get};
-ghost use Rattle.deadpool_desk.specs.Parts.{IsParted};
+ghost use Rattle.deadpool_desk.specs.Parts.{IsParted, IsPartedAgain, IsPartedAsk};
+ghost use Rattle.deadpool_desk.specs.declared.desk.AgainReply.{AgainReply};
+ghost use Rattle.deadpool_desk.specs.declared.desk.AskReply.{AskReply};
 ghost use Rattle.deadpool_desk.specs.declared.desk.EnterReply.{EnterReply};
 ghost use Rattle.deadpool_desk.specs.declared.slot.Slot.{Slot};
 ghost use Rattle.deadpool_journal.specs.ByNumber.{numbered_enter, numbered_ask, numbered_again, numbered_back};
@@ -98,24 +100,43 @@ impl Log {
         self.add(Entry::Enter(wait, in_place::entering(rest, place)));
     }
 
-    /// One entry more, of a get in the queue.
-    pub fn add_ask<T>(&mut self, ticket: Ticket, expired: bool, reply: &AskReply<Slot<T>>)
-        ensures { self.new ≡ noted (entry.Ask ticket expired (numbered_ask reply.now)) self.old }
+    /// One entry more, of a get in the queue, whose object is in its place.
+    pub fn add_ask<T>(
+        &mut self,
+        ticket: Ticket,
+        expired: bool,
+        rest: &AskReply<()>,
+        place: &Option<Slot<T>>,
+    )
+        requires { (whole : AskReply (Slot T)) × (was : Option (Slot T))
+            × IsPartedAsk whole rest.now was place.now }
+        ensures { (whole : AskReply (Slot T)) (was : Option (Slot T))
+            → IsPartedAsk whole rest.now was place.now
+            → self.new ≡ noted (entry.Ask ticket expired (numbered_ask whole)) self.old }
     {
         if self.is_full {
             return;
         }
-        self.add(Entry::Ask(ticket, expired, by_number::asking(reply)));
+        self.add(Entry::Ask(ticket, expired, in_place::asking(rest, place)));
     }
 
-    /// One entry more, of a get that goes on.
-    pub fn add_again<T>(&mut self, allowance: Option<usize>, reply: &AgainReply<Slot<T>>)
-        ensures { self.new ≡ noted (entry.Again allowance (numbered_again reply.now)) self.old }
+    /// One entry more, of a get that goes on, whose object is in its place.
+    pub fn add_again<T>(
+        &mut self,
+        allowance: Option<usize>,
+        rest: &AgainReply<()>,
+        place: &Option<Slot<T>>,
+    )
+        requires { (whole : AgainReply (Slot T)) × (was : Option (Slot T))
+            × IsPartedAgain whole rest.now was place.now }
+        ensures { (whole : AgainReply (Slot T)) (was : Option (Slot T))
+            → IsPartedAgain whole rest.now was place.now
+            → self.new ≡ noted (entry.Again allowance (numbered_again whole)) self.old }
     {
         if self.is_full {
             return;
         }
-        self.add(Entry::Again(allowance, by_number::asking_again(reply)));
+        self.add(Entry::Again(allowance, in_place::asking_again(rest, place)));
     }
 
     /// One entry more, of an object that comes back.

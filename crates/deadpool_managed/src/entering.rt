@@ -2,7 +2,9 @@
 ghost use Rattle.std.specs.Prelude.{◌≡◌, ◌≢◌, Option};
 ghost use Rattle.deadpool_managed.specs.Outside.{may};
 ghost use Rattle.deadpool_managed.specs.Get.{Made, Makes, AdvancesFrom, AfterServing, AfterEntered, AfterAsked, AfterAskedAgain};
-ghost use Rattle.deadpool_desk.specs.Parts.{IsParted, IsPartedServing};
+ghost use Rattle.deadpool_desk.specs.Parts.{IsParted, IsPartedAgain, IsPartedAsk, IsPartedServing};
+ghost use Rattle.deadpool_desk.specs.declared.desk.AgainReply.{AgainReply};
+ghost use Rattle.deadpool_desk.specs.declared.desk.AskReply.{AskReply};
 ghost use Rattle.deadpool_desk.specs.declared.desk.EnterReply.{EnterReply};
 ghost use Rattle.deadpool_desk.specs.declared.desk.Serving.{Serving};
 ghost use Rattle.deadpool_desk.specs.declared.slot.Slot.{Slot};
@@ -68,20 +70,25 @@ impl<M: Manager, A: AsyncHook<M>> Work<M, A> {
         }
     }
 
+    // The same of a get in the queue.
     pub(crate) fn after_asked(
         &mut self,
         ticket: Ticket,
         deadline: Option<Moment>,
-        reply: AskReply<Slot<M::Type>>,
+        rest: AskReply<()>,
     ) -> Came<M::Error>
-        requires { self.old.phase ≡ Phase.Finished }
-        ensures after { AfterAsked ticket deadline reply (stage_of self.new.phase self.new.slot) (turn_of result self.new.slot) }
+        requires finished { self.old.phase ≡ Phase.Finished }
+        requires parted { (whole : AskReply (Slot M.Type)) × (was : Option (Slot M.Type))
+            × IsPartedAsk whole rest was self.old.slot }
+        ensures after { (whole : AskReply (Slot M.Type)) (was : Option (Slot M.Type))
+            → IsPartedAsk whole rest was self.old.slot
+            → AfterAsked ticket deadline whole (stage_of self.new.phase self.new.slot) (turn_of result self.new.slot) }
         ensures placed { IsPlaced M.is_ready self.new.phase self.new.slot }
         ensures not_given { result ≢ Came.Given }
-        ensures holds { held_after (stage_of self.new.phase self.new.slot) (turn_of result self.new.slot) ≡ held_if_asked reply }
+        ensures holds { held_after (stage_of self.new.phase self.new.slot) (turn_of result self.new.slot) ≡ held_if_asked rest }
     {
-        match reply {
-            AskReply::Served(serving) => self.after_serving(serving),
+        match rest {
+            AskReply::Served(served) => self.after_served(served),
             AskReply::Closed | AskReply::Unknown => Came::Failed(PoolError::Closed),
             AskReply::Expired => Came::Failed(PoolError::Timeout(TimeoutType::Wait)),
             AskReply::Waiting => {
@@ -91,28 +98,22 @@ impl<M: Manager, A: AsyncHook<M>> Work<M, A> {
         }
     }
 
-    pub(crate) fn after_asked_again(&mut self, reply: AgainReply<Slot<M::Type>>) -> Came<M::Error>
-        requires { self.old.phase ≡ Phase.Finished }
-        ensures after { AfterAskedAgain reply (stage_of self.new.phase self.new.slot) (turn_of result self.new.slot) }
+    // And of a get that goes on.
+    pub(crate) fn after_asked_again(&mut self, rest: AgainReply<()>) -> Came<M::Error>
+        requires finished { self.old.phase ≡ Phase.Finished }
+        requires parted { (whole : AgainReply (Slot M.Type)) × (was : Option (Slot M.Type))
+            × IsPartedAgain whole rest was self.old.slot }
+        ensures after { (whole : AgainReply (Slot M.Type)) (was : Option (Slot M.Type))
+            → IsPartedAgain whole rest was self.old.slot
+            → AfterAskedAgain whole (stage_of self.new.phase self.new.slot) (turn_of result self.new.slot) }
         ensures placed { IsPlaced M.is_ready self.new.phase self.new.slot }
         ensures not_given { result ≢ Came.Given }
-        ensures holds { held_after (stage_of self.new.phase self.new.slot) (turn_of result self.new.slot) ≡ held_if_asked_again reply }
+        ensures holds { held_after (stage_of self.new.phase self.new.slot) (turn_of result self.new.slot) ≡ held_if_asked_again rest }
     {
-        match reply {
-            AgainReply::Served(serving) => self.after_serving(serving),
+        match rest {
+            AgainReply::Served(served) => self.after_served(served),
             AgainReply::Unknown => Came::Failed(PoolError::Closed),
         }
-    }
-
-    // After a serving whose object comes with it.
-    fn after_serving(&mut self, serving: Serving<Slot<M::Type>>) -> Came<M::Error>
-        ensures after { AfterServing serving (stage_of self.new.phase self.new.slot) (turn_of result self.new.slot) }
-        ensures placed { IsPlaced M.is_ready self.new.phase self.new.slot }
-        ensures not_given { result ≢ Came.Given }
-        ensures holds { held_after (stage_of self.new.phase self.new.slot) (turn_of result self.new.slot) ≡ held_if_served serving }
-    {
-        let rest = serving.part(&mut self.slot);
-        self.after_served(rest)
     }
 
     // After a serving whose object is in its place.

@@ -202,12 +202,12 @@ impl<M: Manager, A: AsyncHook<M>> Work<M, A> {
             Phase::Unpolled => Came::Pending,
             Phase::Served(_) => Came::Pending,
             Phase::Queued(ticket, deadline) => {
-                let reply = desk.ask(ticket, is_reached(deadline, now));
-                self.after_asked(ticket, deadline, reply)
+                let rest = desk.ask_in(ticket, is_reached(deadline, now), &mut self.slot);
+                self.after_asked(ticket, deadline, rest)
             }
             Phase::Going(allowance) => {
-                let reply = desk.again(allowance);
-                self.after_asked_again(reply)
+                let rest = desk.again_in(allowance, &mut self.slot);
+                self.after_asked_again(rest)
             }
             Phase::Creating(begun, deadline) => match begun {
                 None => self.begin_creation(timeouts, desk, environment, now, cx),

@@ -1,6 +1,8 @@
 //! The steps that change a pool's three counts, with what they do to them.
 ghost use Rattle.std.specs.Prelude.{◌≡◌, ◌≢◌, ◌<◌, true, IfSome};
-ghost use Rattle.deadpool_desk.specs.Parts.{IsParted};
+ghost use Rattle.deadpool_desk.specs.Parts.{IsParted, IsPartedAgain, IsPartedAsk};
+ghost use Rattle.deadpool_desk.specs.declared.desk.AgainReply.{AgainReply};
+ghost use Rattle.deadpool_desk.specs.declared.desk.AskReply.{AskReply};
 ghost use Rattle.deadpool_desk.specs.declared.desk.EnterReply.{EnterReply};
 ghost use Rattle.deadpool_desk.specs.declared.slot.Slot.{Slot};
 ghost use Rattle.deadpool_desk.specs.Allowance.{IsWithinAllowance};
@@ -31,21 +33,32 @@ pub fn enter_in<T: Drop>(
     pool.enter_in(wait, place)
 }
 
-pub fn ask<T: Drop>(pool: &mut Journaled<T>, ticket: Ticket, expired: bool) -> AskReply<Slot<T>>
-    ensures noted { AsksNoted pool.old ticket expired result pool.new }
+pub fn ask_in<T: Drop>(
+    pool: &mut Journaled<T>,
+    ticket: Ticket,
+    expired: bool,
+    place: &mut Option<Slot<T>>,
+) -> AskReply<()>
+    ensures noted { (whole : AskReply (Slot T)) × (AsksNoted pool.old ticket expired whole pool.new
+        × IsPartedAsk whole result place.old place.new) }
     ensures counts { counted pool.new ≡ shifted Holding.Nothing (held_if_asked result) (counted pool.old) }
 {
-    pool.ask(ticket, expired)
+    pool.ask_in(ticket, expired, place)
 }
 
-pub fn again<T: Drop>(pool: &mut Journaled<T>, allowance: Option<usize>) -> AgainReply<Slot<T>>
+pub fn again_in<T: Drop>(
+    pool: &mut Journaled<T>,
+    allowance: Option<usize>,
+    place: &mut Option<Slot<T>>,
+) -> AgainReply<()>
     requires { 0 < pool.old.core.desk.going }
-    ensures noted { AsksAgainNoted pool.old allowance result pool.new }
+    ensures noted { (whole : AgainReply (Slot T)) × (AsksAgainNoted pool.old allowance whole pool.new
+        × IsPartedAgain whole result place.old place.new) }
     ensures known { IsServed result }
     ensures counts { counted pool.new ≡ shifted Holding.Place (held_if_asked_again result) (counted pool.old) }
     ensures allowed { IsWithinAllowance allowance result }
 {
-    pool.again(allowance)
+    pool.again_in(allowance, place)
 }
 
 pub fn discard<T: Drop>(pool: &mut Journaled<T>) -> StepReply

@@ -3,7 +3,9 @@ ghost use Rattle.std.specs.Prelude.{◌≡◌, ◌≢◌, ◌<◌, ◌≤◌, no
 ghost use Rattle.deadpool_desk.specs.CoreSteps.{due_now};
 ghost use Rattle.deadpool_desk.specs.Held.{held_if_entered, held_if_asked, held_if_asked_again, held_as};
 ghost use Rattle.deadpool_desk.specs.Allowance.{IsWithinAllowance};
-ghost use Rattle.deadpool_desk.specs.Parts.{IsParted};
+ghost use Rattle.deadpool_desk.specs.Parts.{IsParted, IsPartedAgain, IsPartedAsk};
+ghost use Rattle.deadpool_desk.specs.declared.desk.AgainReply.{AgainReply};
+ghost use Rattle.deadpool_desk.specs.declared.desk.AskReply.{AskReply};
 ghost use Rattle.deadpool_desk.specs.declared.desk.EnterReply.{EnterReply};
 ghost use Rattle.deadpool_desk.specs.declared.desk.Holding.{Holding};
 ghost use Rattle.deadpool_desk.specs.declared.slot.Slot.{Slot};
@@ -117,18 +119,20 @@ impl<T: Drop, L: Ledgers> Locked<T, L> {
         reply
     }
 
-    /// A queued get. If it stays queued its waker is exchanged, otherwise the kept one is in `spare`.
-    pub fn ask(
+    /// A queued get. An object that it is given goes into `place`. If it stays queued its waker is exchanged, otherwise the kept one is in `spare`.
+    pub fn ask_in(
         &mut self,
         shares: &mut Shares<L>,
         waker: &mut Option<Waker>,
         spare: &mut Option<Waker>,
         ticket: Ticket,
         expired: bool,
-    ) -> AskReply<Slot<T>>
+        place: &mut Option<Slot<T>>,
+    ) -> AskReply<()>
         requires { shares.old ≡ counts_of Holding.Nothing }
         ensures holds { shares.new ≡ counts_of (held_if_asked result) }
-        ensures asked { AsksNoted self.old.pool ticket expired result self.new.pool }
+        ensures asked { (whole : AskReply (Slot T)) × (AsksNoted self.old.pool ticket expired whole self.new.pool
+            × IsPartedAsk whole result place.old place.new) }
         ensures wakers { Follows (Some ticket) (ticket_if_asked ticket result) self.old.wakers waker.old spare.new self.new.wakers waker.new }
     {
         let Locked {
@@ -137,24 +141,30 @@ impl<T: Drop, L: Ledgers> Locked<T, L> {
             wakers,
             ..
         } = self;
-        let reply = counted::ask(pool, ticket, expired);
+        let reply = counted::ask_in(pool, ticket, expired, place);
         books.shift(shares, Holding::Nothing, reply.holding());
         *spare = wakers.follow(Some(ticket), still_queued(ticket, &reply), waker);
         reply
     }
 
-    /// A get that holds a place goes on.
-    pub fn again(&mut self, shares: &mut Shares<L>, allowance: Option<usize>) -> AgainReply<Slot<T>>
+    /// A get that holds a place goes on. An object that it is given goes into `place`.
+    pub fn again_in(
+        &mut self,
+        shares: &mut Shares<L>,
+        allowance: Option<usize>,
+        place: &mut Option<Slot<T>>,
+    ) -> AgainReply<()>
         requires { shares.old ≡ counts_of Holding.Place }
         ensures holds { shares.new ≡ counts_of (held_if_asked_again result) }
         ensures known { IsServed result }
-        ensures asked { AsksAgainNoted self.old.pool allowance result self.new.pool }
+        ensures asked { (whole : AgainReply (Slot T)) × (AsksAgainNoted self.old.pool allowance whole self.new.pool
+            × IsPartedAgain whole result place.old place.new) }
         ensures wakers { self.new.wakers ≡ self.old.wakers }
         ensures allowed { IsWithinAllowance allowance result }
     {
         let Locked { pool, books, .. } = self;
         books.audit(shares);
-        let reply = counted::again(pool, allowance);
+        let reply = counted::again_in(pool, allowance, place);
         books.shift(shares, Holding::Place, reply.holding());
         reply
     }
@@ -380,7 +390,7 @@ fn keep_waker(wakers: &mut Wakers, reply: &EnterReply<()>, waker: &mut Option<Wa
 }
 
 // The ticket of a get that stays queued after this reply.
-fn still_queued<T>(ticket: Ticket, reply: &AskReply<Slot<T>>) -> Option<Ticket>
+fn still_queued(ticket: Ticket, reply: &AskReply<()>) -> Option<Ticket>
     ensures { result ≡ ticket_if_asked ticket reply.now }
 {
     match reply {

@@ -112,28 +112,54 @@ impl<'a, M: Manager, F: SyncHook<M>, A: AsyncHook<M>, C: Clock, R: Wait + Drop, 
         rest.with(place)
     }
 
-    fn ask(&mut self, ticket: Ticket, expired: bool) -> AskReply<Slot<M::Type>> {
+    fn ask_in(
+        &mut self,
+        ticket: Ticket,
+        expired: bool,
+        place: &mut Option<Slot<M::Type>>,
+    ) -> AskReply<()> {
         let Some(shares) = &mut self.shares else {
             return AskReply::Unknown;
         };
         let mut spare = None;
         let mut step = self.shared.lock.begin();
-        let reply = step
-            .kept()
-            .ask(shares, self.listener.waker(), &mut spare, ticket, expired);
+        let reply = step.kept().ask_in(
+            shares,
+            self.listener.waker(),
+            &mut spare,
+            ticket,
+            expired,
+            place,
+        );
         self.shared.lock.end(step);
         drop(spare);
         reply
     }
 
-    fn again(&mut self, allowance: Option<usize>) -> AgainReply<Slot<M::Type>> {
+    fn ask(&mut self, ticket: Ticket, expired: bool) -> AskReply<Slot<M::Type>> {
+        let mut place = None;
+        let rest = self.ask_in(ticket, expired, &mut place);
+        rest.with(place)
+    }
+
+    fn again_in(
+        &mut self,
+        allowance: Option<usize>,
+        place: &mut Option<Slot<M::Type>>,
+    ) -> AgainReply<()> {
         let Some(shares) = &mut self.shares else {
             unreachable!();
         };
         let mut step = self.shared.lock.begin();
-        let reply = step.kept().again(shares, allowance);
+        let reply = step.kept().again_in(shares, allowance, place);
         self.shared.lock.end(step);
         reply
+    }
+
+    fn again(&mut self, allowance: Option<usize>) -> AgainReply<Slot<M::Type>> {
+        let mut place = None;
+        let rest = self.again_in(allowance, &mut place);
+        rest.with(place)
     }
 
     fn discard(&mut self) -> StepReply {

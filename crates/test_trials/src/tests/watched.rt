@@ -72,8 +72,25 @@ impl<'a, T: Drop> Desk<T> for Watched<'a, T> {
         self.core.enter(wait)
     }
 
+    fn ask_in(
+        &mut self,
+        ticket: Ticket,
+        expired: bool,
+        place: &mut Option<Slot<T>>,
+    ) -> AskReply<()> {
+        self.core.ask_in(ticket, expired, place)
+    }
+
     fn ask(&mut self, ticket: Ticket, expired: bool) -> AskReply<Slot<T>> {
         self.core.ask(ticket, expired)
+    }
+
+    fn again_in(
+        &mut self,
+        allowance: Option<usize>,
+        place: &mut Option<Slot<T>>,
+    ) -> AgainReply<()> {
+        self.core.again_in(allowance, place)
     }
 
     fn again(&mut self, allowance: Option<usize>) -> AgainReply<Slot<T>> {

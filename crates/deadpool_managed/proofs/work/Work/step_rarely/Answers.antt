@@ -7,12 +7,16 @@ use Rattle.deadpool_managed.proofs.work.Work.step_rarely.Goals as goal
 pub returns-in-Queued-clause-advanced : goal.returns-in-Queued-clause-advanced
 returns-in-Queued-clause-advanced g c =
     let at : c.args.self.now.phase ≡ Queued c.in-Queued.ticket c.in-Queued.deadline = cc in
-    rw at (asking c.in-Queued.ticket c.is_reached.result c.ask-reply.result, (c.ask-reply.ensures.asked, (refl, c.is_reached.ensures, c.after_asked.ensures.after)))
+    let asked = c.ask_in-rest.ensures.asked in
+    let after = c.after_asked.ensures.after asked.0 c.args.self.now.slot asked.1.1 in
+    rw at (asking c.in-Queued.ticket c.is_reached.result asked.0, (asked.1.0, (refl, c.is_reached.ensures, after)))
 
 pub returns-in-Going-clause-advanced : goal.returns-in-Going-clause-advanced
 returns-in-Going-clause-advanced g c =
     let at : c.args.self.now.phase ≡ Going c.in-Going.allowance = cc in
-    rw at (asking_again c.in-Going.allowance c.again-reply.result, (c.again-reply.ensures.served, (refl, c.after_asked_again.ensures.after)))
+    let served = c.again_in-rest.ensures.served in
+    let after = c.after_asked_again.ensures.after served.0 c.args.self.now.slot served.1.1 in
+    rw at (asking_again c.in-Going.allowance served.0, (served.1.0, (refl, after)))
 
 pub returns-in-Finished-clause-advanced : goal.returns-in-Finished-clause-advanced
 returns-in-Finished-clause-advanced g c =

@@ -1,9 +1,10 @@
-use Rattle.std.proofs.Common.{◌∙◌, None, not, subst, ap}
+use Rattle.std.proofs.Common.{◌∙◌, None, not, refl, subst, ap}
 use Rattle.deadpool_gate.specs.Gate.{without_waiter, untold_tickets}
 use Rattle.deadpool_gate.proofs.GateAnswers.{asked-granted, asked-waiting, asked-closed, asked-unknown}
 use Rattle.deadpool_desk.specs.DeskSteps.{Serves}
+use Rattle.deadpool_desk.specs.declared.desk.AskReply.TheVariants as reply
 use Rattle.deadpool_desk.proofs.CoreQueue.{IsSound-without, places-without, desk_of-same, desk_of-unqueued, untold-without}
-use Rattle.deadpool_desk.proofs.state.PoolState.ask.Goals as goal
+use Rattle.deadpool_desk.proofs.state.PoolState.ask_in.Goals as goal
 
 pub invariant_of-self : goal.invariant_of-self
 invariant_of-self g c =
@@ -11,8 +12,8 @@ invariant_of-self g c =
     let was = asked-granted _ c.args.ticket _ line c.in-Granted.ensures.answer in
     IsSound-without c.self.inside c.ask.new.self c.args.ticket c.self.invariant line (c.ask.ensures.waiters ∙ was.2)
 
-pub serve-requires : goal.serve-requires
-serve-requires g c =
+pub serve_in-requires : goal.serve_in-requires
+serve_in-requires g c =
     let line = c.ask.ensures.line in
     let was = asked-granted _ c.args.ticket _ line c.in-Granted.ensures.answer in
     places-without c.self.inside c.ask.new.self c.args.ticket c.self.invariant line was.1 (c.ask.ensures.waiters ∙ was.2)
@@ -23,7 +24,9 @@ returns-in-Granted g c =
     let was = asked-granted _ c.args.ticket _ line c.in-Granted.ensures.answer in
     let left = desk_of-unqueued c.self.inside c.ask.new.self c.args.ticket line (c.ask.ensures.waiters ∙ was.2) c.ask.ensures.closed in
     let untold = untold-without c.self.inside c.ask.new.self c.args.ticket line (c.ask.ensures.waiters ∙ was.2) in
-    rw (← c.self.view_is) ((ap not was.0, was.1, subst (λ d. Serves d None c.serve.result c.serve.new.self.desk) left c.serve.ensures.served), c.serve.ensures.untold ∙ untold)
+    let served = c.serve_in.ensures.served in
+    let serves = subst (λ d. Serves d None served.0 c.serve_in.new.self.desk) left served.1.0 in
+    rw (← c.self.view_is) (reply.Served served.0, (((ap not was.0, was.1, serves), c.serve_in.ensures.untold ∙ untold), (served.0, (served.1.1, refl))))
 
 pub invariant_of-self-in-Closed : goal.invariant_of-self-in-Closed
 invariant_of-self-in-Closed g c =
@@ -37,14 +40,14 @@ returns-in-Closed g c =
     let was = asked-closed _ c.args.ticket _ line c.in-Closed.ensures.answer in
     let gone = c.ask.ensures.waiters ∙ was.2 in
     let left = desk_of-unqueued c.self.inside c.ask.new.self c.args.ticket line gone c.ask.ensures.closed in
-    rw (← c.self.view_is) ((ap not was.0, was.1, left), untold-without c.self.inside c.ask.new.self c.args.ticket line gone)
+    rw (← c.self.view_is) (reply.Closed, (((ap not was.0, was.1, left), untold-without c.self.inside c.ask.new.self c.args.ticket line gone), (refl, refl)))
 
 pub returns-in-Unknown : goal.returns-in-Unknown
 returns-in-Unknown g c =
     let line = c.ask.ensures.line in
     let was = asked-unknown _ c.args.ticket _ line c.in-Unknown.ensures.answer in
     let same = c.ask.ensures.waiters ∙ was.1 in
-    rw (← c.self.view_is) ((was.0, desk_of-same c.self.inside c.ask.new.self same c.ask.ensures.closed), ap untold_tickets same)
+    rw (← c.self.view_is) (reply.Unknown, (((was.0, desk_of-same c.self.inside c.ask.new.self same c.ask.ensures.closed), ap untold_tickets same), (refl, refl)))
 
 pub invariant_of-self-then-expired : goal.invariant_of-self-then-expired
 invariant_of-self-then-expired g c =
@@ -59,11 +62,11 @@ returns-then-expired g c =
     let was = asked-waiting _ c.args.ticket _ line c.in-Waiting.ensures.answer in
     let gone = c.withdraw.ensures.waiters ∙ ap (without_waiter c.args.ticket) (c.ask.ensures.waiters ∙ was.3) in
     let left = desk_of-unqueued c.self.inside c.withdraw.new.self c.args.ticket line gone (c.withdraw.ensures.closed ∙ c.ask.ensures.closed) in
-    rw (← c.self.view_is) ((ap not was.0, was.1, was.2, c.if-expired.true, left), untold-without c.self.inside c.withdraw.new.self c.args.ticket line gone)
+    rw (← c.self.view_is) (reply.Expired, (((ap not was.0, was.1, was.2, c.if-expired.true, left), untold-without c.self.inside c.withdraw.new.self c.args.ticket line gone), (refl, refl)))
 
 pub returns-else-expired : goal.returns-else-expired
 returns-else-expired g c =
     let line = c.ask.ensures.line in
     let was = asked-waiting _ c.args.ticket _ line c.in-Waiting.ensures.answer in
     let same = c.ask.ensures.waiters ∙ was.3 in
-    rw (← c.self.view_is) ((ap not was.0, was.1, was.2, c.if-expired.false, desk_of-same c.self.inside c.ask.new.self same c.ask.ensures.closed), ap untold_tickets same)
+    rw (← c.self.view_is) (reply.Waiting, (((ap not was.0, was.1, was.2, c.if-expired.false, desk_of-same c.self.inside c.ask.new.self same c.ask.ensures.closed), ap untold_tickets same), (refl, refl)))
