@@ -11,6 +11,8 @@ pub mod Retains
 pub mod CoreState
 pub mod CoreSteps
 pub mod Settled
+-- What a pool counts.
+pub mod Counts
 -- What every desk keeps: of an allowance, and of what a get holds.
 pub mod Allowance
 pub mod Held

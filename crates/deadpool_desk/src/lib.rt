@@ -4,6 +4,7 @@
 //! a manager or a hook; a retain asks its retainer (`retain`, `review`).
 #![tactic(auto)]
 
+mod counts;
 mod desk;
 mod metrics;
 mod object_id;
@@ -13,6 +14,7 @@ mod settled;
 mod slot;
 mod state;
 
+pub use counts::Counts;
 pub use deadpool_gate::gate;
 pub use deadpool_parts::config::QueueMode;
 pub use deadpool_parts::{HandleReply, Moment, Status, StepReply};

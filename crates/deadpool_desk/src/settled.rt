@@ -3,6 +3,8 @@ ghost use Rattle.std.specs.Prelude.{◌≡◌, ◌≤◌, ◌&&◌, ◌==◌, �
 ghost use Rattle.deadpool_gate.specs.Orders.{IsOnce};
 ghost use Rattle.deadpool_desk.specs.DeskState.{new_core, places};
 ghost use Rattle.deadpool_desk.specs.DeskSteps.{surplus};
+ghost use Rattle.deadpool_gate.specs.Numbers.{has_number};
+ghost use Rattle.deadpool_desk.specs.Counts.{counts_of};
 ghost use Rattle.deadpool_desk.specs.CoreSteps.{Enters, Asks, AsksAgain, Discards, Creates, Fails, Refuses, TakesBack, Cancels, Takes, Resizes, Stands, Retains, RetainsNoting, Closes, Clones, DropsHandle, Upgrades, Tells, due_now};
 ghost use Rattle.deadpool_desk.specs.Settled.{NobodyWaits};
 
@@ -11,7 +13,9 @@ use crate::desk::{
 };
 use crate::gate::Ticket;
 use crate::state::PoolState;
-use crate::{HandleReply, QueueMode, Removals, RetainResult, Retainer, Slot, Status, StepReply};
+use crate::{
+    Counts, HandleReply, QueueMode, Removals, RetainResult, Retainer, Slot, Status, StepReply,
+};
 use std::alloc::{AllocError, Global};
 use std::marker::Model;
 
@@ -101,6 +105,21 @@ impl<T: Drop> Core<T> {
         ensures { result ≡ (self.now.desk.is_open && nat_le self.now.desk.limit (places self.now.desk)) }
     {
         self.state.would_queue()
+    }
+
+    /// What the pool counts.
+    pub fn counts(&self) -> Counts
+        ensures { result ≡ counts_of self.now.desk }
+    {
+        self.state.counts()
+    }
+
+    /// Whether the get in the queue with this ticket was granted a place, which it has not taken yet. Nothing changes.
+    pub fn is_granted(&mut self, ticket: Ticket) -> bool
+        ensures granted { result ≡ has_number ticket self.old.desk.granted }
+        ensures same { self.new ≡ self.old }
+    {
+        self.state.is_granted(ticket)
     }
 
     /// The number of the ticket that the next get in the queue has.

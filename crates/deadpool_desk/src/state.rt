@@ -6,6 +6,8 @@ ghost use Rattle.deadpool_desk.specs.DeskSteps.{Serves, surplus};
 ghost use Rattle.deadpool_desk.specs.Parts.{IsParted, IsPartedAgain, IsPartedAsk, IsPartedServing};
 ghost use Rattle.deadpool_desk.specs.CoreSteps.{Enters, Asks, AsksAgain, Discards, Creates, Fails, Refuses, TakesBack, Cancels, Takes, Resizes, Stands, Retains, RetainsNoting, Closes, Clones, DropsHandle, Upgrades, Tells, due_now};
 
+mod counted;
+
 use crate::desk::{
     AgainReply, AskReply, BackReply, CreatedReply, EnterReply, Held, Serving, TakeReply,
 };

@@ -5,6 +5,7 @@ ghost use Rattle.std.specs.Option.{option_map};
 ghost use Rattle.deadpool_gate.specs.Gate.{find_waiter, without_waiter, grant_next, grant, granted_count, waiting_count, granted_tickets, waiting_tickets, untold_tickets, grant_count, entry_at_once, Joins, answer_of, asked, withdrawn_as, tell_next, due_ticket, RisesAtMost, touched, IsLine};
 ghost use Rattle.deadpool_gate.specs.GateLinks.{moved_on, ChangesAt};
 ghost use Rattle.deadpool_gate.specs.GateNodes.{changed};
+ghost use Rattle.deadpool_gate.specs.Numbers.{has_number};
 ghost use Rattle.deadpool_gate.specs.Waking.{next_due, still_untold};
 ghost use Rattle.slab.specs.Slab.{slab_len};
 
@@ -280,6 +281,23 @@ impl Gate {
     {
         let node = self.store.read(key)?;
         Some(node.granted)
+    }
+
+    /// Whether a waiter is listed under the ticket and has a place. It stays as it is.
+    pub fn has_place(&mut self, ticket: Ticket) -> bool
+        ensures has { result ≡ has_number ticket (granted_tickets self.old.waiters) }
+        ensures waiters { self.new.waiters ≡ self.old.waiters }
+        ensures closed { self.new.is_closed ≡ self.old.is_closed }
+        ensures capacity { self.new.capacity ≡ self.old.capacity }
+        ensures next { self.new.next_ticket ≡ self.old.next_ticket }
+        ensures accesses { RisesAtMost 1 self.old.accesses self.new.accesses }
+        ensures mark { self.new.mark ≡ self.old.accesses }
+    {
+        self.mark = self.store.accesses();
+        match self.store.read(ticket.number) {
+            Some(node) => node.granted,
+            None => false,
+        }
     }
 
     /// Says how a waiter stands. After `Closed` or `Granted` it has left the list, and its ticket is void. After

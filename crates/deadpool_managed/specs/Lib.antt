@@ -9,6 +9,7 @@ pub mod Prepare
 -- A get: how far it is, what one advance and one poll make of it, and what it holds.
 pub mod Stages
 pub mod Held
+pub mod Kinds
 pub mod Get
 pub mod Bounds
 pub mod FirstPoll

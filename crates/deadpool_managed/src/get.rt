@@ -7,13 +7,16 @@ ghost use Rattle.deadpool_managed.specs.Bounds.{Falls};
 ghost use Rattle.deadpool_managed.specs.Outside.{may};
 ghost use Rattle.deadpool_managed.specs.Get.{Made, Makes, AdvancesFrom, IfReadyObject, PollsOver, CancelsFrom, deadline_of};
 ghost use Rattle.deadpool_managed.specs.Held.{is_going, held_at, held_after};
+ghost use Rattle.deadpool_managed.specs.Kinds.{kind_of};
 ghost use Rattle.deadpool_desk.specs.declared.desk.Holding.{Holding};
 ghost use Rattle.deadpool_managed.specs.declared.get.Stage.TheVariants.{Unpolled};
 
 use crate::gate::Ticket;
 use crate::prepare::{Position, Preparation};
 use crate::progress::Progress;
-use crate::{AsyncHook, Environment, Manager, Moment, PoolError, Slot, SyncHook, Timeouts};
+use crate::{
+    AsyncHook, Environment, Manager, Moment, PoolError, Slot, StageKind, SyncHook, Timeouts,
+};
 use deadpool_desk::Desk;
 use futures::task::Context;
 use std::marker::Model;
@@ -89,6 +92,13 @@ impl<M: Manager, A: AsyncHook<M>> GetState<M, A> {
         ensures { result ≡ is_going self.now.stage }
     {
         self.progress.is_going()
+    }
+
+    /// How far the get is, by name.
+    pub fn kind(&self) -> StageKind
+        ensures { result ≡ kind_of self.now.stage }
+    {
+        self.progress.kind()
     }
 
     /// One step of the get, with at most one step at the desk. A get that has ended stays pending.

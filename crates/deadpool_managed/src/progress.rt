@@ -5,11 +5,12 @@ ghost use Rattle.deadpool_managed.specs.Bounds.{Falls};
 ghost use Rattle.deadpool_managed.specs.Outside.{may};
 ghost use Rattle.deadpool_managed.specs.Get.{Made, Makes, AdvancesFrom, IfReadyObject, PollsOver, CancelsFrom, deadline_of};
 ghost use Rattle.deadpool_managed.specs.Held.{is_going, held_at, held_after};
+ghost use Rattle.deadpool_managed.specs.Kinds.{kind_of};
 ghost use Rattle.deadpool_desk.specs.declared.desk.Holding.{Holding};
 ghost use Rattle.deadpool_managed.specs.Phases.{stage_of, turn_of};
 
 use crate::work::{Came, Phase, Work};
-use crate::{AsyncHook, Environment, Manager, Moment, Slot, SyncHook, Timeouts, Turn};
+use crate::{AsyncHook, Environment, Manager, Moment, Slot, StageKind, SyncHook, Timeouts, Turn};
 use deadpool_desk::Desk;
 use futures::task::Context;
 use std::marker::Model;
@@ -51,6 +52,13 @@ impl<M: Manager, A: AsyncHook<M>> Progress<M, A> {
         ensures { result ≡ is_going (stage_of self.now.phase self.now.slot) }
     {
         self.work.is_going()
+    }
+
+    /// How far the get is, by name.
+    pub fn kind(&self) -> StageKind
+        ensures { result ≡ kind_of (stage_of self.now.phase self.now.slot) }
+    {
+        self.work.kind()
     }
 
     /// One step of the get, with at most one step at the desk. A get that has ended stays pending.

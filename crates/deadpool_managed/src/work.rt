@@ -7,6 +7,7 @@ ghost use Rattle.deadpool_managed.specs.Bounds.{lacks_allowance, Falls};
 ghost use Rattle.deadpool_managed.specs.Outside.{may};
 ghost use Rattle.deadpool_managed.specs.Get.{Made, Makes, AdvancesFrom, IfReadyObject, PollsOver, CancelsFrom, deadline_of};
 ghost use Rattle.deadpool_managed.specs.Held.{is_going, held_at, held_after};
+ghost use Rattle.deadpool_managed.specs.Kinds.{kind_of};
 ghost use Rattle.deadpool_desk.specs.declared.desk.Holding.{Holding};
 ghost use Rattle.deadpool_parts.specs.declared.replies.StepReply.{StepReply};
 ghost use Rattle.deadpool_managed.specs.Phases.{IsPlaced, IsPending, GivesUpIn, stage_of, turn_of};
@@ -14,7 +15,8 @@ ghost use Rattle.deadpool_managed.specs.Phases.{IsPlaced, IsPending, GivesUpIn, 
 use crate::gate::Ticket;
 use crate::prepare::{Position, Preparing};
 use crate::{
-    AsyncHook, Environment, Manager, Moment, PoolError, Slot, StepReply, SyncHook, Timeouts, Turn,
+    AsyncHook, Environment, Manager, Moment, PoolError, Slot, StageKind, StepReply, SyncHook,
+    Timeouts, Turn,
 };
 use deadpool_desk::{Desk, Held};
 use deadpool_parts::deadline::is_reached;
@@ -266,6 +268,23 @@ impl<M: Manager, A: AsyncHook<M>> Work<M, A> {
         ensures { result ≡ is_going (stage_of self.now.phase self.now.slot) }
     {
         matches!(&self.phase, Phase::Going(_))
+    }
+
+    // How far the get is, by name.
+    pub(crate) fn kind(&self) -> StageKind
+        requires { IsPlaced M.is_ready self.now.phase self.now.slot }
+        ensures { result ≡ kind_of (stage_of self.now.phase self.now.slot) }
+    {
+        let number = self.slot.as_ref().map(|slot| slot.number);
+        match (&self.phase, number) {
+            (Phase::Unpolled, _) => StageKind::Unpolled,
+            (Phase::Queued(ticket, _), _) => StageKind::Queued(*ticket),
+            (Phase::Going(_), _) => StageKind::Going,
+            (Phase::Creating(_, _), _) => StageKind::Creating,
+            (Phase::Served(_) | Phase::Recycling(_), Some(number)) => StageKind::Recycling(number),
+            (Phase::Checking(_), Some(number)) => StageKind::Checking(number),
+            (_, _) => StageKind::Finished,
+        }
     }
 
     // Gives back what the get holds, in one step at the desk, and ends it. An object that it prepares is given up and
