@@ -1,14 +1,13 @@
 //! What a get comes to by a reply of its desk that serves it, or that tells it to wait.
 ghost use Rattle.std.specs.Prelude.{◌≡◌, ◌≢◌, Option};
-ghost use Rattle.deadpool_managed.specs.Outside.{may};
-ghost use Rattle.deadpool_managed.specs.Get.{Made, Makes, AdvancesFrom, AfterServing, AfterEntered, AfterAsked, AfterAskedAgain};
+ghost use Rattle.deadpool_managed.specs.Get.{AfterServing, AfterEntered, AfterAsked, AfterAskedAgain};
 ghost use Rattle.deadpool_desk.specs.Parts.{IsParted, IsPartedServing};
 ghost use Rattle.deadpool_desk.specs.declared.desk.EnterReply.{EnterReply};
 ghost use Rattle.deadpool_desk.specs.declared.desk.Serving.{Serving};
 ghost use Rattle.deadpool_desk.specs.declared.slot.Slot.{Slot};
 ghost use Rattle.deadpool_desk.specs.Held.{held_if_entered, held_if_asked, held_if_asked_again, held_if_served};
-ghost use Rattle.deadpool_managed.specs.Held.{held_after};
-ghost use Rattle.deadpool_managed.specs.Phases.{IsPlaced, stage_of, turn_of};
+ghost use Rattle.deadpool_managed.specs.Phases.{IsPlaced};
+ghost use Rattle.deadpool_managed.specs.Steps.{AdvancesAt, held_now, lent, stage_at, turn_at};
 ghost use Rattle.deadpool_desk.specs.declared.desk.Holding.{Holding};
 ghost use Rattle.deadpool_managed.specs.declared.get.Stage.TheVariants.{Unpolled};
 
@@ -31,10 +30,12 @@ impl<M: Manager, A: AsyncHook<M>> Work<M, A> {
     ) -> Came<M::Error>
         requires unpolled { self.old.phase ≡ Phase.Unpolled }
         requires holds { D.holds desk.old Holding.Nothing }
-        ensures advanced { (made : Made M.Type) × (Makes D.Desk desk.old made desk.new × AdvancesFrom (may M.Manager F.SyncHook A.AsyncHook environment.now.manager) environment.now.runtime environment.now.hooks now timeouts.now Unpolled made (stage_of self.new.phase self.new.slot) (turn_of result self.new.slot)) }
+        ensures advanced { AdvancesAt D.Desk
+            (lent M.Manager F.SyncHook A.AsyncHook environment.now now timeouts.now)
+            desk.old Unpolled desk.new (stage_at self.new) (turn_at result self.new) }
         ensures placed { IsPlaced M.is_ready self.new.phase self.new.slot }
         ensures not_given { result ≢ Came.Given }
-        ensures holds { D.holds desk.new (held_after (stage_of self.new.phase self.new.slot) (turn_of result self.new.slot)) }
+        ensures holds { D.holds desk.new (held_now result self.new) }
     {
         let wait = timeouts.wait;
         if cannot_wait(environment.runtime, wait) {
@@ -51,10 +52,10 @@ impl<M: Manager, A: AsyncHook<M>> Work<M, A> {
             × IsParted whole rest was self.old.slot }
         ensures after { (whole : EnterReply (Slot M.Type)) (was : Option (Slot M.Type))
             → IsParted whole rest was self.old.slot
-            → AfterEntered deadline whole (stage_of self.new.phase self.new.slot) (turn_of result self.new.slot) }
+            → AfterEntered deadline whole (stage_at self.new) (turn_at result self.new) }
         ensures placed { IsPlaced M.is_ready self.new.phase self.new.slot }
         ensures not_given { result ≢ Came.Given }
-        ensures holds { held_after (stage_of self.new.phase self.new.slot) (turn_of result self.new.slot) ≡ held_if_entered rest }
+        ensures holds { held_now result self.new ≡ held_if_entered rest }
     {
         match rest {
             EnterReply::Served(served) => self.after_served(served),
@@ -75,10 +76,11 @@ impl<M: Manager, A: AsyncHook<M>> Work<M, A> {
         reply: AskReply<Slot<M::Type>>,
     ) -> Came<M::Error>
         requires { self.old.phase ≡ Phase.Finished }
-        ensures after { AfterAsked ticket deadline reply (stage_of self.new.phase self.new.slot) (turn_of result self.new.slot) }
+        ensures after { AfterAsked ticket deadline reply
+            (stage_at self.new) (turn_at result self.new) }
         ensures placed { IsPlaced M.is_ready self.new.phase self.new.slot }
         ensures not_given { result ≢ Came.Given }
-        ensures holds { held_after (stage_of self.new.phase self.new.slot) (turn_of result self.new.slot) ≡ held_if_asked reply }
+        ensures holds { held_now result self.new ≡ held_if_asked reply }
     {
         match reply {
             AskReply::Served(serving) => self.after_serving(serving),
@@ -93,10 +95,10 @@ impl<M: Manager, A: AsyncHook<M>> Work<M, A> {
 
     pub(crate) fn after_asked_again(&mut self, reply: AgainReply<Slot<M::Type>>) -> Came<M::Error>
         requires { self.old.phase ≡ Phase.Finished }
-        ensures after { AfterAskedAgain reply (stage_of self.new.phase self.new.slot) (turn_of result self.new.slot) }
+        ensures after { AfterAskedAgain reply (stage_at self.new) (turn_at result self.new) }
         ensures placed { IsPlaced M.is_ready self.new.phase self.new.slot }
         ensures not_given { result ≢ Came.Given }
-        ensures holds { held_after (stage_of self.new.phase self.new.slot) (turn_of result self.new.slot) ≡ held_if_asked_again reply }
+        ensures holds { held_now result self.new ≡ held_if_asked_again reply }
     {
         match reply {
             AgainReply::Served(serving) => self.after_serving(serving),
@@ -106,10 +108,10 @@ impl<M: Manager, A: AsyncHook<M>> Work<M, A> {
 
     // After a serving whose object comes with it.
     fn after_serving(&mut self, serving: Serving<Slot<M::Type>>) -> Came<M::Error>
-        ensures after { AfterServing serving (stage_of self.new.phase self.new.slot) (turn_of result self.new.slot) }
+        ensures after { AfterServing serving (stage_at self.new) (turn_at result self.new) }
         ensures placed { IsPlaced M.is_ready self.new.phase self.new.slot }
         ensures not_given { result ≢ Came.Given }
-        ensures holds { held_after (stage_of self.new.phase self.new.slot) (turn_of result self.new.slot) ≡ held_if_served serving }
+        ensures holds { held_now result self.new ≡ held_if_served serving }
     {
         let rest = serving.part(&mut self.slot);
         self.after_served(rest)
@@ -121,10 +123,10 @@ impl<M: Manager, A: AsyncHook<M>> Work<M, A> {
             × IsPartedServing whole rest was self.old.slot }
         ensures after { (whole : Serving (Slot M.Type)) (was : Option (Slot M.Type))
             → IsPartedServing whole rest was self.old.slot
-            → AfterServing whole (stage_of self.new.phase self.new.slot) (turn_of result self.new.slot) }
+            → AfterServing whole (stage_at self.new) (turn_at result self.new) }
         ensures placed { IsPlaced M.is_ready self.new.phase self.new.slot }
         ensures not_given { result ≢ Came.Given }
-        ensures holds { held_after (stage_of self.new.phase self.new.slot) (turn_of result self.new.slot) ≡ held_if_served rest }
+        ensures holds { held_now result self.new ≡ held_if_served rest }
     {
         match rest {
             Serving::Object((), left) => {
