@@ -1,13 +1,13 @@
 -- What a get is lent for a step, and the notation of what its steps do.
-use Rattle.std.specs.Prelude.{Option}
+use Rattle.std.specs.Prelude.{◌≡◌, Option}
 use Rattle.deadpool_parts.specs.declared.moment.Moment.{Moment}
 use Rattle.deadpool_parts.specs.declared.moment.Runtime.{Runtime}
 use Rattle.deadpool_parts.specs.declared.config.Timeouts.{Timeouts}
 use Rattle.deadpool_managed.specs.HookLists.{HookLists}
 use Rattle.deadpool_managed.specs.Outside.{May, may}
-use Rattle.deadpool_managed.specs.Get.{Made, Makes, AdvancesFrom, PollsOver, CancelsFrom}
+use Rattle.deadpool_managed.specs.Get.{Made, Makes, AdvancesFrom, IfReadyObject, PollsOver, CancelsFrom}
 use Rattle.deadpool_managed.specs.Held.{held_after}
-use Rattle.deadpool_managed.specs.Phases.{stage_of, turn_of}
+use Rattle.deadpool_managed.specs.Phases.{IsPlaced, stage_of, turn_of}
 use Rattle.deadpool_managed.specs.declared.get.Stage.{Stage}
 use Rattle.deadpool_managed.specs.declared.get.Turn.{Turn}
 use Rattle.deadpool_managed.specs.declared.hooks.AsyncHook.{Ghosts as AsyncHookOf}
@@ -15,6 +15,8 @@ use Rattle.deadpool_managed.specs.declared.hooks.SyncHook.{Ghosts as SyncHookOf}
 use Rattle.deadpool_managed.specs.declared.manager.Environment.{Environment}
 use Rattle.deadpool_managed.specs.declared.manager.Manager.{Ghosts as ManagerOf}
 use Rattle.deadpool_managed.specs.declared.work.Came.{Came}
+use Rattle.deadpool_managed.specs.declared.work.Came.TheVariants.{Given}
+use Rattle.deadpool_managed.specs.declared.work.Phase.TheVariants.{Finished}
 use Rattle.deadpool_managed.specs.declared.work.Work.{Work}
 use Rattle.deadpool_desk.specs.declared.desk.Desk.{Ghosts as DeskOf}
 use Rattle.deadpool_desk.specs.declared.desk.Holding.{Holding}
@@ -46,6 +48,14 @@ module _ {M A V E C R S : Type 0} where
   -- what a get at work holds at its desk after a step
   abbrev pub held_now : Came E → Work M A V E C R S → Holding
   held_now came work = held_after (stage_at work) (turn_at came work)
+
+-- What a step leaves that came to this. The object is in its place where the phase has one, and ready where it has to be; one
+-- that is given is ready, and ends the get; and the desk is held by as much as the get stands for then.
+pub record Leaves {D M A V E C R S : Type 0} (d : DeskOf D V) (P : V → Type 0) (desk : D) (came : Came E) (work : Work M A V E C R S) : Type 0 where
+  pub placed : IsPlaced P work.phase work.slot
+  pub given : came ≡ Given → work.phase ≡ Finished
+  pub ready : IfReadyObject P (turn_at came work)
+  pub holds : d.holds desk (held_now came work)
 
 module _ {D V E C R S F A : Type 0} (d : DeskOf D V) where
   -- one advance: at most one step at the desk, from a stage to the next, and what it comes to

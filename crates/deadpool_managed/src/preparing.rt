@@ -2,9 +2,8 @@
 ghost use Rattle.std.specs.Prelude.{◌≡◌, ◌≢◌, Option};
 ghost use Rattle.futures.specs.Task.{Keeps};
 ghost use Rattle.deadpool_managed.specs.Outside.{may};
-ghost use Rattle.deadpool_managed.specs.Get.{IfReadyObject};
 ghost use Rattle.deadpool_managed.specs.Phases.{IsPlaced, DiscardsIn, RefusesIn, stage_of};
-ghost use Rattle.deadpool_managed.specs.Steps.{AdvancesAt, held_now, lent, stage_at, turn_at};
+ghost use Rattle.deadpool_managed.specs.Steps.{AdvancesAt, Leaves, held_now, lent, stage_at, turn_at};
 ghost use Rattle.deadpool_desk.specs.declared.desk.Holding.{Holding};
 ghost use Rattle.deadpool_parts.specs.declared.replies.StepReply.{StepReply};
 
@@ -34,12 +33,9 @@ impl<M: Manager, A: AsyncHook<M>> Work<M, A> {
             (lent M.Manager F.SyncHook A.AsyncHook environment.now now timeouts.now)
             desk.old (stage_of (Phase.Served left) self.old.slot)
             desk.new (stage_at self.new) (turn_at result self.new) }
-        ensures placed { IsPlaced M.is_ready self.new.phase self.new.slot }
-        ensures given { result ≡ Came.Given → self.new.phase ≡ Phase.Finished }
-        ensures ready { IfReadyObject M.is_ready (turn_at result self.new) }
+        ensures leaves { Leaves D.Desk M.is_ready desk.new result self.new }
         ensures falls { result ≡ Came.More → self.new.phase ≡ Phase.Going (Option.Some left) }
         ensures kept { Keeps cx.old cx.new }
-        ensures holds { D.holds desk.new (held_now result self.new) }
     {
         self.phase = Phase::Finished;
         match review_in(&mut self.slot, timeouts.recycle, environment, now, cx) {
@@ -70,12 +66,9 @@ impl<M: Manager, A: AsyncHook<M>> Work<M, A> {
             (lent M.Manager F.SyncHook A.AsyncHook environment.now now timeouts.now)
             desk.old (stage_of (Phase.Recycling preparing) self.old.slot)
             desk.new (stage_at self.new) (turn_at result self.new) }
-        ensures placed { IsPlaced M.is_ready self.new.phase self.new.slot }
-        ensures given { result ≡ Came.Given → self.new.phase ≡ Phase.Finished }
-        ensures ready { IfReadyObject M.is_ready (turn_at result self.new) }
+        ensures leaves { Leaves D.Desk M.is_ready desk.new result self.new }
         ensures falls { result ≡ Came.More → self.new.phase ≡ Phase.Going Option.None }
         ensures kept { Keeps cx.old cx.new }
-        ensures holds { D.holds desk.new (held_now result self.new) }
     {
         match prepare_in(
             &mut self.slot,
@@ -142,12 +135,9 @@ impl<M: Manager, A: AsyncHook<M>> Work<M, A> {
             (lent M.Manager F.SyncHook A.AsyncHook environment.now now timeouts.now)
             desk.old (stage_of (Phase.Checking position) self.old.slot)
             desk.new (stage_at self.new) (turn_at result self.new) }
-        ensures placed { IsPlaced M.is_ready self.new.phase self.new.slot }
-        ensures given { result ≡ Came.Given → self.new.phase ≡ Phase.Finished }
-        ensures ready { IfReadyObject M.is_ready (turn_at result self.new) }
+        ensures leaves { Leaves D.Desk M.is_ready desk.new result self.new }
         ensures falls { result ≢ Came.More }
         ensures kept { Keeps cx.old cx.new }
-        ensures holds { D.holds desk.new (held_now result self.new) }
     {
         match check_in(&mut self.slot, position, environment, cx) {
             Verdict::Accepted => Came::Given,

@@ -69,10 +69,12 @@ impl<M: Manager, A: AsyncHook<M>> Progress<M, A> {
             desk.old (stage_of self.old.phase self.old.slot)
             desk.new (stage_of self.new.phase self.new.slot) result }
         ensures falls { result ≡ Turn.More
-            → Falls (stage_of self.old.phase self.old.slot) (stage_of self.new.phase self.new.slot) }
+            → Falls (stage_of self.old.phase self.old.slot)
+            (stage_of self.new.phase self.new.slot) }
         ensures ready { IfReadyObject M.is_ready result }
         ensures kept { Keeps cx.old cx.new }
-        ensures holds { D.holds desk.new (held_after (stage_of self.new.phase self.new.slot) result) }
+        ensures holds { D.holds desk.new
+            (held_after (stage_of self.new.phase self.new.slot) result) }
     {
         let came = self.work.step(timeouts, desk, environment, now, cx);
         self.work.turn(came)
@@ -94,7 +96,8 @@ impl<M: Manager, A: AsyncHook<M>> Progress<M, A> {
             desk.new (stage_of self.new.phase self.new.slot) result }
         ensures ready { IfReadyObject M.is_ready result }
         ensures kept { Keeps cx.old cx.new }
-        ensures holds { D.holds desk.new (held_after (stage_of self.new.phase self.new.slot) result) }
+        ensures holds { D.holds desk.new
+            (held_after (stage_of self.new.phase self.new.slot) result) }
     {
         let came = self.work.run(timeouts, desk, environment, now, cx);
         self.work.turn(came)

@@ -5,12 +5,12 @@ ghost use Rattle.std.specs.Prelude.{◌≡◌, true, false, None};
 ghost use Rattle.futures.specs.Task.{Keeps};
 ghost use Rattle.deadpool_managed.specs.Bounds.{lacks_allowance, Falls};
 ghost use Rattle.deadpool_managed.specs.Outside.{may};
-ghost use Rattle.deadpool_managed.specs.Get.{IfReadyObject, deadline_of};
+ghost use Rattle.deadpool_managed.specs.Get.{deadline_of};
 ghost use Rattle.deadpool_managed.specs.Held.{is_going, held_at};
 ghost use Rattle.deadpool_desk.specs.declared.desk.Holding.{Holding};
 ghost use Rattle.deadpool_parts.specs.declared.replies.StepReply.{StepReply};
 ghost use Rattle.deadpool_managed.specs.Phases.{IsPlaced, IsPending, GivesUpIn, turn_of};
-ghost use Rattle.deadpool_managed.specs.Steps.{AdvancesAt, PollsAt, CancelsAt, held_now, lent, stage_at, turn_at};
+ghost use Rattle.deadpool_managed.specs.Steps.{AdvancesAt, PollsAt, CancelsAt, Leaves, lent, stage_at, turn_at};
 
 use crate::gate::Ticket;
 use crate::prepare::{Position, Preparing};
@@ -69,11 +69,8 @@ impl<M: Manager, A: AsyncHook<M>> Work<M, A> {
             (lent M.Manager F.SyncHook A.AsyncHook environment.now now timeouts.now)
             desk.old (stage_at self.old) desk.new (stage_at self.new) (turn_at result self.new) }
         ensures falls { result ≡ Came.More → Falls (stage_at self.old) (stage_at self.new) }
-        ensures placed { IsPlaced M.is_ready self.new.phase self.new.slot }
-        ensures given { result ≡ Came.Given → self.new.phase ≡ Phase.Finished }
-        ensures ready { IfReadyObject M.is_ready (turn_at result self.new) }
+        ensures leaves { Leaves D.Desk M.is_ready desk.new result self.new }
         ensures kept { Keeps cx.old cx.new }
-        ensures holds { D.holds desk.new (held_now result self.new) }
     {
         if self.lacks_allowance() {
             self.begin(timeouts, desk, environment, now, cx)
@@ -96,11 +93,8 @@ impl<M: Manager, A: AsyncHook<M>> Work<M, A> {
         ensures polled { PollsAt D.Desk
             (lent M.Manager F.SyncHook A.AsyncHook environment.now now timeouts.now)
             desk.old (stage_at self.old) desk.new (stage_at self.new) (turn_at result self.new) }
-        ensures placed { IsPlaced M.is_ready self.new.phase self.new.slot }
-        ensures given { result ≡ Came.Given → self.new.phase ≡ Phase.Finished }
-        ensures ready { IfReadyObject M.is_ready (turn_at result self.new) }
+        ensures leaves { Leaves D.Desk M.is_ready desk.new result self.new }
         ensures kept { Keeps cx.old cx.new }
-        ensures holds { D.holds desk.new (held_now result self.new) }
     {
         'until_allowed: while self.lacks_allowance() {
             match self.begin(timeouts, desk, environment, now, cx) {
@@ -144,11 +138,8 @@ impl<M: Manager, A: AsyncHook<M>> Work<M, A> {
             (lent M.Manager F.SyncHook A.AsyncHook environment.now now timeouts.now)
             desk.old (stage_at self.old) desk.new (stage_at self.new) (turn_at result self.new) }
         ensures falls { result ≡ Came.More → Falls (stage_at self.old) (stage_at self.new) }
-        ensures placed { IsPlaced M.is_ready self.new.phase self.new.slot }
-        ensures given { result ≡ Came.Given → self.new.phase ≡ Phase.Finished }
-        ensures ready { IfReadyObject M.is_ready (turn_at result self.new) }
+        ensures leaves { Leaves D.Desk M.is_ready desk.new result self.new }
         ensures kept { Keeps cx.old cx.new }
-        ensures holds { D.holds desk.new (held_now result self.new) }
     {
         match &self.phase {
             Phase::Unpolled => self.enter(timeouts, desk, environment, now),
@@ -172,11 +163,8 @@ impl<M: Manager, A: AsyncHook<M>> Work<M, A> {
             (lent M.Manager F.SyncHook A.AsyncHook environment.now now timeouts.now)
             desk.old (stage_at self.old) desk.new (stage_at self.new) (turn_at result self.new) }
         ensures falls { result ≡ Came.More → Falls (stage_at self.old) (stage_at self.new) }
-        ensures placed { IsPlaced M.is_ready self.new.phase self.new.slot }
-        ensures given { result ≡ Came.Given → self.new.phase ≡ Phase.Finished }
-        ensures ready { IfReadyObject M.is_ready (turn_at result self.new) }
+        ensures leaves { Leaves D.Desk M.is_ready desk.new result self.new }
         ensures kept { Keeps cx.old cx.new }
-        ensures holds { D.holds desk.new (held_now result self.new) }
     {
         match &self.phase {
             Phase::Served(left) => {
@@ -203,11 +191,8 @@ impl<M: Manager, A: AsyncHook<M>> Work<M, A> {
             (lent M.Manager F.SyncHook A.AsyncHook environment.now now timeouts.now)
             desk.old (stage_at self.old) desk.new (stage_at self.new) (turn_at result self.new) }
         ensures falls { result ≡ Came.More → Falls (stage_at self.old) (stage_at self.new) }
-        ensures placed { IsPlaced M.is_ready self.new.phase self.new.slot }
-        ensures given { result ≡ Came.Given → self.new.phase ≡ Phase.Finished }
-        ensures ready { IfReadyObject M.is_ready (turn_at result self.new) }
+        ensures leaves { Leaves D.Desk M.is_ready desk.new result self.new }
         ensures kept { Keeps cx.old cx.new }
-        ensures holds { D.holds desk.new (held_now result self.new) }
     {
         match mem::replace(&mut self.phase, Phase::Finished) {
             Phase::Unpolled => Came::Pending,
