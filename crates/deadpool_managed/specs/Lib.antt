@@ -14,5 +14,6 @@ pub mod Get
 pub mod Bounds
 pub mod FirstPoll
 pub mod Phases
+pub mod Steps
 -- What contracts of this crate cite of the one below.
 pub use Rattle.deadpool_desk.specs.declared.desk.Holding

@@ -3,11 +3,11 @@ ghost use Rattle.std.specs.Prelude.{◌≡◌, ◌≢◌, Option};
 ghost use Rattle.futures.specs.Task.{Keeps};
 ghost use Rattle.deadpool_managed.specs.Answers.{IfReadyOk};
 ghost use Rattle.deadpool_managed.specs.Bounds.{IsNewObject};
-ghost use Rattle.deadpool_managed.specs.Outside.{may};
-ghost use Rattle.deadpool_managed.specs.Get.{Made, Makes, AdvancesCreation, AfterCreation, AfterCreated};
+ghost use Rattle.deadpool_managed.specs.Get.{Made, Makes, AfterCreation, AfterCreated};
 ghost use Rattle.deadpool_desk.specs.Held.{held_if_created};
-ghost use Rattle.deadpool_managed.specs.Held.{held_after};
-ghost use Rattle.deadpool_managed.specs.Phases.{IsPlaced, came_by, stage_of, turn_of};
+ghost use Rattle.deadpool_managed.specs.Phases.{IsPlaced, came_by};
+ghost use Rattle.deadpool_managed.specs.Steps.{AdvancesAt, held_now, lent, stage_at, turn_at};
+ghost use Rattle.deadpool_managed.specs.declared.get.Stage.TheVariants.{Creating};
 ghost use Rattle.deadpool_desk.specs.declared.desk.Holding.{Holding};
 
 use crate::prepare::Position;
@@ -32,12 +32,15 @@ impl<M: Manager, A: AsyncHook<M>> Work<M, A> {
     ) -> Came<M::Error>
         requires finished { self.old.phase ≡ Phase.Finished }
         requires holds { D.holds desk.old Holding.Creation }
-        ensures advanced { (made : Made M.Type) × (Makes D.Desk desk.old made desk.new × AdvancesCreation (may M.Manager F.SyncHook A.AsyncHook environment.now.manager) environment.now.runtime now timeouts.now.create Option.None Option.None made (stage_of self.new.phase self.new.slot) (turn_of result self.new.slot)) }
-        ensures falls { result ≡ Came.More → IsNewObject (stage_of self.new.phase self.new.slot) }
+        ensures advanced { AdvancesAt D.Desk
+            (lent M.Manager F.SyncHook A.AsyncHook environment.now now timeouts.now)
+            desk.old (Creating Option.None Option.None)
+            desk.new (stage_at self.new) (turn_at result self.new) }
+        ensures falls { result ≡ Came.More → IsNewObject (stage_at self.new) }
         ensures placed { IsPlaced M.is_ready self.new.phase self.new.slot }
         ensures not_given { result ≢ Came.Given }
         ensures kept { Keeps cx.old cx.new }
-        ensures holds { D.holds desk.new (held_after (stage_of self.new.phase self.new.slot) (turn_of result self.new.slot)) }
+        ensures holds { D.holds desk.new (held_now result self.new) }
     {
         let timeout = timeouts.create;
         if lacks_runtime(environment.runtime, timeout) {
@@ -63,12 +66,15 @@ impl<M: Manager, A: AsyncHook<M>> Work<M, A> {
     ) -> Came<M::Error>
         requires finished { self.old.phase ≡ Phase.Finished }
         requires holds { D.holds desk.old Holding.Creation }
-        ensures advanced { (made : Made M.Type) × (Makes D.Desk desk.old made desk.new × AdvancesCreation (may M.Manager F.SyncHook A.AsyncHook environment.now.manager) environment.now.runtime now timeouts.now.create (Option.Some state) deadline made (stage_of self.new.phase self.new.slot) (turn_of result self.new.slot)) }
-        ensures falls { result ≡ Came.More → IsNewObject (stage_of self.new.phase self.new.slot) }
+        ensures advanced { AdvancesAt D.Desk
+            (lent M.Manager F.SyncHook A.AsyncHook environment.now now timeouts.now)
+            desk.old (Creating (Option.Some state) deadline)
+            desk.new (stage_at self.new) (turn_at result self.new) }
+        ensures falls { result ≡ Came.More → IsNewObject (stage_at self.new) }
         ensures placed { IsPlaced M.is_ready self.new.phase self.new.slot }
         ensures not_given { result ≢ Came.Given }
         ensures kept { Keeps cx.old cx.new }
-        ensures holds { D.holds desk.new (held_after (stage_of self.new.phase self.new.slot) (turn_of result self.new.slot)) }
+        ensures holds { D.holds desk.new (held_now result self.new) }
     {
         let answer = environment.manager.poll_create(&mut state, cx);
         self.after_creation(answer, state, deadline, desk, now)
@@ -86,11 +92,13 @@ impl<M: Manager, A: AsyncHook<M>> Work<M, A> {
         requires finished { self.old.phase ≡ Phase.Finished }
         requires ready { IfReadyOk answer M.is_ready }
         requires holds { D.holds desk.old Holding.Creation }
-        ensures advanced { (made : Made M.Type) × (Makes D.Desk desk.old made desk.new × AfterCreation now deadline (answer, state) made (stage_of self.new.phase self.new.slot) (turn_of result self.new.slot)) }
-        ensures falls { result ≡ Came.More → IsNewObject (stage_of self.new.phase self.new.slot) }
+        ensures advanced { (made : Made M.Type) × (Makes D.Desk desk.old made desk.new
+            × AfterCreation now deadline (answer, state) made
+            (stage_at self.new) (turn_at result self.new)) }
+        ensures falls { result ≡ Came.More → IsNewObject (stage_at self.new) }
         ensures placed { IsPlaced M.is_ready self.new.phase self.new.slot }
         ensures not_given { result ≢ Came.Given }
-        ensures holds { D.holds desk.new (held_after (stage_of self.new.phase self.new.slot) (turn_of result self.new.slot)) }
+        ensures holds { D.holds desk.new (held_now result self.new) }
     {
         match answer {
             Poll::Ready(created) => match created {
@@ -117,11 +125,11 @@ impl<M: Manager, A: AsyncHook<M>> Work<M, A> {
     fn after_created(&mut self, value: M::Type, now: Moment, reply: CreatedReply) -> Came<M::Error>
         requires finished { self.old.phase ≡ Phase.Finished }
         requires ready { M.is_ready value }
-        ensures after { AfterCreated value now reply (stage_of self.new.phase self.new.slot) (turn_of result self.new.slot) }
-        ensures falls { result ≡ Came.More → IsNewObject (stage_of self.new.phase self.new.slot) }
+        ensures after { AfterCreated value now reply (stage_at self.new) (turn_at result self.new) }
+        ensures falls { result ≡ Came.More → IsNewObject (stage_at self.new) }
         ensures placed { IsPlaced M.is_ready self.new.phase self.new.slot }
         ensures not_given { result ≢ Came.Given }
-        ensures holds { held_after (stage_of self.new.phase self.new.slot) (turn_of result self.new.slot) ≡ held_if_created reply }
+        ensures holds { held_now result self.new ≡ held_if_created reply }
     {
         match reply {
             CreatedReply::Created(number) => {

@@ -1,7 +1,6 @@
 //! What a get comes to by a reply of its desk that serves it, or that tells it to wait.
 ghost use Rattle.std.specs.Prelude.{◌≡◌, ◌≢◌, Option};
-ghost use Rattle.deadpool_managed.specs.Outside.{may};
-ghost use Rattle.deadpool_managed.specs.Get.{Made, Makes, AdvancesFrom, AfterServing, AfterEntered, AfterAsked, AfterAskedAgain};
+ghost use Rattle.deadpool_managed.specs.Get.{AfterServing, AfterEntered, AfterAsked, AfterAskedAgain};
 ghost use Rattle.deadpool_desk.specs.Parts.{IsParted, IsPartedAgain, IsPartedAsk, IsPartedServing};
 ghost use Rattle.deadpool_desk.specs.declared.desk.AgainReply.{AgainReply};
 ghost use Rattle.deadpool_desk.specs.declared.desk.AskReply.{AskReply};
@@ -9,8 +8,8 @@ ghost use Rattle.deadpool_desk.specs.declared.desk.EnterReply.{EnterReply};
 ghost use Rattle.deadpool_desk.specs.declared.desk.Serving.{Serving};
 ghost use Rattle.deadpool_desk.specs.declared.slot.Slot.{Slot};
 ghost use Rattle.deadpool_desk.specs.Held.{held_if_entered, held_if_asked, held_if_asked_again, held_if_served};
-ghost use Rattle.deadpool_managed.specs.Held.{held_after};
-ghost use Rattle.deadpool_managed.specs.Phases.{IsPlaced, stage_of, turn_of};
+ghost use Rattle.deadpool_managed.specs.Phases.{IsPlaced};
+ghost use Rattle.deadpool_managed.specs.Steps.{AdvancesAt, held_now, lent, stage_at, turn_at};
 ghost use Rattle.deadpool_desk.specs.declared.desk.Holding.{Holding};
 ghost use Rattle.deadpool_managed.specs.declared.get.Stage.TheVariants.{Unpolled};
 
@@ -33,10 +32,12 @@ impl<M: Manager, A: AsyncHook<M>> Work<M, A> {
     ) -> Came<M::Error>
         requires unpolled { self.old.phase ≡ Phase.Unpolled }
         requires holds { D.holds desk.old Holding.Nothing }
-        ensures advanced { (made : Made M.Type) × (Makes D.Desk desk.old made desk.new × AdvancesFrom (may M.Manager F.SyncHook A.AsyncHook environment.now.manager) environment.now.runtime environment.now.hooks now timeouts.now Unpolled made (stage_of self.new.phase self.new.slot) (turn_of result self.new.slot)) }
+        ensures advanced { AdvancesAt D.Desk
+            (lent M.Manager F.SyncHook A.AsyncHook environment.now now timeouts.now)
+            desk.old Unpolled desk.new (stage_at self.new) (turn_at result self.new) }
         ensures placed { IsPlaced M.is_ready self.new.phase self.new.slot }
         ensures not_given { result ≢ Came.Given }
-        ensures holds { D.holds desk.new (held_after (stage_of self.new.phase self.new.slot) (turn_of result self.new.slot)) }
+        ensures holds { D.holds desk.new (held_now result self.new) }
     {
         let wait = timeouts.wait;
         if cannot_wait(environment.runtime, wait) {
@@ -53,10 +54,10 @@ impl<M: Manager, A: AsyncHook<M>> Work<M, A> {
             × IsParted whole rest was self.old.slot }
         ensures after { (whole : EnterReply (Slot M.Type)) (was : Option (Slot M.Type))
             → IsParted whole rest was self.old.slot
-            → AfterEntered deadline whole (stage_of self.new.phase self.new.slot) (turn_of result self.new.slot) }
+            → AfterEntered deadline whole (stage_at self.new) (turn_at result self.new) }
         ensures placed { IsPlaced M.is_ready self.new.phase self.new.slot }
         ensures not_given { result ≢ Came.Given }
-        ensures holds { held_after (stage_of self.new.phase self.new.slot) (turn_of result self.new.slot) ≡ held_if_entered rest }
+        ensures holds { held_now result self.new ≡ held_if_entered rest }
     {
         match rest {
             EnterReply::Served(served) => self.after_served(served),
@@ -82,10 +83,10 @@ impl<M: Manager, A: AsyncHook<M>> Work<M, A> {
             × IsPartedAsk whole rest was self.old.slot }
         ensures after { (whole : AskReply (Slot M.Type)) (was : Option (Slot M.Type))
             → IsPartedAsk whole rest was self.old.slot
-            → AfterAsked ticket deadline whole (stage_of self.new.phase self.new.slot) (turn_of result self.new.slot) }
+            → AfterAsked ticket deadline whole (stage_at self.new) (turn_at result self.new) }
         ensures placed { IsPlaced M.is_ready self.new.phase self.new.slot }
         ensures not_given { result ≢ Came.Given }
-        ensures holds { held_after (stage_of self.new.phase self.new.slot) (turn_of result self.new.slot) ≡ held_if_asked rest }
+        ensures holds { held_now result self.new ≡ held_if_asked rest }
     {
         match rest {
             AskReply::Served(served) => self.after_served(served),
@@ -105,10 +106,10 @@ impl<M: Manager, A: AsyncHook<M>> Work<M, A> {
             × IsPartedAgain whole rest was self.old.slot }
         ensures after { (whole : AgainReply (Slot M.Type)) (was : Option (Slot M.Type))
             → IsPartedAgain whole rest was self.old.slot
-            → AfterAskedAgain whole (stage_of self.new.phase self.new.slot) (turn_of result self.new.slot) }
+            → AfterAskedAgain whole (stage_at self.new) (turn_at result self.new) }
         ensures placed { IsPlaced M.is_ready self.new.phase self.new.slot }
         ensures not_given { result ≢ Came.Given }
-        ensures holds { held_after (stage_of self.new.phase self.new.slot) (turn_of result self.new.slot) ≡ held_if_asked_again rest }
+        ensures holds { held_now result self.new ≡ held_if_asked_again rest }
     {
         match rest {
             AgainReply::Served(served) => self.after_served(served),
@@ -122,10 +123,10 @@ impl<M: Manager, A: AsyncHook<M>> Work<M, A> {
             × IsPartedServing whole rest was self.old.slot }
         ensures after { (whole : Serving (Slot M.Type)) (was : Option (Slot M.Type))
             → IsPartedServing whole rest was self.old.slot
-            → AfterServing whole (stage_of self.new.phase self.new.slot) (turn_of result self.new.slot) }
+            → AfterServing whole (stage_at self.new) (turn_at result self.new) }
         ensures placed { IsPlaced M.is_ready self.new.phase self.new.slot }
         ensures not_given { result ≢ Came.Given }
-        ensures holds { held_after (stage_of self.new.phase self.new.slot) (turn_of result self.new.slot) ≡ held_if_served rest }
+        ensures holds { held_now result self.new ≡ held_if_served rest }
     {
         match rest {
             Serving::Object((), left) => {

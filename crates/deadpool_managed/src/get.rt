@@ -5,9 +5,10 @@ ghost use Rattle.std.specs.Prelude.{◌≡◌};
 ghost use Rattle.futures.specs.Task.{Keeps};
 ghost use Rattle.deadpool_managed.specs.Bounds.{Falls};
 ghost use Rattle.deadpool_managed.specs.Outside.{may};
-ghost use Rattle.deadpool_managed.specs.Get.{Made, Makes, AdvancesFrom, IfReadyObject, PollsOver, CancelsFrom, deadline_of};
+ghost use Rattle.deadpool_managed.specs.Get.{IfReadyObject, deadline_of};
 ghost use Rattle.deadpool_managed.specs.Held.{is_going, held_at, held_after};
 ghost use Rattle.deadpool_managed.specs.Kinds.{kind_of};
+ghost use Rattle.deadpool_managed.specs.Steps.{AdvancesAt, PollsAt, CancelsAt, lent};
 ghost use Rattle.deadpool_desk.specs.declared.desk.Holding.{Holding};
 ghost use Rattle.deadpool_managed.specs.declared.get.Stage.TheVariants.{Unpolled};
 
@@ -110,7 +111,9 @@ impl<M: Manager, A: AsyncHook<M>> GetState<M, A> {
         cx: &mut Context<'_>,
     ) -> Turn<M::Type, M::Error>
         requires { D.holds desk.old (held_at self.old.stage) }
-        ensures advanced { (made : Made M.Type) × (Makes D.Desk desk.old made desk.new × AdvancesFrom (may M.Manager F.SyncHook A.AsyncHook environment.now.manager) environment.now.runtime environment.now.hooks now self.old.timeouts self.old.stage made self.new.stage result) }
+        ensures advanced { AdvancesAt D.Desk
+            (lent M.Manager F.SyncHook A.AsyncHook environment.now now self.old.timeouts)
+            desk.old self.old.stage desk.new self.new.stage result }
         ensures timeouts { self.new.timeouts ≡ self.old.timeouts }
         ensures falls { result ≡ Turn.More → Falls self.old.stage self.new.stage }
         ensures ready { IfReadyObject M.is_ready result }
@@ -130,7 +133,9 @@ impl<M: Manager, A: AsyncHook<M>> GetState<M, A> {
         cx: &mut Context<'_>,
     ) -> Turn<M::Type, M::Error>
         requires { D.holds desk.old (held_at self.old.stage) }
-        ensures polled { PollsOver D.Desk (may M.Manager F.SyncHook A.AsyncHook environment.now.manager) environment.now.runtime environment.now.hooks now self.old.timeouts desk.old self.old.stage desk.new self.new.stage result }
+        ensures polled { PollsAt D.Desk
+            (lent M.Manager F.SyncHook A.AsyncHook environment.now now self.old.timeouts)
+            desk.old self.old.stage desk.new self.new.stage result }
         ensures timeouts { self.new.timeouts ≡ self.old.timeouts }
         ensures ready { IfReadyObject M.is_ready result }
         ensures kept { Keeps cx.old cx.new }
@@ -147,7 +152,9 @@ impl<M: Manager, A: AsyncHook<M>> GetState<M, A> {
         environment: &Environment<M, F, A>,
     )
         requires { D.holds desk.old (held_at self.stage) }
-        ensures cancelled { (made : Made M.Type) × (Makes D.Desk desk.old made desk.new × CancelsFrom (may M.Manager F.SyncHook A.AsyncHook environment.now.manager) self.stage made) }
+        ensures cancelled { CancelsAt D.Desk
+            (may M.Manager F.SyncHook A.AsyncHook environment.now.manager)
+            desk.old self.stage desk.new }
         ensures holds { D.holds desk.new Holding.Nothing }
     {
         let GetState {

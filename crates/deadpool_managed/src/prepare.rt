@@ -92,7 +92,8 @@ fn apply<M: Manager, F: SyncHook<M>, A: AsyncHook<M>>(
     cx: &mut Context<'_>,
 ) -> (Poll<HookResult<M::Error>>, Option<A::State>)
     requires { CanCall F.can_call hook.now }
-    ensures gives { Gives (may_hook F.SyncHook A.AsyncHook) (apply hook.now begun value.old metrics.now) (result.0, result.1, value.new) }
+    ensures gives { Gives (may_hook F.SyncHook A.AsyncHook)
+        (apply hook.now begun value.old metrics.now) (result.0, result.1, value.new) }
     ensures ready { M.is_ready value.old → M.is_ready value.new }
     ensures kept { Keeps cx.old cx.new }
 {
@@ -121,7 +122,9 @@ fn pass<M: Manager, F: SyncHook<M>, A: AsyncHook<M>>(
     cx: &mut Context<'_>,
 ) -> Verdict<A::State, M::Error>
     requires { All (CanCall F.can_call) hooks.now }
-    ensures gives { Gives (may_hook F.SyncHook A.AsyncHook) (pass position.accepted (drop position.accepted hooks.now) position.begun value.old metrics.now) (result, value.new) }
+    ensures gives { Gives (may_hook F.SyncHook A.AsyncHook)
+        (pass position.accepted (drop position.accepted hooks.now) position.begun
+        value.old metrics.now) (result, value.new) }
     ensures ready { M.is_ready value.old → M.is_ready value.new }
     ensures kept { Keeps cx.old cx.new }
 {
@@ -153,7 +156,8 @@ fn check<M: Manager, F: SyncHook<M>, A: AsyncHook<M>>(
     environment: &Environment<M, F, A>,
     cx: &mut Context<'_>,
 ) -> Verdict<A::State, M::Error>
-    ensures gives { Gives (may M.Manager F.SyncHook A.AsyncHook environment.now.manager) (check environment.now.hooks slot.old position) (result, slot.new.value) }
+    ensures gives { Gives (may M.Manager F.SyncHook A.AsyncHook environment.now.manager)
+        (check environment.now.hooks slot.old position) (result, slot.new.value) }
     ensures same { slot.new ≡ with_value slot.new.value slot.old }
     ensures ready { M.is_ready slot.old.value → M.is_ready slot.new.value }
     ensures kept { Keeps cx.old cx.new }
@@ -176,7 +180,8 @@ fn approve<M: Manager, F: SyncHook<M>, A: AsyncHook<M>>(
     cx: &mut Context<'_>,
 ) -> Outcome<M::Recycling, A::State>
     requires { M.is_ready slot.old.value }
-    ensures gives { Gives (may M.Manager F.SyncHook A.AsyncHook environment.now.manager) (approve now environment.now.hooks slot.old position) (prepared_of slot.new result) }
+    ensures gives { Gives (may M.Manager F.SyncHook A.AsyncHook environment.now.manager)
+        (approve now environment.now.hooks slot.old position) (prepared_of slot.new result) }
     ensures ready { IsReadyPrepared M.is_ready (prepared_of slot.new result) }
     ensures kept { Keeps cx.old cx.new }
 {
@@ -200,7 +205,9 @@ fn poll_recycling<M: Manager, F: SyncHook<M>, A: AsyncHook<M>>(
     now: Moment,
     cx: &mut Context<'_>,
 ) -> Outcome<M::Recycling, A::State>
-    ensures gives { Gives (may M.Manager F.SyncHook A.AsyncHook environment.now.manager) (poll_recycling now environment.now.hooks deadline recycling slot.old) (prepared_of slot.new result) }
+    ensures gives { Gives (may M.Manager F.SyncHook A.AsyncHook environment.now.manager)
+        (poll_recycling now environment.now.hooks deadline recycling slot.old)
+        (prepared_of slot.new result) }
     ensures ready { IsReadyPrepared M.is_ready (prepared_of slot.new result) }
     ensures kept { Keeps cx.old cx.new }
 {
@@ -226,7 +233,9 @@ fn begin_recycling<M: Manager, F: SyncHook<M>, A: AsyncHook<M>>(
     now: Moment,
     cx: &mut Context<'_>,
 ) -> Outcome<M::Recycling, A::State>
-    ensures gives { Gives (may M.Manager F.SyncHook A.AsyncHook environment.now.manager) (begin_recycling now environment.now.runtime timeout environment.now.hooks slot.old) (prepared_of slot.new result) }
+    ensures gives { Gives (may M.Manager F.SyncHook A.AsyncHook environment.now.manager)
+        (begin_recycling now environment.now.runtime timeout environment.now.hooks slot.old)
+        (prepared_of slot.new result) }
     ensures ready { IsReadyPrepared M.is_ready (prepared_of slot.new result) }
     ensures kept { Keeps cx.old cx.new }
 {
@@ -248,7 +257,9 @@ fn prepare<M: Manager, F: SyncHook<M>, A: AsyncHook<M>>(
     cx: &mut Context<'_>,
 ) -> Outcome<M::Recycling, A::State>
     requires { IsReadyPreparation M.is_ready (preparation_of slot.old preparing) }
-    ensures gives { Gives (may M.Manager F.SyncHook A.AsyncHook environment.now.manager) (prepare now environment.now.runtime timeout environment.now.hooks (preparation_of slot.old preparing)) (prepared_of slot.new result) }
+    ensures gives { Gives (may M.Manager F.SyncHook A.AsyncHook environment.now.manager)
+        (prepare now environment.now.runtime timeout environment.now.hooks
+        (preparation_of slot.old preparing)) (prepared_of slot.new result) }
     ensures ready { IsReadyPrepared M.is_ready (prepared_of slot.new result) }
     ensures kept { Keeps cx.old cx.new }
 {
@@ -270,7 +281,9 @@ fn review<M: Manager, F: SyncHook<M>, A: AsyncHook<M>>(
     now: Moment,
     cx: &mut Context<'_>,
 ) -> Outcome<M::Recycling, A::State>
-    ensures gives { Gives (may M.Manager F.SyncHook A.AsyncHook environment.now.manager) (prepare now environment.now.runtime timeout environment.now.hooks (PreRecycle slot.old position)) (prepared_of slot.new result) }
+    ensures gives { Gives (may M.Manager F.SyncHook A.AsyncHook environment.now.manager)
+        (prepare now environment.now.runtime timeout environment.now.hooks
+        (PreRecycle slot.old position)) (prepared_of slot.new result) }
     ensures ready { IsReadyPrepared M.is_ready (prepared_of slot.new result) }
     ensures kept { Keeps cx.old cx.new }
 {
@@ -292,7 +305,9 @@ pub(crate) fn prepare_in<M: Manager, F: SyncHook<M>, A: AsyncHook<M>>(
     cx: &mut Context<'_>,
 ) -> Outcome<M::Recycling, A::State>
     requires { IsPlaced {C = M.Creating} M.is_ready (Phase.Recycling preparing) place.old }
-    ensures gives { PreparesIn (may M.Manager F.SyncHook A.AsyncHook environment.now.manager) now environment.now.runtime timeout environment.now.hooks preparing place.old result place.new }
+    ensures gives { PreparesIn (may M.Manager F.SyncHook A.AsyncHook environment.now.manager)
+        now environment.now.runtime timeout environment.now.hooks preparing
+        place.old result place.new }
     ensures ready { IsReadyIn M.is_ready result place.new }
     ensures kept { Keeps cx.old cx.new }
 {
@@ -309,8 +324,10 @@ pub(crate) fn check_in<M: Manager, F: SyncHook<M>, A: AsyncHook<M>>(
     environment: &Environment<M, F, A>,
     cx: &mut Context<'_>,
 ) -> Verdict<A::State, M::Error>
-    requires { IsPlaced {C = M.Creating} {R = M.Recycling} M.is_ready (Phase.Checking position) place.old }
-    ensures gives { ChecksIn (may M.Manager F.SyncHook A.AsyncHook environment.now.manager) environment.now.hooks position place.old result place.new }
+    requires { IsPlaced {C = M.Creating} {R = M.Recycling} M.is_ready
+        (Phase.Checking position) place.old }
+    ensures gives { ChecksIn (may M.Manager F.SyncHook A.AsyncHook environment.now.manager)
+        environment.now.hooks position place.old result place.new }
     ensures ready { IsReadyHeld M.is_ready place.new }
     ensures kept { Keeps cx.old cx.new }
 {
@@ -328,8 +345,11 @@ pub(crate) fn review_in<M: Manager, F: SyncHook<M>, A: AsyncHook<M>>(
     now: Moment,
     cx: &mut Context<'_>,
 ) -> Outcome<M::Recycling, A::State>
-    requires { IsPlaced {C = M.Creating} {R = M.Recycling} {S = A.State} M.is_ready (Phase.Served 0) place.old }
-    ensures gives { PreparesIn (may M.Manager F.SyncHook A.AsyncHook environment.now.manager) now environment.now.runtime timeout environment.now.hooks (Preparing.PreRecycle start) place.old result place.new }
+    requires { IsPlaced {C = M.Creating} {R = M.Recycling} {S = A.State} M.is_ready
+        (Phase.Served 0) place.old }
+    ensures gives { PreparesIn (may M.Manager F.SyncHook A.AsyncHook environment.now.manager)
+        now environment.now.runtime timeout environment.now.hooks (Preparing.PreRecycle start)
+        place.old result place.new }
     ensures ready { IsReadyIn M.is_ready result place.new }
     ensures kept { Keeps cx.old cx.new }
 {

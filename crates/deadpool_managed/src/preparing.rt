@@ -2,9 +2,8 @@
 ghost use Rattle.std.specs.Prelude.{◌≡◌, ◌≢◌, Option};
 ghost use Rattle.futures.specs.Task.{Keeps};
 ghost use Rattle.deadpool_managed.specs.Outside.{may};
-ghost use Rattle.deadpool_managed.specs.Get.{Made, Makes, AdvancesFrom, IfReadyObject};
-ghost use Rattle.deadpool_managed.specs.Held.{held_after};
-ghost use Rattle.deadpool_managed.specs.Phases.{IsPlaced, DiscardsIn, RefusesIn, stage_of, turn_of};
+ghost use Rattle.deadpool_managed.specs.Phases.{IsPlaced, DiscardsIn, RefusesIn, stage_of};
+ghost use Rattle.deadpool_managed.specs.Steps.{AdvancesAt, Leaves, held_now, lent, stage_at, turn_at};
 ghost use Rattle.deadpool_desk.specs.declared.desk.Holding.{Holding};
 ghost use Rattle.deadpool_parts.specs.declared.replies.StepReply.{StepReply};
 
@@ -27,15 +26,16 @@ impl<M: Manager, A: AsyncHook<M>> Work<M, A> {
         now: Moment,
         cx: &mut Context<'_>,
     ) -> Came<M::Error>
-        requires placed { IsPlaced {C = M.Creating} {R = M.Recycling} {S = A.State} M.is_ready (Phase.Served left) self.old.slot }
+        requires placed { IsPlaced {C = M.Creating} {R = M.Recycling} {S = A.State} M.is_ready
+            (Phase.Served left) self.old.slot }
         requires holds { D.holds desk.old Holding.Object }
-        ensures advanced { (made : Made M.Type) × (Makes D.Desk desk.old made desk.new × AdvancesFrom (may M.Manager F.SyncHook A.AsyncHook environment.now.manager) environment.now.runtime environment.now.hooks now timeouts.now (stage_of (Phase.Served left) self.old.slot) made (stage_of self.new.phase self.new.slot) (turn_of result self.new.slot)) }
-        ensures placed { IsPlaced M.is_ready self.new.phase self.new.slot }
-        ensures given { result ≡ Came.Given → self.new.phase ≡ Phase.Finished }
-        ensures ready { IfReadyObject M.is_ready (turn_of result self.new.slot) }
+        ensures advanced { AdvancesAt D.Desk
+            (lent M.Manager F.SyncHook A.AsyncHook environment.now now timeouts.now)
+            desk.old (stage_of (Phase.Served left) self.old.slot)
+            desk.new (stage_at self.new) (turn_at result self.new) }
+        ensures leaves { Leaves D.Desk M.is_ready desk.new result self.new }
         ensures falls { result ≡ Came.More → self.new.phase ≡ Phase.Going (Option.Some left) }
         ensures kept { Keeps cx.old cx.new }
-        ensures holds { D.holds desk.new (held_after (stage_of self.new.phase self.new.slot) (turn_of result self.new.slot)) }
     {
         self.phase = Phase::Finished;
         match review_in(&mut self.slot, timeouts.recycle, environment, now, cx) {
@@ -59,15 +59,16 @@ impl<M: Manager, A: AsyncHook<M>> Work<M, A> {
         cx: &mut Context<'_>,
     ) -> Came<M::Error>
         requires finished { self.old.phase ≡ Phase.Finished }
-        requires placed { IsPlaced {C = M.Creating} M.is_ready (Phase.Recycling preparing) self.old.slot }
+        requires placed { IsPlaced {C = M.Creating} M.is_ready
+            (Phase.Recycling preparing) self.old.slot }
         requires holds { D.holds desk.old Holding.Object }
-        ensures advanced { (made : Made M.Type) × (Makes D.Desk desk.old made desk.new × AdvancesFrom (may M.Manager F.SyncHook A.AsyncHook environment.now.manager) environment.now.runtime environment.now.hooks now timeouts.now (stage_of (Phase.Recycling preparing) self.old.slot) made (stage_of self.new.phase self.new.slot) (turn_of result self.new.slot)) }
-        ensures placed { IsPlaced M.is_ready self.new.phase self.new.slot }
-        ensures given { result ≡ Came.Given → self.new.phase ≡ Phase.Finished }
-        ensures ready { IfReadyObject M.is_ready (turn_of result self.new.slot) }
+        ensures advanced { AdvancesAt D.Desk
+            (lent M.Manager F.SyncHook A.AsyncHook environment.now now timeouts.now)
+            desk.old (stage_of (Phase.Recycling preparing) self.old.slot)
+            desk.new (stage_at self.new) (turn_at result self.new) }
+        ensures leaves { Leaves D.Desk M.is_ready desk.new result self.new }
         ensures falls { result ≡ Came.More → self.new.phase ≡ Phase.Going Option.None }
         ensures kept { Keeps cx.old cx.new }
-        ensures holds { D.holds desk.new (held_after (stage_of self.new.phase self.new.slot) (turn_of result self.new.slot)) }
     {
         match prepare_in(
             &mut self.slot,
@@ -95,11 +96,13 @@ impl<M: Manager, A: AsyncHook<M>> Work<M, A> {
     ) -> Came<M::Error>
         requires finished { self.old.phase ≡ Phase.Finished }
         requires holds { D.holds desk.old Holding.Object }
-        ensures advanced { (reply : StepReply) × (D.discards desk.old reply desk.new × DiscardsIn (may M.Manager F.SyncHook A.AsyncHook environment.now.manager) self.old.slot allowance reply (stage_of self.new.phase self.new.slot) (turn_of result self.new.slot)) }
+        ensures advanced { (reply : StepReply) × (D.discards desk.old reply desk.new
+            × DiscardsIn (may M.Manager F.SyncHook A.AsyncHook environment.now.manager)
+            self.old.slot allowance reply (stage_at self.new) (turn_at result self.new)) }
         ensures placed { IsPlaced M.is_ready self.new.phase self.new.slot }
         ensures not_given { result ≢ Came.Given }
         ensures falls { result ≡ Came.More → self.new.phase ≡ Phase.Going allowance }
-        ensures holds { D.holds desk.new (held_after (stage_of self.new.phase self.new.slot) (turn_of result self.new.slot)) }
+        ensures holds { D.holds desk.new (held_now result self.new) }
     {
         let held = self.slot.take();
         match desk.discard() {
@@ -125,15 +128,16 @@ impl<M: Manager, A: AsyncHook<M>> Work<M, A> {
         cx: &mut Context<'_>,
     ) -> Came<M::Error>
         requires finished { self.old.phase ≡ Phase.Finished }
-        requires placed { IsPlaced {C = M.Creating} {R = M.Recycling} M.is_ready (Phase.Checking position) self.old.slot }
+        requires placed { IsPlaced {C = M.Creating} {R = M.Recycling} M.is_ready
+            (Phase.Checking position) self.old.slot }
         requires holds { D.holds desk.old Holding.Object }
-        ensures advanced { (made : Made M.Type) × (Makes D.Desk desk.old made desk.new × AdvancesFrom (may M.Manager F.SyncHook A.AsyncHook environment.now.manager) environment.now.runtime environment.now.hooks now timeouts.now (stage_of (Phase.Checking position) self.old.slot) made (stage_of self.new.phase self.new.slot) (turn_of result self.new.slot)) }
-        ensures placed { IsPlaced M.is_ready self.new.phase self.new.slot }
-        ensures given { result ≡ Came.Given → self.new.phase ≡ Phase.Finished }
-        ensures ready { IfReadyObject M.is_ready (turn_of result self.new.slot) }
+        ensures advanced { AdvancesAt D.Desk
+            (lent M.Manager F.SyncHook A.AsyncHook environment.now now timeouts.now)
+            desk.old (stage_of (Phase.Checking position) self.old.slot)
+            desk.new (stage_at self.new) (turn_at result self.new) }
+        ensures leaves { Leaves D.Desk M.is_ready desk.new result self.new }
         ensures falls { result ≢ Came.More }
         ensures kept { Keeps cx.old cx.new }
-        ensures holds { D.holds desk.new (held_after (stage_of self.new.phase self.new.slot) (turn_of result self.new.slot)) }
     {
         match check_in(&mut self.slot, position, environment, cx) {
             Verdict::Accepted => Came::Given,
@@ -154,10 +158,12 @@ impl<M: Manager, A: AsyncHook<M>> Work<M, A> {
     ) -> Came<M::Error>
         requires finished { self.old.phase ≡ Phase.Finished }
         requires holds { D.holds desk.old Holding.Object }
-        ensures advanced { (reply : StepReply) × (D.refuses desk.old reply desk.new × RefusesIn (may M.Manager F.SyncHook A.AsyncHook environment.now.manager) self.old.slot cause reply (stage_of self.new.phase self.new.slot) (turn_of result self.new.slot)) }
+        ensures advanced { (reply : StepReply) × (D.refuses desk.old reply desk.new
+            × RefusesIn (may M.Manager F.SyncHook A.AsyncHook environment.now.manager)
+            self.old.slot cause reply (stage_at self.new) (turn_at result self.new)) }
         ensures placed { IsPlaced M.is_ready self.new.phase self.new.slot }
         ensures failed { (result ≢ Came.Given) × (result ≢ Came.More) }
-        ensures holds { D.holds desk.new (held_after (stage_of self.new.phase self.new.slot) (turn_of result self.new.slot)) }
+        ensures holds { D.holds desk.new (held_now result self.new) }
     {
         let held = self.slot.take();
         match desk.refused() {

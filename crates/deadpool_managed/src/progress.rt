@@ -3,11 +3,12 @@ ghost use Rattle.std.specs.Prelude.{◌≡◌, None};
 ghost use Rattle.futures.specs.Task.{Keeps};
 ghost use Rattle.deadpool_managed.specs.Bounds.{Falls};
 ghost use Rattle.deadpool_managed.specs.Outside.{may};
-ghost use Rattle.deadpool_managed.specs.Get.{Made, Makes, AdvancesFrom, IfReadyObject, PollsOver, CancelsFrom, deadline_of};
+ghost use Rattle.deadpool_managed.specs.Get.{IfReadyObject, deadline_of};
 ghost use Rattle.deadpool_managed.specs.Held.{is_going, held_at, held_after};
 ghost use Rattle.deadpool_managed.specs.Kinds.{kind_of};
 ghost use Rattle.deadpool_desk.specs.declared.desk.Holding.{Holding};
 ghost use Rattle.deadpool_managed.specs.Phases.{stage_of, turn_of};
+ghost use Rattle.deadpool_managed.specs.Steps.{AdvancesAt, PollsAt, CancelsAt, lent};
 
 use crate::work::{Came, Phase, Work};
 use crate::{AsyncHook, Environment, Manager, Moment, Slot, StageKind, SyncHook, Timeouts, Turn};
@@ -71,11 +72,17 @@ impl<M: Manager, A: AsyncHook<M>> Progress<M, A> {
         cx: &mut Context<'_>,
     ) -> Turn<M::Type, M::Error>
         requires { D.holds desk.old (held_at (stage_of self.old.phase self.old.slot)) }
-        ensures advanced { (made : Made M.Type) × (Makes D.Desk desk.old made desk.new × AdvancesFrom (may M.Manager F.SyncHook A.AsyncHook environment.now.manager) environment.now.runtime environment.now.hooks now timeouts.now (stage_of self.old.phase self.old.slot) made (stage_of self.new.phase self.new.slot) result) }
-        ensures falls { result ≡ Turn.More → Falls (stage_of self.old.phase self.old.slot) (stage_of self.new.phase self.new.slot) }
+        ensures advanced { AdvancesAt D.Desk
+            (lent M.Manager F.SyncHook A.AsyncHook environment.now now timeouts.now)
+            desk.old (stage_of self.old.phase self.old.slot)
+            desk.new (stage_of self.new.phase self.new.slot) result }
+        ensures falls { result ≡ Turn.More
+            → Falls (stage_of self.old.phase self.old.slot)
+            (stage_of self.new.phase self.new.slot) }
         ensures ready { IfReadyObject M.is_ready result }
         ensures kept { Keeps cx.old cx.new }
-        ensures holds { D.holds desk.new (held_after (stage_of self.new.phase self.new.slot) result) }
+        ensures holds { D.holds desk.new
+            (held_after (stage_of self.new.phase self.new.slot) result) }
     {
         let came = self.work.step(timeouts, desk, environment, now, cx);
         self.work.turn(came)
@@ -91,10 +98,14 @@ impl<M: Manager, A: AsyncHook<M>> Progress<M, A> {
         cx: &mut Context<'_>,
     ) -> Turn<M::Type, M::Error>
         requires { D.holds desk.old (held_at (stage_of self.old.phase self.old.slot)) }
-        ensures polled { PollsOver D.Desk (may M.Manager F.SyncHook A.AsyncHook environment.now.manager) environment.now.runtime environment.now.hooks now timeouts.now desk.old (stage_of self.old.phase self.old.slot) desk.new (stage_of self.new.phase self.new.slot) result }
+        ensures polled { PollsAt D.Desk
+            (lent M.Manager F.SyncHook A.AsyncHook environment.now now timeouts.now)
+            desk.old (stage_of self.old.phase self.old.slot)
+            desk.new (stage_of self.new.phase self.new.slot) result }
         ensures ready { IfReadyObject M.is_ready result }
         ensures kept { Keeps cx.old cx.new }
-        ensures holds { D.holds desk.new (held_after (stage_of self.new.phase self.new.slot) result) }
+        ensures holds { D.holds desk.new
+            (held_after (stage_of self.new.phase self.new.slot) result) }
     {
         let came = self.work.run(timeouts, desk, environment, now, cx);
         self.work.turn(came)
@@ -110,11 +121,15 @@ impl<M: Manager, A: AsyncHook<M>> Progress<M, A> {
         cx: &mut Context<'_>,
     ) -> Came<M::Error>
         requires { D.holds desk.old (held_at (stage_of self.old.phase self.old.slot)) }
-        ensures polled { PollsOver D.Desk (may M.Manager F.SyncHook A.AsyncHook environment.now.manager) environment.now.runtime environment.now.hooks now timeouts.now desk.old (stage_of self.old.phase self.old.slot) desk.new (stage_of self.new.phase self.new.slot) (turn_of result self.new.slot) }
+        ensures polled { PollsAt D.Desk
+            (lent M.Manager F.SyncHook A.AsyncHook environment.now now timeouts.now)
+            desk.old (stage_of self.old.phase self.old.slot)
+            desk.new (stage_of self.new.phase self.new.slot) (turn_of result self.new.slot) }
         ensures given { result ≡ Came.Given → self.new.phase ≡ Phase.Finished }
         ensures ready { IfReadyObject M.is_ready (turn_of result self.new.slot) }
         ensures kept { Keeps cx.old cx.new }
-        ensures holds { D.holds desk.new (held_after (stage_of self.new.phase self.new.slot) (turn_of result self.new.slot)) }
+        ensures holds { D.holds desk.new
+            (held_after (stage_of self.new.phase self.new.slot) (turn_of result self.new.slot)) }
     {
         self.work.run(timeouts, desk, environment, now, cx)
     }
@@ -136,7 +151,9 @@ impl<M: Manager, A: AsyncHook<M>> Progress<M, A> {
         environment: &Environment<M, F, A>,
     )
         requires { D.holds desk.old (held_at (stage_of self.old.phase self.old.slot)) }
-        ensures cancelled { (made : Made M.Type) × (Makes D.Desk desk.old made desk.new × CancelsFrom (may M.Manager F.SyncHook A.AsyncHook environment.now.manager) (stage_of self.old.phase self.old.slot) made) }
+        ensures cancelled { CancelsAt D.Desk
+            (may M.Manager F.SyncHook A.AsyncHook environment.now.manager)
+            desk.old (stage_of self.old.phase self.old.slot) desk.new }
         ensures holds { D.holds desk.new Holding.Nothing }
         ensures finished { self.new.phase ≡ Phase.Finished }
     {

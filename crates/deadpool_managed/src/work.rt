@@ -5,12 +5,13 @@ ghost use Rattle.std.specs.Prelude.{◌≡◌, true, false, None};
 ghost use Rattle.futures.specs.Task.{Keeps};
 ghost use Rattle.deadpool_managed.specs.Bounds.{lacks_allowance, Falls};
 ghost use Rattle.deadpool_managed.specs.Outside.{may};
-ghost use Rattle.deadpool_managed.specs.Get.{Made, Makes, AdvancesFrom, IfReadyObject, PollsOver, CancelsFrom, deadline_of};
-ghost use Rattle.deadpool_managed.specs.Held.{is_going, held_at, held_after};
+ghost use Rattle.deadpool_managed.specs.Get.{deadline_of};
+ghost use Rattle.deadpool_managed.specs.Held.{is_going, held_at};
 ghost use Rattle.deadpool_managed.specs.Kinds.{kind_of};
 ghost use Rattle.deadpool_desk.specs.declared.desk.Holding.{Holding};
 ghost use Rattle.deadpool_parts.specs.declared.replies.StepReply.{StepReply};
-ghost use Rattle.deadpool_managed.specs.Phases.{IsPlaced, IsPending, GivesUpIn, stage_of, turn_of};
+ghost use Rattle.deadpool_managed.specs.Phases.{IsPlaced, IsPending, GivesUpIn, turn_of};
+ghost use Rattle.deadpool_managed.specs.Steps.{AdvancesAt, PollsAt, CancelsAt, Leaves, lent, stage_at, turn_at};
 
 use crate::gate::Ticket;
 use crate::prepare::{Position, Preparing};
@@ -65,14 +66,13 @@ impl<M: Manager, A: AsyncHook<M>> Work<M, A> {
         cx: &mut Context<'_>,
     ) -> Came<M::Error>
         requires placed { IsPlaced M.is_ready self.old.phase self.old.slot }
-        requires holds { D.holds desk.old (held_at (stage_of self.old.phase self.old.slot)) }
-        ensures advanced { (made : Made M.Type) × (Makes D.Desk desk.old made desk.new × AdvancesFrom (may M.Manager F.SyncHook A.AsyncHook environment.now.manager) environment.now.runtime environment.now.hooks now timeouts.now (stage_of self.old.phase self.old.slot) made (stage_of self.new.phase self.new.slot) (turn_of result self.new.slot)) }
-        ensures falls { result ≡ Came.More → Falls (stage_of self.old.phase self.old.slot) (stage_of self.new.phase self.new.slot) }
-        ensures placed { IsPlaced M.is_ready self.new.phase self.new.slot }
-        ensures given { result ≡ Came.Given → self.new.phase ≡ Phase.Finished }
-        ensures ready { IfReadyObject M.is_ready (turn_of result self.new.slot) }
+        requires holds { D.holds desk.old (held_at (stage_at self.old)) }
+        ensures advanced { AdvancesAt D.Desk
+            (lent M.Manager F.SyncHook A.AsyncHook environment.now now timeouts.now)
+            desk.old (stage_at self.old) desk.new (stage_at self.new) (turn_at result self.new) }
+        ensures falls { result ≡ Came.More → Falls (stage_at self.old) (stage_at self.new) }
+        ensures leaves { Leaves D.Desk M.is_ready desk.new result self.new }
         ensures kept { Keeps cx.old cx.new }
-        ensures holds { D.holds desk.new (held_after (stage_of self.new.phase self.new.slot) (turn_of result self.new.slot)) }
     {
         if self.lacks_allowance() {
             self.begin(timeouts, desk, environment, now, cx)
@@ -91,13 +91,12 @@ impl<M: Manager, A: AsyncHook<M>> Work<M, A> {
         cx: &mut Context<'_>,
     ) -> Came<M::Error>
         requires placed { IsPlaced M.is_ready self.old.phase self.old.slot }
-        requires holds { D.holds desk.old (held_at (stage_of self.old.phase self.old.slot)) }
-        ensures polled { PollsOver D.Desk (may M.Manager F.SyncHook A.AsyncHook environment.now.manager) environment.now.runtime environment.now.hooks now timeouts.now desk.old (stage_of self.old.phase self.old.slot) desk.new (stage_of self.new.phase self.new.slot) (turn_of result self.new.slot) }
-        ensures placed { IsPlaced M.is_ready self.new.phase self.new.slot }
-        ensures given { result ≡ Came.Given → self.new.phase ≡ Phase.Finished }
-        ensures ready { IfReadyObject M.is_ready (turn_of result self.new.slot) }
+        requires holds { D.holds desk.old (held_at (stage_at self.old)) }
+        ensures polled { PollsAt D.Desk
+            (lent M.Manager F.SyncHook A.AsyncHook environment.now now timeouts.now)
+            desk.old (stage_at self.old) desk.new (stage_at self.new) (turn_at result self.new) }
+        ensures leaves { Leaves D.Desk M.is_ready desk.new result self.new }
         ensures kept { Keeps cx.old cx.new }
-        ensures holds { D.holds desk.new (held_after (stage_of self.new.phase self.new.slot) (turn_of result self.new.slot)) }
     {
         'until_allowed: while self.lacks_allowance() {
             match self.begin(timeouts, desk, environment, now, cx) {
@@ -116,7 +115,7 @@ impl<M: Manager, A: AsyncHook<M>> Work<M, A> {
     // Whether the get is in a poll and has taken nothing in it yet.
     fn lacks_allowance(&self) -> bool
         requires { IsPlaced M.is_ready self.now.phase self.now.slot }
-        ensures { result ≡ lacks_allowance (stage_of self.now.phase self.now.slot) }
+        ensures { result ≡ lacks_allowance (stage_at self.now) }
     {
         match &self.phase {
             Phase::Unpolled | Phase::Queued(_, _) | Phase::Recycling(_) => true,
@@ -135,15 +134,14 @@ impl<M: Manager, A: AsyncHook<M>> Work<M, A> {
         cx: &mut Context<'_>,
     ) -> Came<M::Error>
         requires placed { IsPlaced M.is_ready self.old.phase self.old.slot }
-        requires lacks { lacks_allowance (stage_of self.old.phase self.old.slot) ≡ true }
-        requires holds { D.holds desk.old (held_at (stage_of self.old.phase self.old.slot)) }
-        ensures advanced { (made : Made M.Type) × (Makes D.Desk desk.old made desk.new × AdvancesFrom (may M.Manager F.SyncHook A.AsyncHook environment.now.manager) environment.now.runtime environment.now.hooks now timeouts.now (stage_of self.old.phase self.old.slot) made (stage_of self.new.phase self.new.slot) (turn_of result self.new.slot)) }
-        ensures falls { result ≡ Came.More → Falls (stage_of self.old.phase self.old.slot) (stage_of self.new.phase self.new.slot) }
-        ensures placed { IsPlaced M.is_ready self.new.phase self.new.slot }
-        ensures given { result ≡ Came.Given → self.new.phase ≡ Phase.Finished }
-        ensures ready { IfReadyObject M.is_ready (turn_of result self.new.slot) }
+        requires lacks { lacks_allowance (stage_at self.old) ≡ true }
+        requires holds { D.holds desk.old (held_at (stage_at self.old)) }
+        ensures advanced { AdvancesAt D.Desk
+            (lent M.Manager F.SyncHook A.AsyncHook environment.now now timeouts.now)
+            desk.old (stage_at self.old) desk.new (stage_at self.new) (turn_at result self.new) }
+        ensures falls { result ≡ Came.More → Falls (stage_at self.old) (stage_at self.new) }
+        ensures leaves { Leaves D.Desk M.is_ready desk.new result self.new }
         ensures kept { Keeps cx.old cx.new }
-        ensures holds { D.holds desk.new (held_after (stage_of self.new.phase self.new.slot) (turn_of result self.new.slot)) }
     {
         match &self.phase {
             Phase::Unpolled => self.enter(timeouts, desk, environment, now),
@@ -161,15 +159,14 @@ impl<M: Manager, A: AsyncHook<M>> Work<M, A> {
         cx: &mut Context<'_>,
     ) -> Came<M::Error>
         requires placed { IsPlaced M.is_ready self.old.phase self.old.slot }
-        requires has { lacks_allowance (stage_of self.old.phase self.old.slot) ≡ false }
-        requires holds { D.holds desk.old (held_at (stage_of self.old.phase self.old.slot)) }
-        ensures advanced { (made : Made M.Type) × (Makes D.Desk desk.old made desk.new × AdvancesFrom (may M.Manager F.SyncHook A.AsyncHook environment.now.manager) environment.now.runtime environment.now.hooks now timeouts.now (stage_of self.old.phase self.old.slot) made (stage_of self.new.phase self.new.slot) (turn_of result self.new.slot)) }
-        ensures falls { result ≡ Came.More → Falls (stage_of self.old.phase self.old.slot) (stage_of self.new.phase self.new.slot) }
-        ensures placed { IsPlaced M.is_ready self.new.phase self.new.slot }
-        ensures given { result ≡ Came.Given → self.new.phase ≡ Phase.Finished }
-        ensures ready { IfReadyObject M.is_ready (turn_of result self.new.slot) }
+        requires has { lacks_allowance (stage_at self.old) ≡ false }
+        requires holds { D.holds desk.old (held_at (stage_at self.old)) }
+        ensures advanced { AdvancesAt D.Desk
+            (lent M.Manager F.SyncHook A.AsyncHook environment.now now timeouts.now)
+            desk.old (stage_at self.old) desk.new (stage_at self.new) (turn_at result self.new) }
+        ensures falls { result ≡ Came.More → Falls (stage_at self.old) (stage_at self.new) }
+        ensures leaves { Leaves D.Desk M.is_ready desk.new result self.new }
         ensures kept { Keeps cx.old cx.new }
-        ensures holds { D.holds desk.new (held_after (stage_of self.new.phase self.new.slot) (turn_of result self.new.slot)) }
     {
         match &self.phase {
             Phase::Served(left) => {
@@ -191,14 +188,13 @@ impl<M: Manager, A: AsyncHook<M>> Work<M, A> {
     ) -> Came<M::Error>
         requires placed { IsPlaced M.is_ready self.old.phase self.old.slot }
         requires pending { IsPending self.old.phase }
-        requires holds { D.holds desk.old (held_at (stage_of self.old.phase self.old.slot)) }
-        ensures advanced { (made : Made M.Type) × (Makes D.Desk desk.old made desk.new × AdvancesFrom (may M.Manager F.SyncHook A.AsyncHook environment.now.manager) environment.now.runtime environment.now.hooks now timeouts.now (stage_of self.old.phase self.old.slot) made (stage_of self.new.phase self.new.slot) (turn_of result self.new.slot)) }
-        ensures falls { result ≡ Came.More → Falls (stage_of self.old.phase self.old.slot) (stage_of self.new.phase self.new.slot) }
-        ensures placed { IsPlaced M.is_ready self.new.phase self.new.slot }
-        ensures given { result ≡ Came.Given → self.new.phase ≡ Phase.Finished }
-        ensures ready { IfReadyObject M.is_ready (turn_of result self.new.slot) }
+        requires holds { D.holds desk.old (held_at (stage_at self.old)) }
+        ensures advanced { AdvancesAt D.Desk
+            (lent M.Manager F.SyncHook A.AsyncHook environment.now now timeouts.now)
+            desk.old (stage_at self.old) desk.new (stage_at self.new) (turn_at result self.new) }
+        ensures falls { result ≡ Came.More → Falls (stage_at self.old) (stage_at self.new) }
+        ensures leaves { Leaves D.Desk M.is_ready desk.new result self.new }
         ensures kept { Keeps cx.old cx.new }
-        ensures holds { D.holds desk.new (held_after (stage_of self.new.phase self.new.slot) (turn_of result self.new.slot)) }
     {
         match mem::replace(&mut self.phase, Phase::Finished) {
             Phase::Unpolled => Came::Pending,
@@ -252,7 +248,7 @@ impl<M: Manager, A: AsyncHook<M>> Work<M, A> {
     // The deadline of the phase that the get is in.
     pub(crate) fn deadline(&self) -> Option<Moment>
         requires { IsPlaced M.is_ready self.now.phase self.now.slot }
-        ensures { result ≡ deadline_of (stage_of self.now.phase self.now.slot) }
+        ensures { result ≡ deadline_of (stage_at self.now) }
     {
         match &self.phase {
             Phase::Queued(_, deadline) => *deadline,
@@ -265,7 +261,7 @@ impl<M: Manager, A: AsyncHook<M>> Work<M, A> {
     // Whether the get has a place and goes on at its next poll, with nothing to wait for.
     pub(crate) fn is_going(&self) -> bool
         requires { IsPlaced M.is_ready self.now.phase self.now.slot }
-        ensures { result ≡ is_going (stage_of self.now.phase self.now.slot) }
+        ensures { result ≡ is_going (stage_at self.now) }
     {
         matches!(&self.phase, Phase::Going(_))
     }
@@ -273,7 +269,7 @@ impl<M: Manager, A: AsyncHook<M>> Work<M, A> {
     // How far the get is, by name.
     pub(crate) fn kind(&self) -> StageKind
         requires { IsPlaced M.is_ready self.now.phase self.now.slot }
-        ensures { result ≡ kind_of (stage_of self.now.phase self.now.slot) }
+        ensures { result ≡ kind_of (stage_at self.now) }
     {
         let number = self.slot.as_ref().map(|slot| slot.number);
         match (&self.phase, number) {
@@ -295,8 +291,10 @@ impl<M: Manager, A: AsyncHook<M>> Work<M, A> {
         environment: &Environment<M, F, A>,
     )
         requires placed { IsPlaced M.is_ready self.old.phase self.old.slot }
-        requires holds { D.holds desk.old (held_at (stage_of self.old.phase self.old.slot)) }
-        ensures cancelled { (made : Made M.Type) × (Makes D.Desk desk.old made desk.new × CancelsFrom (may M.Manager F.SyncHook A.AsyncHook environment.now.manager) (stage_of self.old.phase self.old.slot) made) }
+        requires holds { D.holds desk.old (held_at (stage_at self.old)) }
+        ensures cancelled { CancelsAt D.Desk
+            (may M.Manager F.SyncHook A.AsyncHook environment.now.manager)
+            desk.old (stage_at self.old) desk.new }
         ensures holds { D.holds desk.new Holding.Nothing }
         ensures finished { self.new.phase ≡ Phase.Finished }
     {
@@ -323,7 +321,7 @@ impl<M: Manager, A: AsyncHook<M>> Work<M, A> {
         requires placed { IsPlaced M.is_ready self.old.phase self.old.slot }
         requires given { came ≡ Came.Given → self.old.phase ≡ Phase.Finished }
         ensures turn { result ≡ turn_of came self.old.slot }
-        ensures same { stage_of self.new.phase self.new.slot ≡ stage_of self.old.phase self.old.slot }
+        ensures same { stage_at self.new ≡ stage_at self.old }
         ensures placed { IsPlaced M.is_ready self.new.phase self.new.slot }
     {
         match came {
@@ -355,7 +353,8 @@ fn give_up<M: Manager, F: SyncHook<M>, A: AsyncHook<M>, D: Desk<M::Type>>(
     environment: &Environment<M, F, A>,
 )
     requires { D.holds desk.old Holding.Object }
-    ensures given_up { (reply : StepReply) × (D.cancels desk.old Held.Object reply desk.new × GivesUpIn (may M.Manager F.SyncHook A.AsyncHook environment.now.manager) held reply) }
+    ensures given_up { (reply : StepReply) × (D.cancels desk.old Held.Object reply desk.new
+        × GivesUpIn (may M.Manager F.SyncHook A.AsyncHook environment.now.manager) held reply) }
     ensures holds { D.holds desk.new Holding.Nothing }
 {
     if desk.cancel(Held::Object) == StepReply::Done {

@@ -9,4 +9,4 @@ returns-clause-falls g c more =
     rw (← c.self.view_is, c.turn.ensures.same) (c.step-came.ensures.falls (was_more c.step-came.result c.step-came.new.self.slot (rw c.turn.ensures.turn at more)))
 
 pub returns-clause-holds : goal.returns-clause-holds
-returns-clause-holds g c = rw (c.turn.ensures.same, c.turn.ensures.turn) c.step-came.ensures.holds
+returns-clause-holds g c = rw (c.turn.ensures.same, c.turn.ensures.turn) c.step-came.ensures.leaves.holds

@@ -11,9 +11,9 @@ until_allowed-preserved g c =
     let env = c.args.environment.now in
     let a = c.begin.ensures.advanced in
     record {
-      placed = c.begin.ensures.placed;
+      placed = c.begin.ensures.leaves.placed;
       kept = λ fact h. c.begin.ensures.kept fact (l.invariant.kept fact h);
-      holds = rw c.in-More.is at c.begin.ensures.holds;
+      holds = rw c.in-More.is at c.begin.ensures.leaves.holds;
       goes = λ desk stage turn rest. l.invariant.goes desk stage turn
           (polls_on g.D.Desk (may g.M.Manager g.F.SyncHook g.A.AsyncHook env.manager) env.runtime env.hooks c.args.now c.args.timeouts.now
           l.desk c.begin.new.desk desk (stage_of l.self.phase l.self.slot) (stage_of c.begin.new.self.phase c.begin.new.self.slot) stage _ turn a.0 c.args.timeouts.now refl
@@ -30,11 +30,8 @@ returns-in_default g c =
           (polls_once g.D.Desk (may g.M.Manager g.F.SyncHook g.A.AsyncHook env.manager) env.runtime env.hooks c.args.now c.args.timeouts.now
           l.desk c.begin.new.desk (stage_of l.self.phase l.self.slot) (stage_of c.begin.new.self.phase c.begin.new.self.slot) _ a.0 c.args.timeouts.now refl a.1.0 a.1.1
           (not_more c.begin.result c.begin.new.self.slot c.in_default.not-More));
-      placed = c.begin.ensures.placed;
-      given = c.begin.ensures.given;
-      ready = c.begin.ensures.ready;
+      leaves = c.begin.ensures.leaves;
       kept = λ fact h. c.begin.ensures.kept fact (l.invariant.kept fact h);
-      holds = c.begin.ensures.holds;
     }
 
 pub allowed-smaller : goal.allowed-smaller
@@ -46,9 +43,9 @@ allowed-preserved g c =
     let env = c.args.environment.now in
     let a = c.go_on.ensures.advanced in
     record {
-      placed = c.go_on.ensures.placed;
+      placed = c.go_on.ensures.leaves.placed;
       kept = λ fact h. c.go_on.ensures.kept fact (l.invariant.kept fact h);
-      holds = rw c.in-More-go_on.is at c.go_on.ensures.holds;
+      holds = rw c.in-More-go_on.is at c.go_on.ensures.leaves.holds;
       allowed = (falls_allowed (stage_of c.allowed.self.phase c.allowed.self.slot) (stage_of c.go_on.new.self.phase c.go_on.new.self.slot) c.allowed.invariant.allowed (c.go_on.ensures.falls c.in-More-go_on.is)).0;
       goes = λ desk stage turn rest. l.invariant.goes desk stage turn
           (polls_on g.D.Desk (may g.M.Manager g.F.SyncHook g.A.AsyncHook env.manager) env.runtime env.hooks c.args.now c.args.timeouts.now
@@ -66,9 +63,6 @@ returns-in_default-go_on g c =
           (polls_once g.D.Desk (may g.M.Manager g.F.SyncHook g.A.AsyncHook env.manager) env.runtime env.hooks c.args.now c.args.timeouts.now
           l.desk c.go_on.new.desk (stage_of l.self.phase l.self.slot) (stage_of c.go_on.new.self.phase c.go_on.new.self.slot) _ a.0 c.args.timeouts.now refl a.1.0 a.1.1
           (not_more c.go_on.result c.go_on.new.self.slot c.in_default-go_on.not-More));
-      placed = c.go_on.ensures.placed;
-      given = c.go_on.ensures.given;
-      ready = c.go_on.ensures.ready;
+      leaves = c.go_on.ensures.leaves;
       kept = λ fact h. c.go_on.ensures.kept fact (l.invariant.kept fact h);
-      holds = c.go_on.ensures.holds;
     }
