@@ -6,9 +6,9 @@
 pub use deadpool_managed::{
     AgainReply, AskReply, AsyncHook, BackReply, BuildError, ConfigError, Core, CreatePoolError,
     CreatedReply, Desk, EnterReply, Environment, FnHook, GetState, HandleReply, Held, Hook,
-    HookAnswer, HookError, HookResult, Hooks, Manager, Metrics, NoHook, ObjectId, PoolConfig,
-    PoolError, Position, Preparation, QueueMode, RecycleError, RecycleResult, Removal, Removals,
-    RetainResult, Retainer, Serving, Slot, Stage, Status, StepReply, SyncHook, TakeReply,
+    HookAnswer, HookError, HookResult, Hooks, Manager, Metrics, NoHook, ObjectId, OwnerDesk,
+    PoolConfig, PoolError, Position, Preparation, QueueMode, RecycleError, RecycleResult, Removal,
+    Removals, RetainResult, Retainer, Serving, Slot, Stage, Status, StepReply, SyncHook, TakeReply,
     TimeoutType, Timeouts, Turn, laws,
 };
 pub use deadpool_shared::{

@@ -23,7 +23,7 @@ use deadpool_lock::{Wakers, Wakes};
 use deadpool_managed::gate::Ticket;
 use deadpool_managed::{
     AgainReply, AskReply, BackReply, CreatedReply, Desk, EnterReply, HandleReply, Held, Holding,
-    RetainResult, Retainer, Slot, Status, StepReply, TakeReply,
+    OwnerDesk, RetainResult, Retainer, Slot, Status, StepReply, TakeReply,
 };
 use futures::task::Waker;
 use std::alloc::{AllocError, Global};

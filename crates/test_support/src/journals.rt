@@ -2,7 +2,8 @@
 use crate::expected::expect;
 use deadpool::Moment;
 use deadpool::managed::{
-    Core, Desk, Entry, Journal, Metrics, Removal, Removals, Retainer, Slot, Status, by_number,
+    Core, Desk, Entry, Journal, Metrics, OwnerDesk, Removal, Removals, Retainer, Slot, Status,
+    by_number,
 };
 use std::alloc::{AllocError, Global};
 use std::test::Fail;

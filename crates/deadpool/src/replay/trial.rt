@@ -21,7 +21,7 @@ ghost use Rattle.deadpool.specs.declared.replay.moves.Move.TheVariants as move;
 use crate::Moment;
 use crate::managed::{
     AsyncHook, BackReply, BuildError, Core, Desk, Environment, GetState, HandleReply, Manager,
-    Metrics, OpenPool, PoolBuilder, Retainer, Slot, SyncHook, TakeReply, Timeouts, Turn,
+    Metrics, OpenPool, OwnerDesk, PoolBuilder, Retainer, Slot, SyncHook, TakeReply, Timeouts, Turn,
 };
 use crate::replay::{Move, Reply};
 use deadpool_parts::tables::{append, index_of, put_in, take_out};

@@ -1,6 +1,6 @@
 //! Many gets, and a large limit.
 use super::cores::{created, keep, new_core};
-use deadpool::managed::{Core, Desk, EnterReply, QueueMode};
+use deadpool::managed::{Core, Desk, EnterReply, OwnerDesk, QueueMode};
 use pool_scripts::{expect_crowd, expect_script};
 use std::alloc::{AllocError, Global};
 use std::test::Fail;

@@ -4,7 +4,8 @@ ghost use Rattle.deadpool.specs.Holding.{Holding};
 use super::cores::{created, keep};
 use super::managers::Counter;
 use deadpool::managed::{
-    Core, Desk, Environment, GetState, Hooks, Manager, NoHook, QueueMode, Slot, Timeouts, Turn,
+    Core, Desk, Environment, GetState, Hooks, Manager, NoHook, OwnerDesk, QueueMode, Slot,
+    Timeouts, Turn,
 };
 use deadpool::{Moment, Runtime};
 use futures::task::Context;

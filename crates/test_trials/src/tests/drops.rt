@@ -1,7 +1,7 @@
 //! Drops of objects, which no contract counts: each is dropped once, by whoever has it last.
 use super::cores::{created, keep};
 use super::managers::count;
-use deadpool::managed::{Core, Desk, QueueMode, Slot};
+use deadpool::managed::{Core, Desk, OwnerDesk, QueueMode, Slot};
 use deadpool::unmanaged;
 use std::cell::Cell;
 use std::test::Fail;

@@ -1,7 +1,7 @@
 //! Retains over a pool's state, by retainers that change with each call.
 use super::cores::{created, keep};
 use deadpool::Moment;
-use deadpool::managed::{Core, Desk, Metrics, QueueMode, Retainer};
+use deadpool::managed::{Core, Metrics, OwnerDesk, QueueMode, Retainer};
 use std::test::Fail;
 use std::time::Duration;
 use test_support::expected::{expect, stands};
