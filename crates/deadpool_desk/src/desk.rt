@@ -261,7 +261,8 @@ impl AgainReply<()> {
     pub fn with<O>(self, place: Option<O>) -> AgainReply<O>
         requires { (whole : AgainReply O) × IsPartedAgain whole self None place }
         ensures whole { (whole : AgainReply O) → IsPartedAgain whole self None place → result ≡ whole }
-        ensures allowed { (allowance : Option ℕ) → IsWithinAllowance allowance self → IsWithinAllowance allowance result }
+        ensures allowed { (allowance : Option ℕ) → IsWithinAllowance allowance self
+            → IsWithinAllowance allowance result }
         ensures holding { held_if_asked_again result ≡ held_if_asked_again self }
     {
         match (self, place) {
