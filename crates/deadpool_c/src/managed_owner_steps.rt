@@ -14,7 +14,7 @@ use crate::entry::{self, NotedStep};
 use crate::managed_block::ManagedPool;
 use crate::managed_reply;
 use crate::reply::{self, Reply};
-use deadpool_desk::{Desk, RetainResult};
+use deadpool_desk::{OwnerDesk, RetainResult};
 use std::alloc::AllocError;
 
 pub fn resize(pool: ManagedPool, resized: (usize, usize)) -> (ManagedPool, Reply)

@@ -11,7 +11,7 @@ use crate::managed_reply;
 use crate::managed_state::ManagedState;
 use crate::reply::{self, Reply, Standing};
 use deadpool_desk::gate::Ticket;
-use deadpool_desk::{Desk, Held, Metrics, Moment, QueueMode, Slot};
+use deadpool_desk::{Desk, Held, Metrics, Moment, OwnerDesk, QueueMode, Slot};
 use deadpool_journal::Journaled;
 use std::alloc::{AllocError, Global};
 

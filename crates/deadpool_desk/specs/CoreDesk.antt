@@ -1,8 +1,7 @@
 -- The desk machine as a desk.
 use Rattle.std.specs.Prelude.{⊤}
 use Rattle.deadpool_desk.specs.DeskState.{DeskState}
-use Rattle.deadpool_desk.specs.DeskSteps.{Enters, Asks, AsksAgain, Discards, Creates, Fails, Refuses, TakesBack, Cancels, Takes, Resizes, Stands, Closes, Clones, DropsHandle, Upgrades}
-use Rattle.deadpool_desk.specs.Retains.{Retains}
+use Rattle.deadpool_desk.specs.DeskSteps.{Enters, Asks, AsksAgain, Discards, Creates, Fails, Refuses, TakesBack, Cancels, Takes}
 use Rattle.deadpool_desk.specs.declared.slot.Slot.{Slot}
 use Rattle.deadpool_desk.specs.declared.desk.Desk.{Ghosts as DeskOf}
 
@@ -19,12 +18,5 @@ core_desk = record {
   refuses = Refuses;
   takes_back = TakesBack;
   cancels = Cancels;
-  stands = Stands;
   takes = Takes;
-  resizes = Resizes;
-  retains = λ R asks. Retains asks;
-  closes = Closes;
-  clones = Clones;
-  drops_handle = DropsHandle;
-  upgrades = Upgrades;
 }

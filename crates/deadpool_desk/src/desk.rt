@@ -1,34 +1,27 @@
-//! What is asked of a pool: one step at a time, each with its reply. Gets ask, and objects that go back, and the pool's
-//! owner.
+//! What gets ask of a pool, and objects that go back: one step at a time, each with its reply.
 //!
 //! A get that holds a place and no object is served: it is given an idle object, or it begins a creation.
 //!
 //! What a step does is said as `Core` does it, by its relations. Of the steps below, those that lower a count answer
 //! `Unknown` where there is nothing to lower, and change nothing. Another desk has relations of its own, and owes
 //! nothing beyond them but that it keeps to an allowance.
-ghost use Rattle.std.specs.Prelude.{◌≡◌, ℕ, ⊤, Bool, Option, Result, None};
-ghost use Rattle.std.specs.declared.alloc.AllocError.{AllocError};
-ghost use Rattle.deadpool_parts.specs.declared.status.Status.{Status};
+ghost use Rattle.std.specs.Prelude.{◌≡◌, ℕ, ⊤, Bool, Option, None};
 ghost use Rattle.deadpool_desk.specs.Allowance.{IsWithinAllowance};
 ghost use Rattle.deadpool_desk.specs.Held.{held_if_served, held_if_entered, held_if_asked, held_if_asked_again, held_if_created, held_if_discarded, held_as};
 ghost use Rattle.deadpool_desk.specs.declared.desk.Holding.{Holding};
 ghost use Rattle.deadpool_desk.specs.Parts.{IsParted, IsPartedAgain, IsPartedAsk, IsPartedServing};
-ghost use Rattle.deadpool_desk.specs.Retained.{Retained};
-ghost use Rattle.deadpool_desk.specs.declared.retain.Retainer.{Ghosts as RetainerOf};
 ghost use Rattle.deadpool_desk.specs.declared.slot.Slot.{Slot};
 ghost use Rattle.deadpool_desk.specs.declared.desk.AgainReply.{AgainReply};
 ghost use Rattle.deadpool_desk.specs.declared.desk.AskReply.{AskReply};
 ghost use Rattle.deadpool_desk.specs.declared.desk.BackReply.{BackReply};
 ghost use Rattle.deadpool_desk.specs.declared.desk.CreatedReply.{CreatedReply};
 ghost use Rattle.deadpool_desk.specs.declared.desk.EnterReply.{EnterReply};
-ghost use Rattle.deadpool_parts.specs.declared.replies.HandleReply.{HandleReply};
 ghost use Rattle.deadpool_desk.specs.declared.desk.Held.{Held};
 ghost use Rattle.deadpool_parts.specs.declared.replies.StepReply.{StepReply};
 ghost use Rattle.deadpool_desk.specs.declared.desk.TakeReply.{TakeReply};
 
 use crate::gate::Ticket;
-use crate::{HandleReply, RetainResult, Retainer, Slot, Status, StepReply};
-use std::alloc::AllocError;
+use crate::{Slot, StepReply};
 
 /// How a get that holds a place is served.
 #[derive(Debug, Drop, PartialEq)]
@@ -268,7 +261,8 @@ impl AgainReply<()> {
     pub fn with<O>(self, place: Option<O>) -> AgainReply<O>
         requires { (whole : AgainReply O) × IsPartedAgain whole self None place }
         ensures whole { (whole : AgainReply O) → IsPartedAgain whole self None place → result ≡ whole }
-        ensures allowed { (allowance : Option ℕ) → IsWithinAllowance allowance self → IsWithinAllowance allowance result }
+        ensures allowed { (allowance : Option ℕ) → IsWithinAllowance allowance self
+            → IsWithinAllowance allowance result }
         ensures holding { held_if_asked_again result ≡ held_if_asked_again self }
     {
         match (self, place) {
@@ -279,7 +273,8 @@ impl AgainReply<()> {
     }
 }
 
-/// The steps of a pool. An implementation states by its relations which replies each may give.
+/// The steps of a pool that a get or an object makes. An implementation states by its relations which replies each may
+/// give. The pool's owner makes those of `OwnerDesk`.
 pub trait Desk<T> {
     // What a get holds at the desk, as far as the desk keeps it. By default it keeps nothing of it.
     ghost holds: { Self → Holding → Type 0 } = { λ _ _. ⊤ };
@@ -303,22 +298,7 @@ pub trait Desk<T> {
 
     ghost cancels: { Self → Held → StepReply → Self → Type 0 };
 
-    ghost stands: { Self → Status → Self → Type 0 };
-
     ghost takes: { Self → TakeReply → Self → Type 0 };
-
-    ghost resizes: { Self → ℕ → Result (Unit {0}) AllocError → Self → Type 0 };
-
-    // This holds of the retainers before and after the step too.
-    ghost retains: { (R : Type 0) → RetainerOf R T → Self → R → Result (Retained T) AllocError → Self → R → Type 0 };
-
-    ghost closes: { Self → Self → Type 0 };
-
-    ghost clones: { Self → HandleReply → Self → Type 0 };
-
-    ghost drops_handle: { Self → HandleReply → Self → Type 0 };
-
-    ghost upgrades: { Self → Bool → Self → Type 0 };
 
     /// A new get asks for a place, and joins the queue where none is free and `wait` says so. An object that it is
     /// given goes into `place`, and what is there stays otherwise.
@@ -415,47 +395,9 @@ pub trait Desk<T> {
         ensures cancelled { cancels self.old held result self.new }
         ensures holds { holds self.new Holding.Nothing };
 
-    /// How the pool stands.
-    fn status(&mut self) -> Status
-        ensures { stands self.old result self.new };
-
     /// An object that is out leaves the pool for good, and its place is free.
     fn take(&mut self) -> TakeReply
         requires { holds self.old Holding.Object }
         ensures taken { takes self.old result self.new }
         ensures holds { holds self.new Holding.Nothing };
-
-    /// The pool gets another limit, a number of objects. While it has more objects than that, idle ones are dropped, the
-    /// front one first, without a detach, down to its least number of idle objects, which counts as far as the limit
-    /// allows. A closed pool stays as it is. A limit beyond the room for objects takes memory
-    /// first: where none is found, nothing has changed. The room never shrinks.
-    fn resize(&mut self, limit: usize) -> Result<(), AllocError>
-        ensures { resizes self.old limit result self.new };
-
-    /// Asks about each idle object once, front to back. One that is not kept is given up and detached there and then,
-    /// before the next question. Where no more are idle than the pool's least number, as far as the limit allows, an object
-    /// stays though it is not kept: it is not detached, and counts as retained. The list of the values takes memory first,
-    /// for as many as are idle: where none is found,
-    /// nothing is asked and nothing has changed. With nothing idle it takes none.
-    fn retain<R: Retainer<T>>(&mut self, retainer: &mut R) -> Result<RetainResult<T>, AllocError>
-        requires { R.can_call retainer.old }
-        ensures retained { retains R R.Retainer self.old retainer.old result self.new retainer.new }
-        ensures can_call { R.can_call retainer.new };
-
-    /// The pool closes for good: its limit is 0, and the idle objects are dropped without a detach.
-    fn close(&mut self)
-        ensures { closes self.old self.new };
-
-    /// There is one more handle. A count that has reached the greatest `u64` stays there.
-    fn clone_handle(&mut self) -> HandleReply
-        ensures { clones self.old result self.new };
-
-    /// There is one handle less. The last one takes the idle objects with it, which are dropped without a detach. A count
-    /// that has reached the greatest `u64` stays there.
-    fn drop_handle(&mut self) -> HandleReply
-        ensures { drops_handle self.old result self.new };
-
-    /// There is one more handle, for an owner that has none: true exactly where one is left. Otherwise nothing changes.
-    fn upgrade(&mut self) -> bool
-        ensures { upgrades self.old result self.new };
 }

@@ -1,13 +1,15 @@
 //! The state of a managed pool on one thread, and its steps.
 //!
-//! A pool is asked for one step at a time (`desk`). `settled` is such a desk: whole steps over `state`. Nothing here asks
-//! a manager or a hook; a retain asks its retainer (`retain`, `review`).
+//! A pool is asked for one step at a time, by a get or an object (`desk`) or by its owner (`owner_desk`). `settled` is
+//! such a desk to both: whole steps over `state`. Nothing here asks a manager or a hook; a retain asks its retainer
+//! (`retain`, `review`).
 #![tactic(auto)]
 
 mod counts;
 mod desk;
 mod metrics;
 mod object_id;
+mod owner_desk;
 mod retain;
 mod review;
 mod settled;
@@ -24,6 +26,7 @@ pub use desk::{
 };
 pub use metrics::Metrics;
 pub use object_id::ObjectId;
+pub use owner_desk::OwnerDesk;
 pub use retain::{Removal, Removals, RetainResult, Retainer};
 pub use settled::Core;
 pub use slot::Slot;

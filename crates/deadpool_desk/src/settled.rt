@@ -14,12 +14,13 @@ use crate::desk::{
 use crate::gate::Ticket;
 use crate::state::PoolState;
 use crate::{
-    Counts, HandleReply, QueueMode, Removals, RetainResult, Retainer, Slot, Status, StepReply,
+    Counts, HandleReply, OwnerDesk, QueueMode, Removals, RetainResult, Retainer, Slot, Status,
+    StepReply,
 };
 use std::alloc::{AllocError, Global};
 use std::marker::Model;
 
-/// The state of a managed pool on one thread. Each of its steps is one of `Desk`.
+/// The state of a managed pool on one thread. Each of its steps is one of `Desk`, or of `OwnerDesk`.
 ///
 /// No step tells a get in the queue that its wait has ended. Who owns the core asks `take_wake` whom to tell.
 #[derive(Drop)]
@@ -176,21 +177,7 @@ impl<T: Drop> Desk<T> for Core<T> {
 
     ghost cancels = { Cancels };
 
-    ghost stands = { Stands };
-
     ghost takes = { Takes };
-
-    ghost resizes = { Resizes };
-
-    ghost retains = { λ R asks. Retains asks };
-
-    ghost closes = { Closes };
-
-    ghost clones = { Clones };
-
-    ghost drops_handle = { DropsHandle };
-
-    ghost upgrades = { Upgrades };
 
     #[inline(always)]
     fn enter_in(&mut self, wait: bool, place: &mut Option<Slot<T>>) -> EnterReply<()> {
@@ -240,12 +227,28 @@ impl<T: Drop> Desk<T> for Core<T> {
         self.state.cancel(held)
     }
 
-    fn status(&mut self) -> Status {
-        self.state.status()
-    }
-
     fn take(&mut self) -> TakeReply {
         self.state.take()
+    }
+}
+
+impl<T: Drop> OwnerDesk<T> for Core<T> {
+    ghost stands = { Stands };
+
+    ghost resizes = { Resizes };
+
+    ghost retains = { λ R asks. Retains asks };
+
+    ghost closes = { Closes };
+
+    ghost clones = { Clones };
+
+    ghost drops_handle = { DropsHandle };
+
+    ghost upgrades = { Upgrades };
+
+    fn status(&mut self) -> Status {
+        self.state.status()
     }
 
     fn resize(&mut self, limit: usize) -> Result<(), AllocError> {

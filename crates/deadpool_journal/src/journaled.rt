@@ -15,7 +15,7 @@ use crate::{Entry, Journal};
 use deadpool_desk::gate::Ticket;
 use deadpool_desk::{
     AgainReply, AskReply, BackReply, Core, CreatedReply, Desk, EnterReply, HandleReply, Held,
-    QueueMode, RetainResult, Retainer, Slot, Status, StepReply, TakeReply,
+    OwnerDesk, QueueMode, RetainResult, Retainer, Slot, Status, StepReply, TakeReply,
 };
 use std::alloc::{AllocError, Global};
 use std::marker::Model;
@@ -195,21 +195,7 @@ impl<T: Drop> Desk<T> for Journaled<T> {
 
     ghost cancels = { CancelsNoted };
 
-    ghost stands = { StandsNoted };
-
     ghost takes = { TakesNoted };
-
-    ghost resizes = { ResizesNoted };
-
-    ghost retains = { λ R asks. RetainsNoted asks };
-
-    ghost closes = { ClosesNoted };
-
-    ghost clones = { ClonesNoted };
-
-    ghost drops_handle = { DropsHandleNoted };
-
-    ghost upgrades = { UpgradesNoted };
 
     #[inline(always)]
     fn enter_in(&mut self, wait: bool, place: &mut Option<Slot<T>>) -> EnterReply<()> {
@@ -279,16 +265,32 @@ impl<T: Drop> Desk<T> for Journaled<T> {
         reply
     }
 
-    fn status(&mut self) -> Status {
-        let status = self.core.status();
-        self.log.add(Entry::Status(status));
-        status
-    }
-
     fn take(&mut self) -> TakeReply {
         let reply = self.core.take();
         self.log.add(Entry::Take(reply));
         reply
+    }
+}
+
+impl<T: Drop> OwnerDesk<T> for Journaled<T> {
+    ghost stands = { StandsNoted };
+
+    ghost resizes = { ResizesNoted };
+
+    ghost retains = { λ R asks. RetainsNoted asks };
+
+    ghost closes = { ClosesNoted };
+
+    ghost clones = { ClonesNoted };
+
+    ghost drops_handle = { DropsHandleNoted };
+
+    ghost upgrades = { UpgradesNoted };
+
+    fn status(&mut self) -> Status {
+        let status = self.core.status();
+        self.log.add(Entry::Status(status));
+        status
     }
 
     fn resize(&mut self, limit: usize) -> Result<(), AllocError> {

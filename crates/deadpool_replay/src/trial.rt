@@ -21,7 +21,7 @@ ghost use Rattle.deadpool_replay.specs.declared.moves.Move.TheVariants as move;
 use crate::{Move, Reply};
 use deadpool_managed::{
     AsyncHook, BackReply, BuildError, Core, Desk, Environment, GetState, HandleReply, Manager,
-    Metrics, Retainer, Slot, SyncHook, TakeReply, Timeouts, Turn,
+    Metrics, OwnerDesk, Retainer, Slot, SyncHook, TakeReply, Timeouts, Turn,
 };
 use deadpool_parts::Moment;
 use deadpool_parts::tables::{append, index_of, put_in, take_out};

@@ -23,7 +23,7 @@ use deadpool_lock::{Wakers, Wakes};
 use deadpool_managed::gate::Ticket;
 use deadpool_managed::{
     AgainReply, AskReply, BackReply, CreatedReply, Desk, EnterReply, HandleReply, Held, Holding,
-    RetainResult, Retainer, Slot, Status, StepReply, TakeReply,
+    OwnerDesk, RetainResult, Retainer, Slot, Status, StepReply, TakeReply,
 };
 use futures::task::Waker;
 use std::alloc::{AllocError, Global};
@@ -119,7 +119,8 @@ impl<T: Drop, L: Ledgers> Locked<T, L> {
         reply
     }
 
-    /// A queued get. An object that it is given goes into `place`. If it stays queued its waker is exchanged, otherwise the kept one is in `spare`.
+    /// A queued get. An object that it is given goes into `place`. If it stays queued its waker is exchanged, otherwise the
+    /// kept one is in `spare`.
     pub fn ask_in(
         &mut self,
         shares: &mut Shares<L>,
@@ -131,7 +132,8 @@ impl<T: Drop, L: Ledgers> Locked<T, L> {
     ) -> AskReply<()>
         requires { shares.old ≡ counts_of Holding.Nothing }
         ensures holds { shares.new ≡ counts_of (held_if_asked result) }
-        ensures asked { (whole : AskReply (Slot T)) × (AsksNoted self.old.pool ticket expired whole self.new.pool
+        ensures asked { (whole : AskReply (Slot T))
+            × (AsksNoted self.old.pool ticket expired whole self.new.pool
             × IsPartedAsk whole result place.old place.new) }
         ensures wakers { Follows (Some ticket) (ticket_if_asked ticket result) self.old.wakers waker.old spare.new self.new.wakers waker.new }
     {
@@ -157,7 +159,8 @@ impl<T: Drop, L: Ledgers> Locked<T, L> {
         requires { shares.old ≡ counts_of Holding.Place }
         ensures holds { shares.new ≡ counts_of (held_if_asked_again result) }
         ensures known { IsServed result }
-        ensures asked { (whole : AgainReply (Slot T)) × (AsksAgainNoted self.old.pool allowance whole self.new.pool
+        ensures asked { (whole : AgainReply (Slot T))
+            × (AsksAgainNoted self.old.pool allowance whole self.new.pool
             × IsPartedAgain whole result place.old place.new) }
         ensures wakers { self.new.wakers ≡ self.old.wakers }
         ensures allowed { IsWithinAllowance allowance result }

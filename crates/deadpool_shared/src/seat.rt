@@ -14,10 +14,9 @@ use crate::shares::Shares;
 use deadpool_lock::Listener;
 use deadpool_managed::gate::Ticket;
 use deadpool_managed::{
-    AgainReply, AskReply, AsyncHook, BackReply, Clock, CreatedReply, Desk, EnterReply, HandleReply,
-    Held, Manager, RetainResult, Retainer, Serving, Slot, Status, StepReply, SyncHook, TakeReply,
+    AgainReply, AskReply, AsyncHook, BackReply, Clock, CreatedReply, Desk, EnterReply, Held,
+    Manager, Serving, Slot, StepReply, SyncHook, TakeReply,
 };
-use std::alloc::AllocError;
 use std::marker::Model;
 use std::sync::Wait;
 
@@ -74,21 +73,7 @@ impl<'a, M: Manager, F: SyncHook<M>, A: AsyncHook<M>, C: Clock, R: Wait + Drop, 
 
     ghost cancels = { λ _ held reply _. HasShare held → reply ≡ StepReply.Done };
 
-    ghost stands = { λ _ _ _. ⊤ };
-
     ghost takes = { λ _ reply _. reply ≢ TakeReply.Unknown };
-
-    ghost resizes = { λ _ _ _ _. ⊤ };
-
-    ghost retains = { λ _ _ _ _ _ _ _. ⊤ };
-
-    ghost closes = { λ _ _. ⊤ };
-
-    ghost clones = { λ _ _ _. ⊤ };
-
-    ghost drops_handle = { λ _ _ _. ⊤ };
-
-    ghost upgrades = { λ _ _ _. ⊤ };
 
     fn enter_in(&mut self, wait: bool, place: &mut Option<Slot<M::Type>>) -> EnterReply<()> {
         let mut step = self.shared.lock.begin();
@@ -228,10 +213,6 @@ impl<'a, M: Manager, F: SyncHook<M>, A: AsyncHook<M>, C: Clock, R: Wait + Drop, 
         reply
     }
 
-    fn status(&mut self) -> Status {
-        self.shared.status()
-    }
-
     fn take(&mut self) -> TakeReply {
         let Some(shares) = &mut self.shares else {
             unreachable!();
@@ -240,39 +221,6 @@ impl<'a, M: Manager, F: SyncHook<M>, A: AsyncHook<M>, C: Clock, R: Wait + Drop, 
         let reply = step.kept().take(shares);
         self.shared.lock.end(step);
         reply
-    }
-
-    fn resize(&mut self, limit: usize) -> Result<(), AllocError> {
-        self.shared.resize(limit)
-    }
-
-    fn retain<K: Retainer<M::Type>>(
-        &mut self,
-        retainer: &mut K,
-    ) -> Result<RetainResult<M::Type>, AllocError> {
-        self.shared.retain(retainer)
-    }
-
-    fn close(&mut self) {
-        self.shared.close();
-    }
-
-    fn clone_handle(&mut self) -> HandleReply {
-        let mut step = self.shared.lock.begin();
-        let reply = step.kept().clone_handle();
-        self.shared.lock.end(step);
-        reply
-    }
-
-    fn drop_handle(&mut self) -> HandleReply {
-        let mut step = self.shared.lock.begin();
-        let reply = step.kept().drop_handle();
-        self.shared.lock.end(step);
-        reply
-    }
-
-    fn upgrade(&mut self) -> bool {
-        self.shared.upgrade()
     }
 }
 

@@ -1,7 +1,9 @@
 //! The journal of a pool, driven again on one thread.
 use crate::expected::expect;
 use deadpool::Moment;
-use deadpool::managed::desk::{Core, Desk, Removal, Removals, Retainer, Slot, by_number};
+use deadpool::managed::desk::{
+    Core, Desk, OwnerDesk, Removal, Removals, Retainer, Slot, by_number,
+};
 use deadpool::managed::{Entry, Journal, Metrics, Status};
 use std::alloc::{AllocError, Global};
 use std::test::Fail;

@@ -2,8 +2,8 @@
 //! get as a state that its owner polls. Who uses a pool needs none of it.
 
 pub use deadpool_managed::{
-    AgainReply, AskReply, BackReply, Core, CreatedReply, Desk, EnterReply, Environment, GetState,
-    HandleReply, Held, Hooks, Position, Preparation, Removal, Removals, Retainer, Serving, Slot,
-    Stage, StepReply, TakeReply, Turn, laws,
+    AgainReply, AskReply, BackReply, Core, Counts, CreatedReply, Desk, EnterReply, Environment,
+    GetState, HandleReply, Held, Hooks, OwnerDesk, Position, Preparation, Removal, Removals,
+    Retainer, Serving, Slot, Stage, StageKind, StepReply, TakeReply, Turn, laws,
 };
 pub use deadpool_shared::{Seat, by_number};

@@ -2,8 +2,8 @@
 use deadpool::replay::Move;
 use deadpool_journal::Journaled;
 use deadpool_managed::{
-    Desk, Environment, GetState, Hook, Hooks, Metrics, Moment, NoHook, PoolConfig, Retainer,
-    Runtime, Slot, Timeouts, Turn,
+    Desk, Environment, GetState, Hook, Hooks, Metrics, Moment, NoHook, OwnerDesk, PoolConfig,
+    Retainer, Runtime, Slot, Timeouts, Turn,
 };
 use deadpool_parts::tables::take_out;
 use futures::task::{Doorbell, Solo};

@@ -1,6 +1,6 @@
 //! A journal, driven again.
 use deadpool_journal::{Entry, Journal, by_number};
-use deadpool_managed::{Core, Desk, Metrics, Moment, Removal, Removals, Retainer, Slot};
+use deadpool_managed::{Core, Desk, Metrics, Moment, OwnerDesk, Removal, Removals, Retainer, Slot};
 use std::alloc::{AllocError, Global};
 
 /// Whether a new pool, opened as the journal says, gives each entry's reply to its step.

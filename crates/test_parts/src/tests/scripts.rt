@@ -5,7 +5,7 @@ use super::texts::deadlines::DEADLINES;
 use super::texts::gets::GETS;
 use super::texts::owner::OWNER;
 use deadpool_journal::Journal;
-use deadpool_managed::Desk;
+use deadpool_managed::OwnerDesk;
 use pool_scripts::Answers;
 use std::alloc::Global;
 use std::random::RandomSource;

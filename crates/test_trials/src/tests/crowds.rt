@@ -1,7 +1,7 @@
 //! Many gets, and a large limit.
 use super::cores::{created, keep, new_core};
 use deadpool::managed::QueueMode;
-use deadpool::managed::desk::{Core, Desk, EnterReply};
+use deadpool::managed::desk::{Core, Desk, EnterReply, OwnerDesk};
 use pool_scripts::{expect_crowd, expect_script};
 use std::alloc::{AllocError, Global};
 use std::test::Fail;

@@ -3,7 +3,7 @@ ghost use Rattle.deadpool.specs.Holding.{Holding};
 
 use super::cores::{created, keep};
 use super::managers::Counter;
-use deadpool::managed::desk::{Core, Desk, Environment, GetState, Hooks, Slot, Turn};
+use deadpool::managed::desk::{Core, Desk, Environment, GetState, Hooks, OwnerDesk, Slot, Turn};
 use deadpool::managed::{Manager, NoHook, QueueMode, Timeouts};
 use deadpool::{Moment, Runtime};
 use futures::task::Context;

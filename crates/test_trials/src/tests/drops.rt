@@ -2,7 +2,7 @@
 use super::cores::{created, keep};
 use super::managers::count;
 use deadpool::managed::QueueMode;
-use deadpool::managed::desk::{Core, Desk, Slot};
+use deadpool::managed::desk::{Core, Desk, OwnerDesk, Slot};
 use deadpool::unmanaged;
 use std::cell::Cell;
 use std::test::Fail;

@@ -1,7 +1,7 @@
 //! Retains over a pool's state, by retainers that change with each call.
 use super::cores::{created, keep};
 use deadpool::Moment;
-use deadpool::managed::desk::{Core, Desk, Retainer};
+use deadpool::managed::desk::{Core, OwnerDesk, Retainer};
 use deadpool::managed::{Metrics, QueueMode};
 use std::test::Fail;
 use std::time::Duration;

@@ -2,14 +2,11 @@
 ghost use Rattle.std.specs.Prelude.{⊤};
 
 use super::managers::Calls;
-use deadpool::Status;
 use deadpool::gate::Ticket;
-use deadpool::managed::RetainResult;
 use deadpool::managed::desk::{
-    AgainReply, AskReply, BackReply, Core, CreatedReply, Desk, EnterReply, HandleReply, Held,
-    Retainer, Slot, StepReply, TakeReply,
+    AgainReply, AskReply, BackReply, Core, CreatedReply, Desk, EnterReply, Held, Slot, StepReply,
+    TakeReply,
 };
-use std::alloc::AllocError;
 
 /// A pool's state. At each step that gives an object up it notes how many were detached by then.
 #[derive(Drop)]
@@ -48,21 +45,7 @@ impl<'a, T: Drop> Desk<T> for Watched<'a, T> {
 
     ghost cancels = { λ _ _ _ _. ⊤ };
 
-    ghost stands = { λ _ _ _. ⊤ };
-
     ghost takes = { λ _ _ _. ⊤ };
-
-    ghost resizes = { λ _ _ _ _. ⊤ };
-
-    ghost retains = { λ _ _ _ _ _ _ _. ⊤ };
-
-    ghost closes = { λ _ _. ⊤ };
-
-    ghost clones = { λ _ _ _. ⊤ };
-
-    ghost drops_handle = { λ _ _ _. ⊤ };
-
-    ghost upgrades = { λ _ _ _. ⊤ };
 
     fn enter_in(&mut self, wait: bool, place: &mut Option<Slot<T>>) -> EnterReply<()> {
         self.core.enter_in(wait, place)
@@ -135,35 +118,7 @@ impl<'a, T: Drop> Desk<T> for Watched<'a, T> {
         }
     }
 
-    fn status(&mut self) -> Status {
-        self.core.status()
-    }
-
     fn take(&mut self) -> TakeReply {
         self.core.take()
-    }
-
-    fn resize(&mut self, limit: usize) -> Result<(), AllocError> {
-        self.core.resize(limit)
-    }
-
-    fn retain<R: Retainer<T>>(&mut self, retainer: &mut R) -> Result<RetainResult<T>, AllocError> {
-        self.core.retain(retainer)
-    }
-
-    fn close(&mut self) {
-        self.core.close();
-    }
-
-    fn clone_handle(&mut self) -> HandleReply {
-        self.core.clone_handle()
-    }
-
-    fn drop_handle(&mut self) -> HandleReply {
-        self.core.drop_handle()
-    }
-
-    fn upgrade(&mut self) -> bool {
-        self.core.upgrade()
     }
 }

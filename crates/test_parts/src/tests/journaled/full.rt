@@ -3,8 +3,8 @@ use super::object;
 use crate::tests::expected::expect;
 use deadpool_journal::{Journal, Journaled, by_number};
 use deadpool_managed::{
-    BackReply, CreatedReply, Desk, EnterReply, HandleReply, Held, Metrics, QueueMode, Retainer,
-    Serving, StepReply, TakeReply,
+    BackReply, CreatedReply, Desk, EnterReply, HandleReply, Held, Metrics, OwnerDesk, QueueMode,
+    Retainer, Serving, StepReply, TakeReply,
 };
 use std::alloc::Global;
 use std::test::Fail;

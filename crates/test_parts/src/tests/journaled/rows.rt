@@ -3,7 +3,7 @@
 use super::object;
 use crate::tests::expected::expect;
 use deadpool_journal::{Journal, Journaled, by_number};
-use deadpool_managed::{BackReply, Desk, QueueMode};
+use deadpool_managed::{BackReply, Desk, OwnerDesk, QueueMode};
 use std::alloc::Global;
 use std::test::Fail;
 

@@ -2,7 +2,7 @@ use Rattle.deadpool_journal.specs.JournaledFields.{journaling_of}
 use Rattle.deadpool_journal.specs.declared.entry.Entry.TheVariants as entry
 use Rattle.deadpool_journal.proofs.ByNumber.{drop_handle_numbered}
 use Rattle.deadpool_journal.proofs.Kept.{step_kept}
-use Rattle.deadpool_journal.proofs.journaled.JournaledDesk.drop_handle.Goals as goal
+use Rattle.deadpool_journal.proofs.journaled.JournaledOwnerDesk.drop_handle.Goals as goal
 
 pub invariant_of-self : goal.invariant_of-self
 invariant_of-self g c =

@@ -5,7 +5,7 @@ use Rattle.deadpool_journal.specs.JournaledFields.{journaling_of}
 use Rattle.deadpool_journal.specs.declared.entry.Entry.TheVariants as entry
 use Rattle.deadpool_journal.proofs.Kept.{step_kept}
 use Rattle.deadpool_journal.proofs.Retains.{retain_numbered, refused_retain_numbered, unnoted_retain, unnoted_kept}
-use Rattle.deadpool_journal.proofs.journaled.JournaledDesk.retain.Goals as goal
+use Rattle.deadpool_journal.proofs.journaled.JournaledOwnerDesk.retain.Goals as goal
 
 pub invariant_of-self-in-Ok : goal.invariant_of-self-in-Ok
 invariant_of-self-in-Ok g c =
