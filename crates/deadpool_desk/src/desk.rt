@@ -165,7 +165,8 @@ impl Serving<()> {
     /// The whole of it, with the object that was put into an empty place.
     pub(crate) fn with<O>(self, place: Option<O>) -> Serving<O>
         requires { (whole : Serving O) × IsPartedServing whole self None place }
-        ensures whole { (whole : Serving O) → IsPartedServing whole self None place → result ≡ whole }
+        ensures whole { (whole : Serving O)
+            → IsPartedServing whole self None place → result ≡ whole }
         ensures holding { held_if_served result ≡ held_if_served self }
     {
         match (self, place) {

@@ -42,8 +42,10 @@ pub(crate) fn review<T: Drop, R: Retainer<T>>(
     retainer: &mut R,
 ) -> Result<(Vec<T>, Vec<Removal>), AllocError>
     requires { R.can_call retainer.old }
-    ensures reviewed { IfOk result (λ given. ReviewsFrom R.Retainer least (length ring.old.items) 0 ring.old.items retainer.old ring.new.items given.0.items given.1.items retainer.new) }
-    ensures unchanged { OnErr result ((ring.old.items ≢ []) × (ring.new.items ≡ ring.old.items) × (retainer.new ≡ retainer.old)) }
+    ensures reviewed { IfOk result (λ given. ReviewsFrom R.Retainer least (length ring.old.items)
+        0 ring.old.items retainer.old ring.new.items given.0.items given.1.items retainer.new) }
+    ensures unchanged { OnErr result ((ring.old.items ≢ [])
+        × (ring.new.items ≡ ring.old.items) × (retainer.new ≡ retainer.old)) }
     ensures room { ring.new.capacity ≡ ring.old.capacity }
     ensures can_call { R.can_call retainer.new }
 {

@@ -103,7 +103,8 @@ impl<T: Drop> Core<T> {
 
     /// Whether a get that enters now, and is willing to wait, has to join the queue: the pool is open, and no place is free.
     pub fn would_queue(&self) -> bool
-        ensures { result ≡ (self.now.desk.is_open && nat_le self.now.desk.limit (places self.now.desk)) }
+        ensures { result
+            ≡ (self.now.desk.is_open && nat_le self.now.desk.limit (places self.now.desk)) }
     {
         self.state.would_queue()
     }
@@ -151,7 +152,8 @@ impl<T: Drop> Core<T> {
         retainer: &mut R,
     ) -> Result<(RetainResult<T>, Removals), AllocError>
         requires { R.can_call retainer.old }
-        ensures retained { RetainsNoting R.Retainer self.old retainer.old result self.new retainer.new }
+        ensures retained { RetainsNoting R.Retainer
+            self.old retainer.old result self.new retainer.new }
         ensures can_call { R.can_call retainer.new }
     {
         self.state.retain_noting(retainer)

@@ -115,7 +115,8 @@ impl<T: Drop> PoolState<T> {
         retainer: &mut R,
     ) -> Result<(RetainResult<T>, Removals), AllocError>
         requires { R.can_call retainer.old }
-        ensures retained { RetainsNoting R.Retainer self.old retainer.old result self.new retainer.new }
+        ensures retained { RetainsNoting R.Retainer
+            self.old retainer.old result self.new retainer.new }
         ensures can_call { R.can_call retainer.new }
     {
         let least = self.least_idle();
@@ -150,7 +151,8 @@ impl<T: Drop> PoolState<T> {
 
     /// Whether a get that is willing to wait would join the queue.
     pub fn would_queue(&self) -> bool
-        ensures { result ≡ (self.now.desk.is_open && nat_le self.now.desk.limit (places self.now.desk)) }
+        ensures { result
+            ≡ (self.now.desk.is_open && nat_le self.now.desk.limit (places self.now.desk)) }
     {
         !self.gate.is_closed() && self.room() == 0
     }
@@ -192,7 +194,8 @@ impl<T: Drop> PoolState<T> {
     #[inline(always)]
     fn take_idle(&mut self) -> Option<Slot<T>>
         ensures slot { result ≡ next_idle self.old.desk.mode self.old.desk.idle }
-        ensures others { self.new.desk ≡ record self.old.desk { idle = other_idle self.old.desk.mode self.old.desk.idle } }
+        ensures others { self.new.desk
+            ≡ record self.old.desk { idle = other_idle self.old.desk.mode self.old.desk.idle } }
         ensures untold { self.new.untold ≡ self.old.untold }
     {
         match self.mode {

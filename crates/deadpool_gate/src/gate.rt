@@ -163,11 +163,15 @@ impl Gate {
     /// A free place is taken without a look at the list, so settle first if others wait. A place that a listed waiter
     /// has is not free. After any answer but `Waiting` the list is as it was, and the caller may enter again.
     pub fn enter(&mut self, room: usize, wait: bool) -> Entry
-        ensures at_once { IfSome (entry_at_once self.old.is_closed room wait) (λ answer. result ≡ answer) }
-        ensures unchanged { IfSome (entry_at_once self.old.is_closed room wait) (λ _. self.new.waiters ≡ self.old.waiters) }
-        ensures joins { IfNone (entry_at_once self.old.is_closed room wait) (Joins self.old.waiters result self.new.waiters) }
+        ensures at_once { IfSome (entry_at_once self.old.is_closed room wait)
+            (λ answer. result ≡ answer) }
+        ensures unchanged { IfSome (entry_at_once self.old.is_closed room wait)
+            (λ _. self.new.waiters ≡ self.old.waiters) }
+        ensures joins { IfNone (entry_at_once self.old.is_closed room wait)
+            (Joins self.old.waiters result self.new.waiters) }
         ensures memory { result ≡ Entry.OutOfMemory → self.old.capacity ≤ length self.old.waiters }
-        ensures number { (ticket : ℕ) → result ≡ Entry.Waiting ticket → ticket ≡ self.old.next_ticket }
+        ensures number { (ticket : ℕ)
+            → result ≡ Entry.Waiting ticket → ticket ≡ self.old.next_ticket }
         ensures closed { self.new.is_closed ≡ self.old.is_closed }
         ensures accesses { RisesAtMost 2 self.old.accesses self.new.accesses }
         ensures mark { self.new.mark ≡ self.old.accesses }
@@ -231,8 +235,10 @@ impl Gate {
     pub fn settle(&mut self, room: usize) -> usize
         ensures count { result ≡ grant_count self.old.is_closed room self.old.waiters }
         ensures waiters { self.new.waiters ≡ grant result self.old.waiters }
-        ensures places { granted_tickets self.new.waiters ≡ granted_tickets self.old.waiters ++ take result (waiting_tickets self.old.waiters) }
-        ensures left { waiting_tickets self.new.waiters ≡ drop result (waiting_tickets self.old.waiters) }
+        ensures places { granted_tickets self.new.waiters
+            ≡ granted_tickets self.old.waiters ++ take result (waiting_tickets self.old.waiters) }
+        ensures left { waiting_tickets self.new.waiters
+            ≡ drop result (waiting_tickets self.old.waiters) }
         ensures untold { untold_tickets self.new.waiters ≡ untold_tickets self.old.waiters }
         ensures closed { self.new.is_closed ≡ self.old.is_closed }
         ensures accesses { RisesAtMost (2 * result) self.old.accesses self.new.accesses }
@@ -303,7 +309,8 @@ impl Gate {
     /// Says how a waiter stands. After `Closed` or `Granted` it has left the list, and its ticket is void. After
     /// `Waiting` it keeps its position and asks again later. `Unknown` changes nothing.
     pub fn ask(&mut self, ticket: Ticket) -> Ask
-        ensures answer { result ≡ answer_of self.old.is_closed (find_waiter ticket self.old.waiters) }
+        ensures answer { result
+            ≡ answer_of self.old.is_closed (find_waiter ticket self.old.waiters) }
         ensures waiters { self.new.waiters ≡ asked self.old.is_closed ticket self.old.waiters }
         ensures closed { self.new.is_closed ≡ self.old.is_closed }
         ensures line { IsLine self.old.is_closed self.old.waiters }
@@ -364,8 +371,10 @@ impl Gate {
         ensures waiters { self.new.waiters ≡ tell_next self.old.is_closed self.old.waiters }
         ensures granted { granted_tickets self.new.waiters ≡ granted_tickets self.old.waiters }
         ensures waiting { waiting_tickets self.new.waiters ≡ waiting_tickets self.old.waiters }
-        ensures next { result ≡ next_due (not self.old.is_closed) (granted_tickets self.old.waiters) (untold_tickets self.old.waiters) }
-        ensures untold { untold_tickets self.new.waiters ≡ still_untold result (untold_tickets self.old.waiters) }
+        ensures next { result ≡ next_due (not self.old.is_closed)
+            (granted_tickets self.old.waiters) (untold_tickets self.old.waiters) }
+        ensures untold { untold_tickets self.new.waiters
+            ≡ still_untold result (untold_tickets self.old.waiters) }
         ensures closed { self.new.is_closed ≡ self.old.is_closed }
         ensures accesses { RisesAtMost 2 self.old.accesses self.new.accesses }
         ensures mark { self.new.mark ≡ self.old.accesses }
@@ -384,7 +393,8 @@ impl Gate {
     /// Whether `take_wake` would name somebody. It looks at no waiter.
     pub fn is_wake_due(&self) -> bool
         ensures due { result ≡ is_some (due_ticket self.now.is_closed self.now.waiters) }
-        ensures next { result ≡ is_some (next_due (not self.now.is_closed) (granted_tickets self.now.waiters) (untold_tickets self.now.waiters)) }
+        ensures next { result ≡ is_some (next_due (not self.now.is_closed)
+            (granted_tickets self.now.waiters) (untold_tickets self.now.waiters)) }
     {
         let Some(key) = self.first_untold else {
             return false;

@@ -148,7 +148,8 @@ impl<T: Drop> Journaled<T> {
 
     /// Whether a get that enters now, and is willing to wait, has to join the queue. It is no step.
     pub fn would_queue(&self) -> bool
-        ensures { let desk = self.now.core.desk in result ≡ (desk.is_open && nat_le desk.limit (places desk)) }
+        ensures { let desk = self.now.core.desk
+            in result ≡ (desk.is_open && nat_le desk.limit (places desk)) }
     {
         self.core.would_queue()
     }

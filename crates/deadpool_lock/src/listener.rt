@@ -26,7 +26,8 @@ impl Listener {
     pub fn listen(&mut self, source: Option<&Source>, cx: &mut Context<'_>)
         ensures armed { IsArmed cx.new }
         ensures heard { IfSome source.entry (λ s. Hears cx.new s.now.id) }
-        ensures left { (cx.new.lacks_waker ≡ true) ⊎ IsSomeAnd self.new.waker (λ waker. Wakes waker cx.old) }
+        ensures left { (cx.new.lacks_waker ≡ true)
+            ⊎ IsSomeAnd self.new.waker (λ waker. Wakes waker cx.old) }
         ensures kept { Keeps cx.old cx.new }
     {
         let source = source.unwrap_or(&self.nowhere);

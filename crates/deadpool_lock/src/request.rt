@@ -83,14 +83,18 @@ impl<Q: Request<S>, S: Counted + Drop> RequestFuture<Q, S> {
     /// One poll.
     pub fn advance(&mut self, cx: &mut Context<'_>) -> Poll<Q::Output>
         ensures gives { IfReady result Q.gives }
-        ensures ended { IfReady result (λ _. IsOver self.new.handle self.new.request self.new.refusal) }
+        ensures ended { IfReady result
+            (λ _. IsOver self.new.handle self.new.request self.new.refusal) }
         ensures waits { OnPending result (is_some self.new.request ≡ is_some self.old.request) }
         ensures told { OnPending result (IsNone self.old.handle → IsNone self.old.refusal) }
-        ensures stays { IsOver self.old.handle self.old.request self.old.refusal → result ≡ Poll.Pending }
-        ensures over { IsOver self.old.handle self.old.request self.old.refusal → IsOver self.new.handle self.new.request self.new.refusal }
+        ensures stays { IsOver self.old.handle self.old.request self.old.refusal
+            → result ≡ Poll.Pending }
+        ensures over { IsOver self.old.handle self.old.request self.old.refusal
+            → IsOver self.new.handle self.new.request self.new.refusal }
         ensures handle { self.new.handle ≡ self.old.handle }
         ensures armed { OnPending result (IsArmed cx.new) }
-        ensures heard { OnPending result (IfSome self.old.handle (λ shared. Hears cx.new (S.source_of shared))) }
+        ensures heard { OnPending result
+            (IfSome self.old.handle (λ shared. Hears cx.new (S.source_of shared))) }
         ensures kept { Keeps cx.old cx.new }
     {
         let Some(handle) = &self.handle else {
@@ -227,7 +231,8 @@ impl<'a, Q: Request<S>, S: Counted + Drop> RequestRef<'a, Q, S> {
     /// One poll.
     pub fn advance(&mut self, cx: &mut Context<'_>) -> Poll<Q::Output>
         ensures gives { IfReady result Q.gives }
-        ensures begun { IfReady result (λ _. (is_some self.old.request || is_some self.old.refusal) ≡ true) }
+        ensures begun { IfReady result
+            (λ _. (is_some self.old.request || is_some self.old.refusal) ≡ true) }
         ensures ended { IfReady result (λ _. IsNone self.new.request × IsNone self.new.refusal) }
         ensures waits { OnPending result (is_some self.new.request ≡ is_some self.old.request) }
         ensures told { OnPending result (IsNone self.old.refusal) }

@@ -55,7 +55,8 @@ impl Wakers {
     /// Exchanges the waker of a ticket. False if the ticket has no place, and nothing has changed.
     pub fn exchange(&mut self, ticket: Ticket, waker: &mut Option<Waker>) -> bool
         ensures has { result ≡ nat_lt ticket (length self.old) }
-        ensures exchanged { IsTrue result → (self.new ≡ slice_set self.old ticket waker.old) × (waker.new ≡ waker_at ticket self.old) }
+        ensures exchanged { IsTrue result → (self.new ≡ slice_set self.old ticket waker.old)
+            × (waker.new ≡ waker_at ticket self.old) }
         ensures unchanged { IsFalse result → (self.new ≡ self.old) × (waker.new ≡ waker.old) }
     {
         let number = ticket.number();

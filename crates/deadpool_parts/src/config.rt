@@ -156,7 +156,8 @@ pub fn max_size_of(value: &Value) -> Result<usize, ConfigError>
 }
 
 fn timeouts_of(value: &Value) -> Result<Timeouts, ConfigError>
-    ensures { result_map durations_of result ≡ read_timeouts (get (codes "timeouts") (view value.now)) }
+    ensures { result_map durations_of result
+        ≡ read_timeouts (get (codes "timeouts") (view value.now)) }
 {
     let Some(timeouts) = value.get("timeouts") else {
         return Ok(Timeouts::new());
@@ -199,7 +200,8 @@ fn min_idle_of(value: &Value) -> Result<usize, ConfigError>
 
 /// The timeout at a key of an object: not set if the key is missing or null.
 pub fn timeout_at(value: &Value, key: &str) -> Result<Option<Duration>, ConfigError>
-    ensures { result_map (option_map as_nanos) result ≡ read_timeout (get key.now (view value.now)) }
+    ensures { result_map (option_map as_nanos) result
+        ≡ read_timeout (get key.now (view value.now)) }
 {
     let Some(timeout) = value.get(key) else {
         return Ok(None);

@@ -88,7 +88,8 @@ impl NodeStore {
 
     /// Writes one field of a node, if there is one under the key: one access.
     pub fn write(&mut self, key: usize, change: Change)
-        ensures updates { Updates self.old.nodes self.new.nodes key (option_map (changed change) (get self.old.nodes key)) }
+        ensures updates { Updates self.old.nodes self.new.nodes key
+            (option_map (changed change) (get self.old.nodes key)) }
         ensures len { slab_len self.new.nodes ≡ slab_len self.old.nodes }
         ensures accesses { self.new.accesses ≡ min (self.old.accesses + 1) (2 ^ 128 - 1) }
         ensures rises { self.old.accesses ≤ self.new.accesses }
@@ -104,11 +105,13 @@ impl NodeStore {
     pub fn put(&mut self, node: Node) -> Result<usize, AllocError>
         ensures next { IfOk result (λ key. key ≡ self.old.nodes.vacant_key) }
         ensures vacant { IfOk result (λ key. get self.old.nodes key ≡ None) }
-        ensures updates { IfOk result (λ key. Updates self.old.nodes self.new.nodes key (Some node)) }
+        ensures updates { IfOk result
+            (λ key. Updates self.old.nodes self.new.nodes key (Some node)) }
         ensures len { OnOk result (slab_len self.new.nodes ≡ slab_len self.old.nodes + 1) }
         ensures few { OnOk result (slab_len self.new.nodes < 2 ^ 63) }
         ensures unchanged { OnErr result (self.new.nodes.slots ≡ self.old.nodes.slots) }
-        ensures full { OnErr result (min self.old.nodes.capacity (2 ^ 63 - 1) ≤ slab_len self.old.nodes) }
+        ensures full { OnErr result
+            (min self.old.nodes.capacity (2 ^ 63 - 1) ≤ slab_len self.old.nodes) }
         ensures accesses { self.new.accesses ≡ min (self.old.accesses + 1) (2 ^ 128 - 1) }
         ensures rises { self.old.accesses ≤ self.new.accesses }
     {
