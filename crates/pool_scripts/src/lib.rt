@@ -21,10 +21,10 @@ pub use engine::play;
 pub use expecting::{expect_crowd, expect_over, expect_script, find_mismatch};
 pub use fault::Fault;
 pub use lines::{read_line, without_line_feed, write_out};
-pub use manager::{Answer, Answers, Kind, ScriptHook, ScriptManager};
+pub use manager::{Answer, Answers, Kind, Refused, ScriptHook, ScriptManager};
 pub use mismatch::Mismatch;
 pub use script::{
-    LineError, ManagedLine, ManagedPool, PoolLine, Settings, parse_managed, parse_number,
-    parse_pool,
+    LineError, ManagedLine, ManagedPool, PoolLine, Settings, UnmanagedPool, parse_managed,
+    parse_number, parse_pool, parse_unmanaged,
 };
-pub use texts::{write_status, write_unmanaged};
+pub use texts::{write_managed, write_status, write_unmanaged};

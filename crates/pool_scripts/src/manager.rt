@@ -75,8 +75,8 @@ impl Answers {
         appended
     }
 
-    // The first answer left, which is taken.
-    fn next(&self, kind: Kind) -> Answer {
+    /// The first answer left, which is taken. If none is, a poll is accepted.
+    pub fn next(&self, kind: Kind) -> Answer {
         let left = self.of_kind(kind);
         let mut queue = left.replace(VecDeque::new(self.alloc));
         let answer = queue.pop_front().unwrap_or(Answer::Accept);
@@ -84,8 +84,8 @@ impl Answers {
         answer
     }
 
-    // Answers a poll that has an object.
-    fn respond(&self, kind: Kind, value: &mut u64) -> Poll<Result<(), Refused>> {
+    /// Answers a poll that has an object.
+    pub fn respond(&self, kind: Kind, value: &mut u64) -> Poll<Result<(), Refused>> {
         match self.next(kind) {
             Answer::Accept => Poll::Ready(Ok(())),
             Answer::Pending => Poll::Pending,

@@ -7,7 +7,5 @@ mod errors;
 mod expected;
 mod gate;
 mod journaled;
-mod replay;
 mod scripts;
-mod texts;
 mod vector_gate;

@@ -1,26 +1,19 @@
 mod backend;
 mod bad_bytes;
 mod buffers;
-mod cancelled;
-mod configuration;
 mod counting;
 mod faults;
-mod first_path;
-mod limits;
 mod long;
 mod million;
 mod min_idle;
-mod own_steps;
 mod player;
-mod preparation;
 mod program;
 mod rare_replies;
 mod refused;
 mod started;
 mod streams;
-mod timeouts;
 mod told;
-mod unmanaged;
+mod worked;
 
 use pool_scripts::expect_script;
 use poolrun_engine::Fault;
@@ -29,20 +22,16 @@ use std::fmt::Debug;
 use std::random::RandomSource;
 use std::str;
 use std::test::Fail;
+use test_scripts::{parted, sides_of};
 
 /// A script by lines, each with its reply behind ` => `.
 pub type Lines = &'static str;
-
-/// A line of a script and its reply.
-pub fn parts_of(line: &str) -> (&str, &str) {
-    line.split_once(" => ").unwrap_or((line, ""))
-}
 
 /// The script's lines.
 pub fn script_of(alloc: Global, lines: &str) -> Result<String, AllocError> {
     let mut text = String::new(alloc);
     for line in lines.lines() {
-        let (line, _) = parts_of(line);
+        let (line, _) = sides_of(line);
         writeln!(text, "{line}")?;
     }
     Ok(text)
@@ -52,7 +41,7 @@ pub fn script_of(alloc: Global, lines: &str) -> Result<String, AllocError> {
 pub fn replies_of(alloc: Global, lines: &str) -> Result<String, AllocError> {
     let mut text = String::new(alloc);
     for line in lines.lines() {
-        let (_, reply) = parts_of(line);
+        let (_, reply) = sides_of(line);
         writeln!(text, "{reply}")?;
     }
     Ok(text)
@@ -120,7 +109,7 @@ pub fn replies_as_written<R: RandomSource + AllocGlobal>(
 ) -> Result<(), Fail> {
     expect_script(rt, scripts)?;
     for script in scripts.split("\n\n") {
-        let (name, lines) = script.split_once('\n').unwrap_or((script, ""));
+        let (name, lines) = parted(script);
         has_its_replies(rt, name, lines)?;
     }
     Ok(())

@@ -1,5 +1,4 @@
-//! What tests of pools share: texts of what was not as expected, scripts, journals that are driven again, and a hoard of all
-//! memory.
+//! What tests of pools share: texts of what was not as expected, journals that are driven again, and a hoard of all memory.
 #![tactic(auto)]
 
 pub mod builders;
@@ -7,5 +6,3 @@ pub mod expected;
 pub mod hoard;
 pub mod journals;
 pub mod lines;
-pub mod managed_scripts;
-pub mod unmanaged_scripts;

@@ -1,9 +1,6 @@
 //! Scripts by lines, and what comes of a line that finds no memory.
 use std::alloc::{AllocError, Global};
-
-/// Scripts as a text: one line stands below the other, and empty lines part the scripts. One that begins with `#` is a
-/// comment.
-pub type Scripts = &'static str;
+use test_scripts::sides_of;
 
 /// The party that a line advances, polls or cancels.
 pub fn party_of(line: &str) -> Option<&str> {
@@ -19,12 +16,13 @@ pub fn is_cancel(line: &str) -> bool {
     line.starts_with("cancel ")
 }
 
-/// The lines of a script, without its comments.
+/// What the lines of a script say, but for its comments and for those that ask how the pool stands.
 pub fn lines_of(alloc: Global, script: &'static str) -> Result<Vec<&'static str>, AllocError> {
     let mut lines = Vec::new(alloc);
     for line in script.lines() {
-        if !line.starts_with('#') {
-            lines.push(line)?;
+        let (said, _) = sides_of(line);
+        if !said.starts_with('#') && said != "status" {
+            lines.push(said)?;
         }
     }
     Ok(lines)

@@ -19,31 +19,11 @@ mod texts;
 mod trials;
 mod wakes;
 
-use deadpool::Status;
-use std::fmt::Debug;
 use std::random::RandomSource;
 use std::sync::Wait;
-use std::test::Fail;
+pub use test_support::expected::{expect, stands};
 
 /// What the tests need of a runtime.
 pub trait Host: Wait + RandomSource + AllocGlobal + Copy + Drop + Send + Sync {}
 
 impl<R: Wait + RandomSource + AllocGlobal + Copy + Drop + Send + Sync> Host for R {}
-
-/// How a pool is to stand.
-pub fn stands(max_size: usize, size: usize, available: usize, waiting: usize) -> Status {
-    Status {
-        max_size,
-        size,
-        available,
-        waiting,
-    }
-}
-
-/// Fails unless both values are the same.
-pub fn expect<T: PartialEq + Debug + Drop>(what: &str, found: T, expected: T) -> Result<(), Fail> {
-    if found == expected {
-        return Ok(());
-    }
-    Err(Fail::new(format_args!("{what}: found {found:?}, expected {expected:?}")))
-}

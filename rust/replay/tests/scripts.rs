@@ -82,9 +82,11 @@ fn kinds_of(text: String) -> Vec<String> {
 
 #[test]
 fn the_scripts_of_its_tests_have_their_replies() {
-    let folder = Path::new(env!("CARGO_MANIFEST_DIR")).join("../../crates/test_poolrun/src");
+    let crates = Path::new(env!("CARGO_MANIFEST_DIR")).join("../../crates");
     let mut files = Vec::new();
-    below(&folder, &mut files);
+    for name in ["test_scripts", "test_poolrun"] {
+        below(&crates.join(name).join("src"), &mut files);
+    }
     let mut outcome = Outcome::default();
     for file in files {
         let source = fs::read_to_string(&file).expect("a source");

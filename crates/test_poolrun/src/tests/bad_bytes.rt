@@ -1,9 +1,10 @@
 //! A script with each of its bytes changed, and cut off at each of them.
-use super::{Lines, Run, comes_to, count_is, parts_of, play, script_of};
+use super::{Lines, Run, comes_to, count_is, play, script_of};
 use poolrun_engine::Fault;
 use std::alloc::{AllocError, Global};
 use std::random::RandomSource;
 use std::test::Fail;
+use test_scripts::sides_of;
 
 // The script that lies beside the program.
 const SCRIPT: Lines = "\
@@ -19,7 +20,7 @@ status => max 1 size 1 available 1 waiting 0
 fn first_replies(alloc: Global, lines: usize) -> Result<String, AllocError> {
     let mut text = String::new(alloc);
     for line in SCRIPT.lines().take(lines) {
-        let (_, reply) = parts_of(line);
+        let (_, reply) = sides_of(line);
         writeln!(text, "{reply}")?;
     }
     Ok(text)
@@ -101,7 +102,7 @@ fn a_cut_leaves_the_lines_before(rt: HostRuntime) -> Result<(), Fail> {
     for line in SCRIPT.lines() {
         let before = lines;
         lines = lines.saturating_add(1);
-        let (line, _) = parts_of(line);
+        let (line, _) = sides_of(line);
         for (length, byte) in line.bytes().enumerate() {
             let want = if length == 0 {
                 Ok(())

@@ -1,27 +1,8 @@
-//! Gets that create, are refused and wait.
+//! Gets that are refused.
 use pool_scripts::expect_script;
 use std::test::Fail;
 
 const SCRIPTS: &str = "\
-# objects-are-created-and-kept
-pool 16 fifo none 0 => ok
-status => max 16 size 0 available 0 waiting 0
-start => party 0
-poll 0 0 => object 0 value 0
-status => max 16 size 1 available 0 waiting 0
-start => party 1
-poll 1 0 => object 1 value 1
-status => max 16 size 2 available 0 waiting 0
-start => party 2
-poll 2 0 => object 2 value 2
-status => max 16 size 3 available 0 waiting 0
-back 0 => kept
-status => max 16 size 3 available 1 waiting 0
-back 1 => kept
-status => max 16 size 3 available 2 waiting 0
-back 2 => kept
-status => max 16 size 3 available 3 waiting 0
-
 # a-refused-creation-is-given-to-the-caller
 pool 2 fifo none 0 => ok
 answer create refuse refuse => ok
@@ -52,22 +33,6 @@ calls => create 3 recycle 2 poll 5 detach 2
 back 2 => kept
 status => max 2 size 1 available 1 waiting 0
 calls => create 3 recycle 2 poll 5 detach 2
-
-# a-refused-creation-gives-its-place-to-the-next
-pool 1 fifo none 0 => ok
-answer create pending refuse => ok
-start => party 0
-poll 0 0 => pending
-status => max 1 size 0 available 0 waiting 1
-start => party 1
-poll 1 0 => pending
-status => max 1 size 0 available 0 waiting 2
-poll 0 0 => error Error occurred while creating a new object: refused
-status => max 1 size 0 available 0 waiting 1
-poll 1 0 => object 0 value 0
-status => max 1 size 1 available 0 waiting 0
-back 0 => kept
-status => max 1 size 1 available 1 waiting 0
 ";
 
 #[test]

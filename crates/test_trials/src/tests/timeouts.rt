@@ -3,24 +3,11 @@ use super::managers::Counter;
 use deadpool::Runtime;
 use deadpool::managed::{BuildError, NoHook, PoolBuilder, QueueMode, Timeouts};
 use deadpool::replay::Trial;
-use pool_scripts::{expect_over, expect_script};
+use pool_scripts::expect_over;
 use std::alloc::Global;
 use std::test::Fail;
 use std::time::Duration;
 use test_support::expected::expect;
-
-const SCRIPTS: &str = r#"# a-creation-that-never-ends-runs-out-of-time
-config clock 0 {"max_size":16,"timeouts":{"wait":{"secs":0,"nanos":0},"create":{"secs":0,"nanos":0},"recycle":{"secs":0,"nanos":0}}} => ok
-answer create pending => ok
-start => party 0
-poll 0 0 => error Timeout occurred while creating a new object
-status => max 16 size 0 available 0 waiting 0
-"#;
-
-#[test]
-fn scripts_have_their_replies(rt: HostRuntime) -> Result<(), Fail> {
-    expect_script(&rt, SCRIPTS)
-}
 
 const NO_TIMEOUTS: Timeouts = Timeouts {
     wait: None,

@@ -10,11 +10,12 @@ use super::texts::lists::LISTS;
 use super::texts::moves::MOVES;
 use super::texts::served::SERVED;
 use super::texts::waking::WAKING;
-use super::texts::worked::WORKED;
+use super::texts::worked::{IN_PLACE, LAST_HANDLES, REFUSED, UPGRADES, WAKES};
 use super::{Host, expect};
 use pool_scripts::{expect_crowd, expect_script};
 use std::alloc::{AllocError, Global};
 use std::test::Fail;
+use test_scripts::{UNMANAGED, is_listed, lines_of, parted, script_of, sides_of};
 
 // Plays a line, and says what came of it.
 fn played<R: Host>(rt: R, player: &mut Player<R>, line: &str) -> Result<String, Fail> {
@@ -48,7 +49,7 @@ fn plays_line<R: Host>(rt: R, player: &mut Player<R>, name: &str, line: &str) ->
     if line.starts_with('#') {
         return Ok(());
     }
-    let (said, expected) = line.split_once(" => ").unwrap_or((line, ""));
+    let (said, expected) = sides_of(line);
     let came = played(rt, player, said)?;
     if came.as_str() == expected {
         return Ok(());
@@ -58,14 +59,13 @@ fn plays_line<R: Host>(rt: R, player: &mut Player<R>, name: &str, line: &str) ->
 
 // Plays what follows the name of a script, and gives how many objects it made.
 fn made_by<R: Host>(rt: R, name: &str, text: &str, drops: &Drops) -> Result<u64, Fail> {
-    let (first, lines) = text.split_once('\n').unwrap_or((text, ""));
+    let (first, lines) = parted(text);
     let opening = opening_of(rt.alloc(), first.strip_suffix(" => ok").unwrap_or(""))?;
     plays_lines(rt, &mut Player::new(rt, &opening, drops)?, name, lines)
 }
 
-// Plays a script, whose first line is its name. In the end each object was dropped once.
-fn plays<R: Host>(rt: R, script: &str) -> Result<(), Fail> {
-    let (name, text) = script.split_once('\n').unwrap_or((script, ""));
+// Plays a script. In the end each object was dropped once.
+fn plays<R: Host>(rt: R, name: &str, text: &str) -> Result<(), Fail> {
     let drops = Drops::new(rt.alloc())?;
     let made = made_by(rt, name, text, &drops)?;
     expect(name, drops.count(), made)
@@ -74,9 +74,49 @@ fn plays<R: Host>(rt: R, script: &str) -> Result<(), Fail> {
 // Plays the scripts of a text, between which empty lines stand.
 fn plays_all<R: Host>(rt: R, text: &str) -> Result<(), Fail> {
     for script in text.split("\n\n") {
-        plays(rt, script)?;
+        let (name, lines) = script_of(script);
+        plays(rt, name, lines)?;
     }
     Ok(())
+}
+
+// The lines of a worked script with those whom they are to wake.
+fn with_wakes(alloc: Global, name: &str, lines: &str) -> Result<String, Fail> {
+    let mut waking = lines_of(WAKES, name).unwrap_or("");
+    let mut text = String::new(alloc);
+    for line in lines.lines() {
+        let (next, rest) = parted(waking);
+        let (said, _) = next.split_once(", wakes ").unwrap_or((next, ""));
+        if said == line {
+            writeln!(text, "{next}")?;
+            waking = rest;
+        } else {
+            writeln!(text, "{line}")?;
+        }
+    }
+    if waking.is_empty() {
+        return Ok(text);
+    }
+    Err(Fail::new(format_args!("{name}: it has no such lines: {waking}")))
+}
+
+// Whether a worked script is none of a shared pool.
+fn is_left_out(name: &str) -> bool {
+    is_listed(LAST_HANDLES, name) || is_listed(UPGRADES, name) || is_listed(REFUSED, name)
+}
+
+// Plays the worked scripts, and says how many are left out.
+fn plays_worked<R: Host>(rt: R) -> Result<usize, Fail> {
+    let mut left_out = 0usize;
+    for script in UNMANAGED.split("\n\n") {
+        let (name, lines) = script_of(script);
+        if is_left_out(name) {
+            left_out = left_out.saturating_add(1);
+        } else {
+            plays(rt, name, with_wakes(rt.alloc(), name, lines)?.as_str())?;
+        }
+    }
+    Ok(left_out)
 }
 
 // The same lines without those whom they wake.
@@ -90,7 +130,7 @@ fn without_wakes(alloc: Global, text: &str) -> Result<String, AllocError> {
 }
 
 // What a trial and a pool can both play.
-const BOTH: [&str; 3] = [WORKED, MOVES, WAKING];
+const BOTH: [&str; 3] = [IN_PLACE, MOVES, WAKING];
 
 #[test]
 fn scripts_have_their_replies_in_a_trial(rt: HostRuntime) -> Result<(), Fail> {
@@ -98,7 +138,13 @@ fn scripts_have_their_replies_in_a_trial(rt: HostRuntime) -> Result<(), Fail> {
         let lines = without_wakes(rt.alloc(), text)?;
         expect_script(&rt, lines.as_str())?;
     }
+    expect_script(&rt, UNMANAGED)?;
     expect_script(&rt, LISTS)
+}
+
+#[test]
+fn worked_scripts_have_their_replies_in_a_pool(rt: HostRuntime) -> Result<(), Fail> {
+    expect("how many are left out", plays_worked(rt)?, 4)
 }
 
 #[test]

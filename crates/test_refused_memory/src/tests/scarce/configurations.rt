@@ -1,8 +1,9 @@
 //! Configurations that are written, and hooks that are added, while too little memory is left.
 use super::calls::TRIES;
-use super::told::{Kind, SharedWorld, Told, ToldHook, World};
+use super::told::{SharedWorld, Told, ToldHook, World};
 use deadpool::managed::{ConfigError, Hook, NoHook, PoolBuilder, PoolConfig, QueueMode, Timeouts};
 use deadpool::unmanaged;
+use pool_scripts::Kind;
 use serde_json::Value;
 use std::alloc::{AllocError, Global};
 use std::test::Fail;

@@ -1,15 +1,16 @@
 //! A managed trial on which scripts are played.
 use super::player::Player;
-use super::told::{Kind, Refused, SharedWorld, Told, ToldHook, World};
-use super::words::{Words, next_moment, next_number};
-use deadpool::Runtime;
-use deadpool::managed::{BuildError, NoHook, PoolBuilder, QueueMode, RetainResult, Timeouts};
+use super::told::{SharedWorld, Told, ToldHook, World};
+use deadpool::managed::{BuildError, NoHook, PoolBuilder};
 use deadpool::replay::{Move, Reply, Trial};
 use futures::test::MockTask;
+use pool_scripts::{
+    Answer, Kind, ManagedLine, ManagedPool, PoolLine, Refused, Settings, parse_managed, parse_pool,
+    write_managed,
+};
 use std::alloc::{AllocError, Global};
 use std::random::RandomSource;
 use std::test::Fail;
-use std::time::Duration;
 use test_support::builders::added;
 use test_support::hoard::Hoard;
 
@@ -60,55 +61,16 @@ impl ManagedPlayer {
             _ => None,
         };
         let mut text = String::new(self.alloc);
-        write_reply(&mut text, &reply, value)?;
+        write_managed(&mut text, &reply, value)?;
+        text.push('\n')?;
         Ok(text)
     }
-}
 
-// Appends a reply as a line.
-fn write_reply(
-    text: &mut String,
-    reply: &Reply<u64, Refused>,
-    value: Option<u64>,
-) -> Result<(), AllocError> {
-    match reply {
-        Reply::Started(party) => write!(text, "party {party}"),
-        Reply::Object(number) => write!(text, "object {number} value {value:?}"),
-        Reply::Failed(cause) => write!(text, "error {cause}"),
-        Reply::Taken(value) => write!(text, "taken {value}"),
-        Reply::Retained(retain) => write_retained(text, retain),
-        Reply::Stands(status) => write!(text, "{status:?}"),
-        Reply::Upgraded(is_counted) => write!(text, "upgraded {is_counted}"),
-        _ => text.push_str(word_of(reply)),
-    }?;
-    text.push('\n')
-}
-
-// A reply in which there is no value.
-fn word_of(reply: &Reply<u64, Refused>) -> &'static str {
-    match reply {
-        Reply::NoRoom => "no room",
-        Reply::NoSuch => "no such",
-        Reply::NoHandle => "no handle",
-        Reply::More => "more",
-        Reply::Pending => "pending",
-        Reply::Cancelled => "cancelled",
-        Reply::Done => "ok",
-        Reply::Kept => "kept",
-        Reply::Detached => "detached",
-        Reply::Dropped => "dropped",
-        Reply::OutOfMemory => "out of memory",
-        _ => "a value",
+    // Hears how polls of a kind are to be answered.
+    fn hear(&self, kind: Kind, answers: Vec<Answer>) -> Result<String, AllocError> {
+        self.world.answers.append(kind, answers)?;
+        String::from_str(self.alloc, "ok\n")
     }
-}
-
-fn write_retained(text: &mut String, retain: &RetainResult<u64>) -> Result<(), AllocError> {
-    let retained = retain.retained;
-    write!(text, "retained {retained} removed")?;
-    for value in retain.removed.iter() {
-        write!(text, " {value}")?;
-    }
-    Ok(())
 }
 
 impl Player for ManagedPlayer {
@@ -138,12 +100,13 @@ impl Player for ManagedPlayer {
     }
 
     fn play(&mut self, line: &'static str) -> Result<String, Fail> {
-        if let Some(said) = line.strip_prefix("answer ") {
-            self.world.tell(said)?;
-            return Ok(String::from_str(self.alloc, "ok\n")?);
+        match said_by(self.alloc, line)? {
+            ManagedLine::Answer(kind, answers) => Ok(self.hear(kind, answers)?),
+            ManagedLine::Move(next) => {
+                let reply = self.make(next);
+                Ok(self.text_of(reply)?)
+            }
         }
-        let reply = self.make(move_of(self.alloc, line)?);
-        Ok(self.text_of(reply)?)
     }
 
     fn cancel(&mut self, party: &str) -> Result<(), Fail> {
@@ -162,10 +125,11 @@ impl Player for ManagedPlayer {
         hoard: &mut Hoard,
         left: usize,
     ) -> Result<Option<String>, Fail> {
-        if line.starts_with("answer ") {
-            return Ok(Some(self.play(line)?));
-        }
-        let moves = vec![in self.alloc; move_of(self.alloc, line)?]?;
+        let next = match said_by(self.alloc, line)? {
+            ManagedLine::Answer(kind, answers) => return Ok(Some(self.hear(kind, answers)?)),
+            ManagedLine::Move(next) => next,
+        };
+        let moves = vec![in self.alloc; next]?;
         hoard.take(left)?;
         let reply = self.run(moves);
         hoard.let_go();
@@ -176,29 +140,33 @@ impl Player for ManagedPlayer {
     }
 }
 
+fn said_by(alloc: Global, line: &str) -> Result<ManagedLine, Fail> {
+    match parse_managed(alloc, line.as_bytes()) {
+        Ok(said) => Ok(said),
+        Err(_) => Err(Fail::new("not a line")),
+    }
+}
+
 // What a pool line says: a pool with a hook of each kind, and the number of its first object.
 fn builder_of(
     alloc: Global,
     world: &SharedWorld,
     line: &'static str,
 ) -> Result<(Builder, usize), Fail> {
-    let mut words = line.split(' ');
-    let _kind = words.next();
-    let Some(max_size) = next_number(&mut words) else {
-        return Err(Fail::new("no size"));
+    let Ok(PoolLine::Managed(pool)) = parse_pool(alloc, line.as_bytes()) else {
+        return Err(Fail::new("not a managed pool"));
     };
-    let mut builder = told_builder(alloc, world)?.max_size(max_size);
-    if words.next() == Some("lifo") {
-        builder = builder.queue_mode(QueueMode::Lifo);
-    }
-    if words.next() == Some("clock") {
-        builder = builder.runtime(Runtime::Clock);
-    }
-    let Some(first_number) = next_number(&mut words) else {
-        return Err(Fail::new("no first number"));
+    let ManagedPool {
+        settings,
+        runtime,
+        first_number,
+    } = pool;
+    let Settings::Known(config) = settings else {
+        return Err(Fail::new("a configuration to be read"));
     };
-    if let Some(count) = next_number(&mut words) {
-        builder = builder.min_idle(count);
+    let mut builder = told_builder(alloc, world)?.config(config);
+    if let Some(runtime) = runtime {
+        builder = builder.runtime(runtime);
     }
     Ok((builder, first_number))
 }
@@ -214,76 +182,4 @@ fn told_builder(alloc: Global, world: &SharedWorld) -> Result<Builder, Fail> {
     let builder = added(builder.pre_recycle(pre_recycle))?;
     let post_recycle = ToldHook::of(world, Kind::PostRecycle)?;
     added(builder.post_recycle(post_recycle))
-}
-
-// The move that a line says.
-fn move_of(alloc: Global, line: &str) -> Result<Move<u64>, Fail> {
-    if let Some(kept) = line.strip_prefix("retain") {
-        return Ok(Move::Retain(numbers_of(alloc, kept)?));
-    }
-    let mut words = line.split(' ');
-    let word = words.next().unwrap_or("");
-    parse_move(word, &mut words).ok_or_else(|| Fail::new("not a move"))
-}
-
-fn parse_move(word: &str, words: &mut Words<'_>) -> Option<Move<u64>> {
-    match word {
-        "start" => Some(Move::Start(timeouts_of(words))),
-        "advance" => Some(Move::Advance(next_number(words)?, next_moment(words)?)),
-        "poll" => Some(Move::Poll(next_number(words)?, next_moment(words)?)),
-        "put" => Some(Move::Put(next_number(words)?, next_number(words)?)),
-        _ => match next_number(words) {
-            Some(number) => numbered_move(word, number),
-            None => bare_move(word),
-        },
-    }
-}
-
-// The move that a word says with one number.
-fn numbered_move(word: &str, number: usize) -> Option<Move<u64>> {
-    match word {
-        "cancel" => Some(Move::Cancel(number)),
-        "back" => Some(Move::Back(number)),
-        "take" => Some(Move::Take(number)),
-        "resize" => Some(Move::Resize(number)),
-        _ => None,
-    }
-}
-
-// The move that a word says alone.
-fn bare_move(word: &str) -> Option<Move<u64>> {
-    match word {
-        "close" => Some(Move::Close),
-        "status" => Some(Move::Status),
-        "clone" => Some(Move::Clone),
-        "drop" => Some(Move::DropHandle),
-        "upgrade" => Some(Move::Upgrade),
-        _ => None,
-    }
-}
-
-// Three timeouts, or no word.
-fn timeouts_of(words: &mut Words<'_>) -> Option<Timeouts> {
-    Some(Timeouts {
-        wait: timeout_of(words.next()?),
-        create: timeout_of(words.next()?),
-        recycle: timeout_of(words.next()?),
-    })
-}
-
-// A dash is none.
-fn timeout_of(word: &str) -> Option<Duration> {
-    Some(Duration::from_nanos(word.parse::<u64>().ok()?))
-}
-
-// The numbers after spaces.
-fn numbers_of(alloc: Global, text: &str) -> Result<Vec<usize>, Fail> {
-    let mut numbers = Vec::new(alloc);
-    for word in text.split(' ').skip(1) {
-        match word.parse::<usize>() {
-            Ok(number) => numbers.push(number)?,
-            Err(_) => return Err(Fail::new("not a number")),
-        }
-    }
-    Ok(numbers)
 }

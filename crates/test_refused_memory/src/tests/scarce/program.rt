@@ -1,5 +1,6 @@
 //! Each line of each script that the program plays, read while too little memory is left.
 use super::reader::ScarceReader;
+use super::scripts;
 use pool_scripts::Fault;
 use std::alloc::{AllocError, Global};
 use std::ops::Range;
@@ -7,8 +8,8 @@ use std::random::RandomSource;
 use std::test::Fail;
 use test_support::expected::expect;
 use test_support::hoard::{Hoard, more};
-use test_support::lines::{Scripts, after_refusal, party_of, refusal_of};
-use test_support::{lines, managed_scripts, unmanaged_scripts};
+use test_support::lines;
+use test_support::lines::{after_refusal, party_of, refusal_of};
 
 // With how many amounts of memory a line is tried at most.
 const TRIES: usize = 4_000;
@@ -331,14 +332,17 @@ fn play_once<R: RandomSource + AllocGlobal>(rt: &R, lines: &[&'static str]) -> R
 }
 
 // Tries the lines of the scripts, but those of the pools.
-fn try_all<R: RandomSource + AllocGlobal + Print>(rt: &R, scripts: Scripts) -> Result<(), Fail> {
-    for script in scripts.split("\n\n") {
-        play_once(rt, &lines_of(rt.alloc(), script)?)?;
+fn try_all<R: RandomSource + AllocGlobal + Print>(
+    rt: &R,
+    scripts: &[&'static str],
+) -> Result<(), Fail> {
+    for script in scripts {
+        play_once(rt, &lines_of(rt.alloc(), *script)?)?;
     }
     let mut hoard = Hoard::new(rt.alloc())?;
     let mut tally = Tally::new();
-    for script in scripts.split("\n\n") {
-        let lines = lines_of(rt.alloc(), script)?;
+    for script in scripts {
+        let lines = lines_of(rt.alloc(), *script)?;
         hoard = try_lines(rt, hoard, &lines, 1..lines.len(), &mut tally)?;
     }
     tally.tell(rt, "lines")
@@ -346,12 +350,12 @@ fn try_all<R: RandomSource + AllocGlobal + Print>(rt: &R, scripts: Scripts) -> R
 
 #[test]
 fn lines_over_a_managed_pool_that_find_no_memory(rt: HostRuntime) -> Result<(), Fail> {
-    try_all(&rt, managed_scripts::SCRIPTS)
+    try_all(&rt, &scripts::managed(rt.alloc())?)
 }
 
 #[test]
 fn lines_over_an_unmanaged_pool_that_find_no_memory(rt: HostRuntime) -> Result<(), Fail> {
-    try_all(&rt, unmanaged_scripts::SCRIPTS)
+    try_all(&rt, &scripts::unmanaged(rt.alloc())?)
 }
 
 // Scripts of which the first line is tried.

@@ -2,14 +2,14 @@
 use super::calls::TRIES;
 use super::managed_player::ManagedPlayer;
 use super::player::Player;
+use super::scripts;
 use super::unmanaged_player::UnmanagedPlayer;
 use std::alloc::Global;
 use std::random::RandomSource;
 use std::test::Fail;
 use test_support::expected::expect;
 use test_support::hoard::{Hoard, more};
-use test_support::lines::{Scripts, after_refusal, lines_of, party_of, refusal_of};
-use test_support::{managed_scripts, unmanaged_scripts};
+use test_support::lines::{after_refusal, lines_of, party_of, refusal_of};
 
 // How a move, or the making of a pool, ended.
 #[derive(Clone, Copy, PartialEq, Eq)]
@@ -300,10 +300,10 @@ fn try_script<P: Player, R: RandomSource + AllocGlobal>(
 // Plays each script once while memory is ample, so that the stack is as large as it is to be.
 fn play_amply<P: Player, R: RandomSource + AllocGlobal>(
     rt: &R,
-    scripts: Scripts,
+    scripts: &[&'static str],
 ) -> Result<(), Fail> {
-    for script in scripts.split("\n\n") {
-        let lines = lines_of(rt.alloc(), script)?;
+    for script in scripts {
+        let lines = lines_of(rt.alloc(), *script)?;
         let _player: P = played(rt, &lines, lines.len())?;
     }
     Ok(())
@@ -312,23 +312,23 @@ fn play_amply<P: Player, R: RandomSource + AllocGlobal>(
 // Makes each pool and each move of the scripts with too little memory.
 fn try_all<P: Player, R: RandomSource + AllocGlobal + Print>(
     rt: &R,
-    scripts: Scripts,
+    scripts: &[&'static str],
 ) -> Result<(), Fail> {
     play_amply::<P, R>(rt, scripts)?;
     let mut hoard = Hoard::new(rt.alloc())?;
     let mut tally = Tally::new();
-    for script in scripts.split("\n\n") {
-        try_script::<P, R>(rt, &mut hoard, script, &mut tally)?;
+    for script in scripts {
+        try_script::<P, R>(rt, &mut hoard, *script, &mut tally)?;
     }
     tally.tell(rt)
 }
 
 #[test]
 fn managed_moves_that_find_no_memory(rt: HostRuntime) -> Result<(), Fail> {
-    try_all::<ManagedPlayer, _>(&rt, managed_scripts::SCRIPTS)
+    try_all::<ManagedPlayer, _>(&rt, &scripts::managed(rt.alloc())?)
 }
 
 #[test]
 fn unmanaged_moves_that_find_no_memory(rt: HostRuntime) -> Result<(), Fail> {
-    try_all::<UnmanagedPlayer, _>(&rt, unmanaged_scripts::SCRIPTS)
+    try_all::<UnmanagedPlayer, _>(&rt, &scripts::unmanaged(rt.alloc())?)
 }

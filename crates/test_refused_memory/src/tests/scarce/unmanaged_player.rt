@@ -1,12 +1,11 @@
 //! An unmanaged trial on which scripts are played.
 use super::player::Player;
-use super::words::{Words, next_moment, next_number};
 use deadpool::Runtime;
 use deadpool::replay::unmanaged::{Move, Reply, Trial};
+use pool_scripts::{PoolLine, UnmanagedPool, parse_pool, parse_unmanaged, write_unmanaged};
 use std::alloc::{AllocError, Global};
 use std::random::RandomSource;
 use std::test::Fail;
-use std::time::Duration;
 use test_support::hoard::Hoard;
 
 // How many gets and adds a script starts at most.
@@ -27,7 +26,8 @@ impl UnmanagedPlayer {
             _ => None,
         };
         let mut text = String::new(self.alloc);
-        write_reply(&mut text, &reply, value)?;
+        write_unmanaged(&mut text, &reply, value)?;
+        text.push('\n')?;
         Ok(text)
     }
 
@@ -38,46 +38,10 @@ impl UnmanagedPlayer {
     }
 }
 
-// Appends a reply as a line.
-fn write_reply(
-    text: &mut String,
-    reply: &Reply<u64>,
-    value: Option<u64>,
-) -> Result<(), AllocError> {
-    match reply {
-        Reply::Started(party) => write!(text, "party {party}"),
-        Reply::Exhausted(value) => write!(text, "exhausted value {value}"),
-        Reply::Object(number) => write!(text, "object {number} value {value:?}"),
-        Reply::Added(number) => write!(text, "added {number}"),
-        Reply::Failed(cause) => write!(text, "error {cause}"),
-        Reply::Refused(cause, value) => write!(text, "error {cause} value {value}"),
-        Reply::Taken(value) => write!(text, "taken {value}"),
-        Reply::Stands(status) => write!(text, "{status:?}"),
-        Reply::Upgraded(is_counted) => write!(text, "upgraded {is_counted}"),
-        _ => text.push_str(word_of(reply)),
-    }?;
-    text.push('\n')
-}
-
-// A reply in which there is no value.
-fn word_of(reply: &Reply<u64>) -> &'static str {
-    match reply {
-        Reply::NoRoom => "no room",
-        Reply::NoSuch => "no such",
-        Reply::NoHandle => "no handle",
-        Reply::Pending => "pending",
-        Reply::Cancelled => "cancelled",
-        Reply::Kept => "kept",
-        Reply::Dropped => "dropped",
-        Reply::Done => "ok",
-        _ => "a value",
-    }
-}
-
 impl Player for UnmanagedPlayer {
     fn open<R: RandomSource + AllocGlobal>(rt: &R, line: &'static str) -> Result<Self, Fail> {
         let alloc = rt.alloc();
-        let (max_size, runtime) = opening_of(line)?;
+        let (max_size, runtime) = opening_of(alloc, line)?;
         let trial = Trial::new(alloc, max_size, runtime, PARTIES)?;
         Ok(UnmanagedPlayer { alloc, trial })
     }
@@ -89,7 +53,7 @@ impl Player for UnmanagedPlayer {
         left: usize,
     ) -> Result<Option<Self>, Fail> {
         let alloc = rt.alloc();
-        let (max_size, runtime) = opening_of(line)?;
+        let (max_size, runtime) = opening_of(alloc, line)?;
         hoard.take(left)?;
         let opened = Trial::new(alloc, max_size, runtime, PARTIES);
         hoard.let_go();
@@ -129,43 +93,17 @@ impl Player for UnmanagedPlayer {
 }
 
 // What a pool line says: for how many objects, and whether timeouts are served.
-fn opening_of(line: &str) -> Result<(usize, Option<Runtime>), Fail> {
-    let mut words = line.split(' ');
-    let _kind = words.next();
-    match (next_number(&mut words), words.next()) {
-        (Some(max_size), Some("none")) => Ok((max_size, None)),
-        (Some(max_size), Some("clock")) => Ok((max_size, Some(Runtime::Clock))),
-        _ => Err(Fail::new("not a pool")),
+fn opening_of(alloc: Global, line: &str) -> Result<(usize, Option<Runtime>), Fail> {
+    match parse_pool(alloc, line.as_bytes()) {
+        Ok(PoolLine::Unmanaged(UnmanagedPool { max_size, runtime })) => Ok((max_size, runtime)),
+        _ => Err(Fail::new("not an unmanaged pool")),
     }
 }
 
 // The move that a line says.
 fn move_of(line: &str) -> Result<Move<u64>, Fail> {
-    let mut words = line.split(' ');
-    let word = words.next().unwrap_or("");
-    parse_move(word, &mut words).ok_or_else(|| Fail::new("not a move"))
-}
-
-fn parse_move(word: &str, words: &mut Words<'_>) -> Option<Move<u64>> {
-    Some(match word {
-        "get" => Move::Get(wait_of(words)),
-        "add" => Move::Add(next_number(words)?),
-        "poll" => Move::Poll(next_number(words)?, next_moment(words)?),
-        "tryget" => Move::TryGet,
-        "tryadd" => Move::TryAdd(next_number(words)?),
-        "cancel" => Move::Cancel(next_number(words)?),
-        "back" => Move::Back(next_number(words)?),
-        "take" => Move::Take(next_number(words)?),
-        "close" => Move::Close,
-        "status" => Move::Status,
-        "clone" => Move::Clone,
-        "drop" => Move::DropHandle,
-        "upgrade" => Move::Upgrade,
-        _ => return None,
-    })
-}
-
-// How long a get may wait, in nanoseconds. No word is without an end.
-fn wait_of(words: &mut Words<'_>) -> Option<Duration> {
-    Some(Duration::from_nanos(words.next()?.parse::<u64>().ok()?))
+    match parse_unmanaged(line.as_bytes()) {
+        Ok(next) => Ok(next),
+        Err(_) => Err(Fail::new("not a move")),
+    }
 }

@@ -89,10 +89,11 @@ impl<R: Host, L: Ledgers> Bench<R, L> {
         match parse(self.alloc, line)? {
             Line::Answer(kind, answers) => self.outside.add(kind, answers.as_slice())?,
             Line::Move(next) => return self.do_move(next),
-            Line::PoolOf(number) => self.ask_for_pool(number)?,
+            Line::HandleOf(number) => self.ask_for_handle(number)?,
             Line::Look => self.look()?,
+            Line::Journal => return Ok(self.journal()?.replace(self.alloc, '\n', "; ")?),
         }
-        Ok(String::new(self.alloc))
+        Ok(text_of(self.alloc, &Reply::Done, None)?)
     }
 
     fn do_move(&mut self, next: Move<u64>) -> Result<String, Fail> {
@@ -219,17 +220,19 @@ impl<R: Host, L: Ledgers> Bench<R, L> {
         }
     }
 
-    // Whether an object that comes back is kept or dropped does not show, but in the status.
+    // Whether an object that comes back is kept does not show, but in the status. Where no handle is left it is dropped.
     fn back(&mut self, number: usize) -> Reply<u64, Refused> {
         let Some(out) = self.take_out(number) else {
             return Reply::NoSuch;
         };
         let before = self.outside.detached();
         drop(out);
-        if self.outside.detached() == before {
-            Reply::Kept
-        } else {
+        if self.outside.detached() != before {
             Reply::Detached
+        } else if self.pools.is_empty() && self.live() == 0 {
+            Reply::Dropped
+        } else {
+            Reply::Kept
         }
     }
 
@@ -295,7 +298,7 @@ impl<R: Host, L: Ledgers> Bench<R, L> {
         }
     }
 
-    fn ask_for_pool(&mut self, number: usize) -> Result<(), Fail> {
+    fn ask_for_handle(&mut self, number: usize) -> Result<(), Fail> {
         let Some(out) = self.out.iter().find(|out| out.number == number) else {
             return Err(Fail::new("not out"));
         };
@@ -327,8 +330,8 @@ impl<R: Host, L: Ledgers> Bench<R, L> {
         Ok(text_of(self.alloc, &reply, None)?)
     }
 
-    /// The pool's journal as text. Empty if the bench has no handle left.
-    pub fn journal(&self) -> Result<String, Fail> {
+    // The pool's journal as text. Empty if the bench has no handle left.
+    fn journal(&self) -> Result<String, Fail> {
         match self.pools.last() {
             Some(pool) => Ok(pool.journal()?.to_string(self.alloc)?),
             None => Ok(String::new(self.alloc)),

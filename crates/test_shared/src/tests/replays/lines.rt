@@ -15,9 +15,11 @@ pub enum Line {
     Answer(Kind, Vec<Answer>),
     Move(Move<u64>),
     /// A handle is asked of an object that is out.
-    PoolOf(usize),
+    HandleOf(usize),
     /// All calls are made that are no step.
     Look,
+    /// The pool's journal, of which semicolons part the lines.
+    Journal,
 }
 
 pub type Words<'a> = Split<'a, char>;
@@ -30,8 +32,9 @@ pub fn parse(alloc: Global, line: &str) -> Result<Line, Fail> {
             let kind = parse_kind(next_word(&mut words)?)?;
             Ok(Line::Answer(kind, parse_answers(alloc, words)?))
         }
-        "pool" => Ok(Line::PoolOf(next_number(&mut words)?)),
+        "handle" => Ok(Line::HandleOf(next_number(&mut words)?)),
         "look" => Ok(Line::Look),
+        "journal" => Ok(Line::Journal),
         word => Ok(Line::Move(parse_move(alloc, word, words)?)),
     }
 }
@@ -75,15 +78,16 @@ where
     parse_number(next_word(words)?)
 }
 
-fn parse_number<N: FromStr>(word: &str) -> Result<N, Fail>
+/// A word that is a number.
+pub fn parse_number<N: FromStr>(word: &str) -> Result<N, Fail>
 where
     N::Err: Drop,
 {
     word.parse::<N>().map_err(|_| Fail::new("not a number"))
 }
 
-/// The next word, a number of nanoseconds. None at the end, and if it is a dash.
-pub fn next_timeout(words: &mut Words<'_>) -> Result<Option<Duration>, Fail> {
+// The next word, a number of nanoseconds. None at the end, and if it is a dash.
+fn next_timeout(words: &mut Words<'_>) -> Result<Option<Duration>, Fail> {
     match words.next() {
         None => Ok(None),
         Some(word) => parse_timeout(word),

@@ -13,7 +13,7 @@ use std::test::Fail;
 /// A bench over a pool that opens so. Its values are so far apart, and its journal has room for so many entries.
 pub fn open_bench<R: Host, L: Ledgers>(
     rt: R,
-    words: &str,
+    line: &str,
     step: u64,
     room: usize,
     blanks: Blanks,
@@ -21,7 +21,7 @@ pub fn open_bench<R: Host, L: Ledgers>(
     requires { blanks ≡ L.names }
 {
     let common = Arc::new(rt.alloc(), Outside::new(rt.alloc(), step))?;
-    let builder = builder(rt.alloc(), words, &common)?.journal(room);
+    let builder = builder(rt.alloc(), line, &common)?.journal(room);
     let pool: TestPool<R, L> = builder.build(blanks, rt)?;
     Bench::new(rt, common, pool)
 }

@@ -1,8 +1,9 @@
 //! How a pool is opened.
-use super::lines::{Words, next_number, next_timeout, next_word};
+use super::lines::{Words, next_number, next_word, parse_number};
 use super::outside::{Common, Kind, TestClock, TestHook, TestManager};
 use deadpool::Runtime;
-use deadpool::managed::{Hook, NoHook, PoolBuilder, QueueMode, Timeouts};
+use deadpool::managed::{Hook, NoHook, PoolBuilder, PoolConfig, QueueMode};
+use serde_json::Value;
 use std::alloc::{AllocError, Global};
 use std::sync::Arc;
 use std::test::Fail;
@@ -14,33 +15,56 @@ pub type TestBuilder = PoolBuilder<TestManager, NoHook, TestHook, TestClock>;
 // How a pool opens.
 #[derive(Clone, Copy)]
 struct Opening {
-    limit: usize,
-    mode: QueueMode,
+    config: PoolConfig,
     runtime: Option<Runtime>,
-    min_idle: usize,
-    timeouts: Timeouts,
 }
 
-fn parse(words: &str) -> Result<Opening, Fail> {
+// What a line opens: a pool by words, or one by a text of JSON.
+fn parse(alloc: Global, line: &str) -> Result<Opening, Fail> {
+    match line.split_once(' ') {
+        Some(("pool", words)) => parse_words(words),
+        Some(("config", words)) => parse_config(alloc, words),
+        _ => Err(Fail::new("not a pool")),
+    }
+}
+
+fn parse_words(words: &str) -> Result<Opening, Fail> {
     let mut words = words.split(' ');
+    let mut config = PoolConfig::new(next_number(&mut words)?);
+    config.queue_mode = next_mode(&mut words)?;
+    let runtime = runtime_of(next_word(&mut words)?)?;
+    let first_number: usize = next_number(&mut words)?;
+    if let Some(min_idle) = words.next() {
+        config.min_idle = parse_number(min_idle)?;
+    }
+    begins_at_zero(first_number)?;
+    Ok(Opening { config, runtime })
+}
+
+// Behind two words stands the text.
+fn parse_config(alloc: Global, words: &str) -> Result<Opening, Fail> {
+    let (runtime, words) = words.split_once(' ').unwrap_or((words, ""));
+    let (first_number, json) = words.split_once(' ').unwrap_or((words, ""));
+    begins_at_zero(parse_number(first_number)?)?;
+    let value = Value::from_str(alloc, json)?;
     Ok(Opening {
-        limit: next_number(&mut words)?,
-        mode: next_mode(&mut words)?,
-        runtime: next_runtime(&mut words)?,
-        min_idle: next_number(&mut words)?,
-        timeouts: next_timeouts(&mut words)?,
+        config: PoolConfig::from_json(&value)?,
+        runtime: runtime_of(runtime)?,
     })
 }
 
-/// A pool that answers by what stands outside it. The words are its limit, its mode, `clock` or `none`, the least
-/// number of idle objects, and, if there are any, timeouts in nanoseconds.
-pub fn builder(alloc: Global, words: &str, outside: &Common) -> Result<TestBuilder, Fail> {
-    let opening = parse(words)?;
-    let builder = plain_builder(alloc, outside)?
-        .max_size(opening.limit)
-        .queue_mode(opening.mode)
-        .min_idle(opening.min_idle)
-        .timeouts(opening.timeouts);
+// A shared pool has no other first number.
+fn begins_at_zero(first_number: usize) -> Result<(), Fail> {
+    if first_number == 0 {
+        return Ok(());
+    }
+    Err(Fail::new("another first number"))
+}
+
+/// A pool that answers by what stands outside it, as a line opens it.
+pub fn builder(alloc: Global, line: &str, outside: &Common) -> Result<TestBuilder, Fail> {
+    let opening = parse(alloc, line)?;
+    let builder = plain_builder(alloc, outside)?.config(opening.config);
     let builder = match opening.runtime {
         Some(runtime) => builder.runtime(runtime),
         None => builder,
@@ -56,19 +80,12 @@ fn next_mode(words: &mut Words<'_>) -> Result<QueueMode, Fail> {
     }
 }
 
-fn next_runtime(words: &mut Words<'_>) -> Result<Option<Runtime>, Fail> {
-    match next_word(words)? {
+fn runtime_of(word: &str) -> Result<Option<Runtime>, Fail> {
+    match word {
         "clock" => Ok(Some(Runtime::Clock)),
-        _ => Ok(None),
+        "none" => Ok(None),
+        _ => Err(Fail::new("not a runtime")),
     }
-}
-
-fn next_timeouts(words: &mut Words<'_>) -> Result<Timeouts, Fail> {
-    Ok(Timeouts {
-        wait: next_timeout(words)?,
-        create: next_timeout(words)?,
-        recycle: next_timeout(words)?,
-    })
 }
 
 fn plain_builder(alloc: Global, outside: &Common) -> Result<TestBuilder, AllocError> {

@@ -92,8 +92,8 @@ fn difference_with<R: Host, L: Ledgers>(rt: R, seed: u64, blanks: Blanks) -> Res
 {
     let alloc = rt.alloc();
     let mut dice = Dice::new(seed);
-    let words = throw_opening(alloc, &mut dice)?;
-    let opening = words.as_str();
+    let line = throw_opening(alloc, &mut dice)?;
+    let opening = line.as_str();
     let mut bench = open_bench::<R, L>(rt, opening, STEP, ROOM, blanks)?;
     let mut replay = Replay::new(&rt, Outside::new(alloc, STEP), opening, MOVES)?;
     compare_moves(alloc, &mut bench, &mut replay, &mut dice)

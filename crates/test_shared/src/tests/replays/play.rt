@@ -9,50 +9,23 @@ use deadpool::managed::{Blanks, Ledgers};
 use std::alloc::Global;
 use std::marker::Brand;
 use std::test::Fail;
+use test_scripts::{parted, script_of, sides_of};
 
-/// What a script came to.
-#[derive(Drop)]
-pub struct Played {
-    /// The lines whose reply is not the one that stands after them, with the reply that came. Empty if there is none.
-    pub faults: String,
-    /// The pool's journal at the end, as text.
-    pub journal: String,
-}
-
-// A script, taken apart.
+// A script, of which each line may be seen to wake whom its steps are to wake.
 #[derive(Drop)]
 struct Script {
-    // Whether each line is seen to wake whom its steps are to wake.
+    text: String,
     is_watched: bool,
-    name: &'static str,
-    // How its pool opens.
-    opening: &'static str,
-    lines: &'static str,
 }
 
-impl Script {
-    fn new(text: &'static str, is_watched: bool) -> Self {
-        let (heading, lines) = text.split_once(';').unwrap_or((text, ""));
-        let (name, opening) = heading.split_once(": ").unwrap_or(("", heading));
-        Script {
-            is_watched,
-            name,
-            opening,
-            lines,
-        }
-    }
-}
-
-/// Plays a script: its name with a colon, how its pool opens, and its lines, each after a semicolon. The journal of
-/// its pool has room for so many entries. If the script is watched it has to be enough, and each line wakes whom its
-/// steps are to wake, and no other.
-pub fn play<R: Host>(
-    rt: R,
-    text: &'static str,
-    room: usize,
-    is_watched: bool,
-) -> Result<Played, Fail> {
-    let script = Script::new(text, is_watched);
+/// Plays a script, and says which lines have another reply than the one that stands behind them: none if that is empty.
+/// The journal of its pool has room for so many entries. If the script is watched it has to be enough, and each line wakes
+/// whom its steps are to wake, and no other.
+pub fn play<R: Host>(rt: R, text: &str, room: usize, is_watched: bool) -> Result<String, Fail> {
+    let script = Script {
+        text: String::from_str(rt.alloc(), text)?,
+        is_watched,
+    };
     let blanks = Blanks::new();
     play_with::<_, Brand>(rt, script, room, blanks)
 }
@@ -62,56 +35,55 @@ fn play_with<R: Host, L: Ledgers>(
     script: Script,
     room: usize,
     blanks: Blanks,
-) -> Result<Played, Fail>
+) -> Result<String, Fail>
     requires { blanks ≡ L.names }
 {
-    let opening = script.opening;
+    let (name, lines) = script_of(script.text.as_str());
+    let (first, lines) = parted(lines);
+    let (opening, _) = sides_of(first);
     let mut bench = open_bench::<R, L>(rt, opening, 1, room, blanks)?;
-    let faults = play_lines(rt.alloc(), &mut bench, &script)?;
-    Ok(Played {
-        faults,
-        journal: bench.journal()?,
-    })
+    play_lines(rt.alloc(), &mut bench, name, lines, script.is_watched)
 }
 
 fn play_lines<R: Host, L: Ledgers>(
     alloc: Global,
     bench: &mut Bench<R, L>,
-    script: &Script,
+    name: &str,
+    lines: &str,
+    is_watched: bool,
 ) -> Result<String, Fail> {
     let mut faults = String::new(alloc);
-    for line in script.lines.split(';') {
-        play_line(bench, script.name, line, &mut faults)?;
-        if script.is_watched {
-            note(script.name, line, bench.strays()?.as_str(), "", &mut faults)?;
+    for line in lines.lines() {
+        play_line(bench, name, line, &mut faults)?;
+        if is_watched {
+            note(name, line, bench.strays()?.as_str(), "", &mut faults)?;
         }
         bench.let_go();
     }
     Ok(faults)
 }
 
-// One line. After ` =` stands the reply that it is to have, and else it is to have none.
 fn play_line<R: Host, L: Ledgers>(
     bench: &mut Bench<R, L>,
     name: &str,
     line: &str,
     faults: &mut String,
 ) -> Result<(), Fail> {
-    let (words, wanted) = line.split_once(" =").unwrap_or((line, ""));
-    let reply = bench.do_line(words.trim())?;
-    note(name, words, reply.as_str(), wanted, faults)
+    let (said, wanted) = sides_of(line);
+    let reply = bench.do_line(said)?;
+    note(name, said, reply.as_str(), wanted, faults)
 }
 
-// Notes a reply that is not the wanted one.
+// Notes a reply that is not the wanted one. (The text of an error may end its line.)
 fn note(
     name: &str,
-    words: &str,
+    said: &str,
     reply: &str,
     wanted: &str,
     faults: &mut String,
 ) -> Result<(), Fail> {
-    if reply.trim() != wanted.trim() {
-        write!(faults, "in {name} {words}: {reply}; ")?;
+    if reply.trim_end() != wanted {
+        write!(faults, "in {name} {said}: {reply}; ")?;
     }
     Ok(())
 }

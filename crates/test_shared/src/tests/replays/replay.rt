@@ -25,11 +25,11 @@ impl Replay {
     pub fn new<H: RandomSource + AllocGlobal>(
         rt: &H,
         outside: Outside,
-        words: &str,
+        line: &str,
         gets: usize,
     ) -> Result<Self, Fail> {
         let outside = Arc::new(rt.alloc(), outside)?;
-        let builder = builder(rt.alloc(), words, &outside)?;
+        let builder = builder(rt.alloc(), line, &outside)?;
         Ok(Replay {
             alloc: rt.alloc(),
             outside,
@@ -45,7 +45,7 @@ impl Replay {
             Line::Move(next) => return self.do_move(next),
             _ => return Err(Fail::new("a trial has no such line")),
         }
-        Ok(String::new(self.alloc))
+        Ok(text_of(self.alloc, &Reply::Done, None)?)
     }
 
     /// Makes a move, and gives the reply as text.

@@ -5,8 +5,7 @@ use deadpool::managed::RetainResult;
 use deadpool::replay::Reply;
 use std::alloc::{AllocError, Global};
 
-/// The reply to a move, with the value of the object that it hands out. It is empty if a shared pool says nothing:
-/// at a start, a cancel, a return that is not detached, a put, a close, and a handle's clone and drop.
+/// The reply to a move, with the value of the object that it hands out.
 pub fn text_of(
     alloc: Global,
     reply: &Reply<u64, Refused>,
@@ -14,20 +13,33 @@ pub fn text_of(
 ) -> Result<String, AllocError> {
     let mut text = String::new(alloc);
     match reply {
-        Reply::Pending => text.push_str("pending")?,
+        Reply::Started(get) => write!(text, "party {get}")?,
         Reply::Object(number) => write_object(&mut text, *number, value)?,
         Reply::Failed(cause) => write!(text, "error {cause}")?,
-        Reply::Detached => text.push_str("detached")?,
         Reply::Taken(value) => write!(text, "taken {value}")?,
-        Reply::OutOfMemory => text.push_str("out of memory")?,
         Reply::Retained(retain) => write_retained(&mut text, retain)?,
         Reply::Stands(status) => write_status(&mut text, *status)?,
-        Reply::Upgraded(true) => text.push_str("upgraded")?,
-        Reply::Upgraded(false) => text.push_str("none left")?,
-        Reply::NoHandle => text.push_str("no handle")?,
-        _ => {}
+        _ => text.push_str(word_of(reply))?,
     }
     Ok(text)
+}
+
+// A reply in which there is no value.
+fn word_of(reply: &Reply<u64, Refused>) -> &'static str {
+    match reply {
+        Reply::NoRoom => "no room",
+        Reply::NoSuch => "no such",
+        Reply::NoHandle => "no handle",
+        Reply::Pending => "pending",
+        Reply::Cancelled => "cancelled",
+        Reply::Kept => "kept",
+        Reply::Detached => "detached",
+        Reply::Dropped => "dropped",
+        Reply::OutOfMemory => "out of memory",
+        Reply::Done | Reply::Upgraded(true) => "ok",
+        Reply::Upgraded(false) => "none",
+        _ => "a value",
+    }
 }
 
 fn write_object(text: &mut String, number: usize, value: Option<u64>) -> Result<(), AllocError> {
@@ -53,5 +65,8 @@ fn write_status(text: &mut String, status: Status) -> Result<(), AllocError> {
         available,
         waiting,
     } = status;
-    write!(text, "{max_size} {size} {available} {waiting}")
+    write!(
+        text,
+        "max {max_size} size {size} available {available} waiting {waiting}"
+    )
 }

@@ -5,19 +5,36 @@ use std::alloc::{AllocError, Global};
 /// By how much the value of an object is above that of the one before it. Nothing adds so much to a value.
 pub const STEP: u64 = 1000;
 
-/// How a pool opens. Timeouts are configured only if a clock serves them.
+// Timeouts of a configuration. Each is mostly none.
+const TIMEOUTS: [&'static str; 6] = [
+    r#"{"secs":0,"nanos":0}"#,
+    r#"{"secs":0,"nanos":3}"#,
+    "null",
+    "null",
+    "null",
+    "null",
+];
+
+/// The line that opens a pool. Timeouts are configured only if a clock serves them.
 pub fn throw_opening(alloc: Global, dice: &mut Dice) -> Result<String, AllocError> {
-    let mut words = String::new(alloc);
     let limit = dice.roll(5);
-    let mode = one_of(dice, &["fifo", "lifo"]);
+    let is_fifo = dice.roll(2) == 0;
     let min_idle = dice.roll(3);
     if dice.roll(2) == 0 {
-        write!(words, "{limit} {mode} none {min_idle}")?;
-    } else {
-        write!(words, "{limit} {mode} clock {min_idle}")?;
-        write_timeouts(&mut words, dice)?;
+        let mode = if is_fifo { "fifo" } else { "lifo" };
+        return format!(in alloc; "pool {limit} {mode} none 0 {min_idle}");
     }
-    Ok(words)
+    let mode = if is_fifo { "Fifo" } else { "Lifo" };
+    let mut line = format!(in alloc;
+        "config clock 0 {{\"max_size\":{limit},\"queue_mode\":\"{mode}\",\"min_idle\":{min_idle},"
+    )?;
+    line.push_str(r#""timeouts":{"#)?;
+    for phase in [r#""wait":"#, r#","create":"#, r#","recycle":"#] {
+        line.push_str(phase)?;
+        line.push_str(one_of(dice, &TIMEOUTS))?;
+    }
+    line.push_str("}}")?;
+    Ok(line)
 }
 
 /// A line at a moment, about a get and about the object with a number: a start, a poll, a return, a cancel, an

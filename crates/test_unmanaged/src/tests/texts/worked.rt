@@ -1,50 +1,65 @@
-//! The worked scripts of an unmanaged pool, each with those whom a step wakes in a pool.
+//! What the worked scripts of an unmanaged pool have more in a shared pool: whom their lines wake. And what a shared pool has in
+//! place of those that it can't play.
 
-/// None drops the last handle under a get or an add, which in a pool has a handle of its own.
-pub const WORKED: &str = "# add-and-remove
-unmanaged 2 none => ok
-tryadd 1 => added 0
-tryadd 2 => added 1
-tryadd 3 => error Timeout occurred while waiting for an object to become available value 3
-add 3 => party 0
-poll 0 0 => pending
-tryget => object 1 value 2
+/// The lines that wake somebody, script by script. All others wake nobody.
+pub const WAKES: &str = "\
+# add-and-remove
 take 1 => taken 2, wakes 0
-status => max 2 size 1 available 1 waiting 0
-poll 0 0 => added 3
-add 4 => party 1
-poll 1 0 => pending
-tryget => object 3 value 3
 take 3 => taken 3, wakes 1
-close => ok
-poll 1 0 => error Pool has been closed value 4
-status => max 2 size 0 available 0 waiting 0
 
 # add-and-remove-sizes
-unmanaged 2 none => ok
-tryadd 1 => added 0
-status => max 2 size 1 available 1 waiting 0
-tryadd 2 => added 1
-status => max 2 size 2 available 2 waiting 0
-tryadd 3 => error Timeout occurred while waiting for an object to become available value 3
-add 3 => party 0
-poll 0 0 => pending
-tryget => object 1 value 2
 take 1 => taken 2, wakes 0
-status => max 2 size 1 available 1 waiting 0
-poll 0 0 => added 3
-status => max 2 size 2 available 2 waiting 0
-add 4 => party 1
-poll 1 0 => pending
-tryget => object 3 value 3
 take 3 => taken 3, wakes 1
-status => max 2 size 1 available 1 waiting 0
-close => ok
-status => max 2 size 0 available 0 waiting 0
-poll 1 0 => error Pool has been closed value 4
-status => max 2 size 0 available 0 waiting 0
 
-# granted-get-is-not-passed
+# granted-add-is-not-passed
+take 0 => taken 1, wakes 0
+
+# granted-object-of-a-cancelled-get
+tryadd 5 => added 0, wakes 0
+cancel 0 => cancelled, wakes 1
+
+# granted-room-of-a-cancelled-add
+take 0 => taken 1, wakes 0
+cancel 0 => cancelled, wakes 1
+
+# cancelled-parties-give-back
+tryadd 5 => added 0, wakes 1
+cancel 1 => cancelled, wakes 0
+take 0 => taken 5, wakes 2
+cancel 2 => cancelled, wakes 3
+
+# waits-without-an-end
+tryadd 9 => added 0, wakes 0
+back 0 => kept, wakes 1
+
+# object-comes-before-the-deadline
+tryadd 3 => added 0, wakes 0
+
+# granted-add-after-a-close
+take 0 => taken 1, wakes 0
+
+# granted-get-after-a-close
+tryadd 5 => added 0, wakes 0
+
+# closed-pool
+back 0 => kept, wakes 0
+close => ok, wakes 1
+
+# no-room-in-a-pool-of-none
+close => ok, wakes 0";
+
+/// A get or an add has a handle of its own, so that no last handle goes under it.
+pub const LAST_HANDLES: &str = "granted-get-is-not-passed last-handle";
+
+/// An unmanaged pool has no weak handle.
+pub const UPGRADES: &str = "handles";
+
+/// A pool that finds no memory is none.
+pub const REFUSED: &str = "pool-after-a-refused-one";
+
+/// The same scripts without what is left out there.
+pub const IN_PLACE: &str = "\
+# granted-get-is-not-passed-in-a-pool
 unmanaged 1 none => ok
 get => party 0
 poll 0 0 => pending
@@ -52,225 +67,7 @@ tryadd 7 => added 0, wakes 0
 status => max 1 size 1 available 1 waiting 1
 tryget => error Timeout occurred while waiting for an object to become available
 
-# no-runtime
-unmanaged 2 none => ok
-get 1000000 => party 0
-poll 0 0 => error No runtime specified
-get 0 => party 1
-poll 1 0 => error Timeout occurred while waiting for an object to become available
-
-# granted-add-is-not-passed
-unmanaged 1 none => ok
-tryadd 1 => added 0
-add 2 => party 0
-poll 0 0 => pending
-tryget => object 0 value 1
-take 0 => taken 1, wakes 0
-tryadd 3 => error Timeout occurred while waiting for an object to become available value 3
-poll 0 0 => added 1
-status => max 1 size 1 available 1 waiting 0
-
-# granted-object-of-a-cancelled-get
-unmanaged 2 none => ok
-get => party 0
-poll 0 0 => pending
-get => party 1
-poll 1 0 => pending
-status => max 2 size 0 available 0 waiting 2
-tryadd 5 => added 0, wakes 0
-cancel 0 => cancelled, wakes 1
-poll 0 0 => no such
-cancel 0 => no such
-tryget => error Timeout occurred while waiting for an object to become available
-poll 1 0 => object 0 value 5
-poll 1 0 => pending
-status => max 2 size 1 available 0 waiting 0
-
-# granted-room-of-a-cancelled-add
-unmanaged 1 none => ok
-tryadd 1 => added 0
-add 2 => party 0
-poll 0 0 => pending
-add 3 => party 1
-poll 1 0 => pending
-tryget => object 0 value 1
-take 0 => taken 1, wakes 0
-cancel 0 => cancelled, wakes 1
-tryadd 4 => error Timeout occurred while waiting for an object to become available value 4
-poll 1 0 => added 2
-poll 1 0 => pending
-tryget => object 2 value 3
-
-# cancelled-parties-give-back
-unmanaged 1 none => ok
-get => party 0
-get => party 1
-poll 1 0 => pending
-poll 0 0 => pending
-tryadd 5 => added 0, wakes 1
-cancel 1 => cancelled, wakes 0
-cancel 1 => no such
-tryget => error Timeout occurred while waiting for an object to become available
-poll 0 0 => object 0 value 5
-add 6 => party 2
-add 7 => party 3
-poll 2 0 => pending
-poll 3 0 => pending
-take 0 => taken 5, wakes 2
-cancel 2 => cancelled, wakes 3
-poll 3 0 => added 2
-poll 3 0 => pending
-
-# waits-with-a-runtime
-unmanaged 2 clock => ok
-get 1000000 => party 0
-poll 0 0 => pending
-poll 0 999999 => pending
-poll 0 1000000 => error Timeout occurred while waiting for an object to become available
-poll 0 1000000 => pending
-get 1000000 => party 1
-poll 1 5 => pending
-poll 1 1000004 => pending
-poll 1 1000005 => error Timeout occurred while waiting for an object to become available
-get 0 => party 2
-poll 2 0 => error Timeout occurred while waiting for an object to become available
-get 18446744073709551615 => party 3
-poll 3 340282366920938463463374607431768211455 => error Timeout occurred while waiting for an object to become available
-status => max 2 size 0 available 0 waiting 0
-
-# wait-ends-at-the-deadline
-unmanaged 2 clock => ok
-get 1000000 => party 0
-poll 0 0 => pending
-poll 0 999999 => pending
-poll 0 1000000 => error Timeout occurred while waiting for an object to become available
-poll 0 1000001 => pending
-
-# waits-without-an-end
-unmanaged 1 none => ok
-get => party 0
-get - => party 1
-poll 0 0 => pending
-poll 1 0 => pending
-poll 0 340282366920938463463374607431768211455 => pending
-poll 1 340282366920938463463374607431768211455 => pending
-status => max 1 size 0 available 0 waiting 2
-tryadd 9 => added 0, wakes 0
-poll 1 0 => pending
-poll 0 0 => object 0 value 9
-back 0 => kept, wakes 1
-poll 1 0 => object 0 value 9
-
-# object-comes-before-the-deadline
-unmanaged 1 clock => ok
-get 10 => party 0
-poll 0 0 => pending
-tryadd 3 => added 0, wakes 0
-poll 0 10 => object 0 value 3
-get 10 => party 1
-poll 1 20 => pending
-poll 1 30 => error Timeout occurred while waiting for an object to become available
-back 0 => kept
-status => max 1 size 1 available 1 waiting 0
-
-# last-in-first-out
-unmanaged 2 none => ok
-tryadd 1 => added 0
-tryadd 2 => added 1
-tryget => object 1 value 2
-tryget => object 0 value 1
-back 1 => kept
-back 0 => kept
-tryget => object 0 value 1
-
-# last-to-come-goes-first
-unmanaged 3 none => ok
-tryadd 1 => added 0
-tryadd 2 => added 1
-add 3 => party 0
-poll 0 0 => added 2
-tryget => object 2 value 3
-tryget => object 1 value 2
-back 2 => kept
-back 2 => no such
-tryget => object 2 value 3
-back 1 => kept
-back 2 => kept
-get => party 1
-poll 1 0 => object 2 value 3
-status => max 3 size 3 available 2 waiting 0
-
-# granted-add-after-a-close
-unmanaged 1 none => ok
-tryadd 1 => added 0
-add 2 => party 0
-poll 0 0 => pending
-tryget => object 0 value 1
-take 0 => taken 1, wakes 0
-close => ok
-poll 0 0 => error Pool has been closed value 2
-status => max 1 size 0 available 0 waiting 0
-
-# granted-get-after-a-close
-unmanaged 1 none => ok
-get => party 0
-poll 0 0 => pending
-tryadd 5 => added 0, wakes 0
-close => ok
-status => max 1 size 0 available 0 waiting 1
-poll 0 0 => error Pool has been closed
-status => max 1 size 0 available 0 waiting 0
-
-# closed-pool
-unmanaged 2 none => ok
-tryadd 1 => added 0
-tryadd 2 => added 1
-tryget => object 1 value 2
-tryget => object 0 value 1
-get => party 0
-poll 0 0 => pending
-add 3 => party 1
-poll 1 0 => pending
-add 4 => party 2
-back 0 => kept, wakes 0
-close => ok, wakes 1
-status => max 2 size 1 available 0 waiting 1
-poll 0 0 => error Pool has been closed
-poll 1 0 => error Pool has been closed value 3
-poll 2 0 => error Pool has been closed value 4
-tryget => error Pool has been closed
-tryadd 5 => error Pool has been closed value 5
-get 0 => party 3
-poll 3 0 => error Pool has been closed
-status => max 2 size 1 available 0 waiting 0
-back 1 => dropped
-take 1 => no such
-close => ok
-status => max 2 size 0 available 0 waiting 0
-
-# close-keeps-those-out
-unmanaged 3 none => ok
-tryadd 1 => added 0
-tryadd 2 => added 1
-tryget => object 1 value 2
-close => ok
-status => max 3 size 1 available 0 waiting 0
-tryget => error Pool has been closed
-tryadd 3 => error Pool has been closed value 3
-back 1 => dropped
-status => max 3 size 0 available 0 waiting 0
-back 1 => no such
-
-# taken-from-a-closed-pool
-unmanaged 1 none => ok
-tryadd 8 => added 0
-tryget => object 0 value 8
-close => ok
-take 0 => taken 8
-take 0 => no such
-status => max 1 size 0 available 0 waiting 0
-
-# handles
+# handles-in-a-pool
 unmanaged 1 none => ok
 tryadd 4 => added 0
 tryget => object 0 value 4
@@ -289,25 +86,4 @@ tryget => no handle
 tryadd 5 => no handle
 back 0 => dropped
 poll 0 0 => no such
-cancel 0 => no such
-
-# no-room-in-a-pool-of-none
-unmanaged 0 clock => ok
-tryadd 1 => error Timeout occurred while waiting for an object to become available value 1
-tryget => error Timeout occurred while waiting for an object to become available
-add 2 => party 0
-poll 0 0 => pending
-status => max 0 size 0 available 0 waiting 0
-close => ok, wakes 0
-poll 0 0 => error Pool has been closed value 2
-
-# greatest-numbers
-unmanaged 001 clock => ok
-tryadd 18446744073709551615 => added 0
-get 18446744073709551615 => party 0
-poll 000 340282366920938463463374607431768211455 => object 0 value 18446744073709551615
-back 18446744073709551615 => no such
-take 18446744073709551615 => no such
-cancel 18446744073709551615 => no such
-poll 18446744073709551615 0 => no such
-take 00 => taken 18446744073709551615";
+cancel 0 => no such";

@@ -1,8 +1,7 @@
-//! Scripts at the ends of the language: the greatest numbers, waits of zero, refused pools.
-use super::replies_as_written;
-use std::test::Fail;
+//! The ends of the language: the greatest numbers, waits of zero, refused pools, answers and hooks.
 
-const SCRIPTS: &str = "\
+/// The greatest and the longest numbers, waits of zero, values that are put, and a pool that is refused.
+pub const LIMITS: &str = "\
 # greatest-numbers
 pool 1 fifo clock 0 => ok
 start => party 0
@@ -76,8 +75,3 @@ start => party 0
 poll 0 0 => pending
 poll 0 0 => error Error occurred while creating a new object: refused
 ";
-
-#[test]
-fn scripts_have_their_replies(rt: HostRuntime) -> Result<(), Fail> {
-    replies_as_written(&rt, SCRIPTS)
-}

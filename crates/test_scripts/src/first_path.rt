@@ -1,8 +1,7 @@
-//! Scripts of gets that create, wait and come back.
-use super::replies_as_written;
-use std::test::Fail;
+//! Gets that find a place or wait for one, and returns.
 
-const SCRIPTS: &str = "\
+/// Gets that create, wait and come back.
+pub const FIRST_PATH: &str = "\
 # first-run
 pool 1 fifo none 0 => ok
 start => party 0
@@ -54,8 +53,3 @@ status => max 16 size 3 available 2 waiting 0
 back 2 => kept
 status => max 16 size 3 available 3 waiting 0
 ";
-
-#[test]
-fn scripts_have_their_replies(rt: HostRuntime) -> Result<(), Fail> {
-    replies_as_written(&rt, SCRIPTS)
-}

@@ -1,8 +1,7 @@
-//! Scripts of timeouts, and of gets that are cancelled.
-use super::replies_as_written;
-use std::test::Fail;
+//! Deadlines, and gets that are cancelled.
 
-const SCRIPTS: &str = "\
+/// Timeouts, and gets that are cancelled.
+pub const TIMEOUTS: &str = "\
 # cancelled-at-each-pending-call
 pool 1 fifo none 0 => ok
 answer create pending => ok
@@ -141,9 +140,42 @@ poll 1 0 => pending
 poll 1 9 => pending
 poll 1 10 => error Timeout occurred while waiting for a slot to become available
 status => max 1 size 1 available 0 waiting 0
-";
 
-#[test]
-fn scripts_have_their_replies(rt: HostRuntime) -> Result<(), Fail> {
-    replies_as_written(&rt, SCRIPTS)
-}
+# recycling-ready-after-a-pending-hook
+pool 1 fifo clock 0 => ok
+start => party 0
+poll 0 0 => object 0 value 0
+back 0 => kept
+answer pre pending => ok
+answer recycle pending => ok
+start - - 10 => party 1
+poll 1 5 => pending
+poll 1 20 => pending
+poll 1 29 => object 0 value 0
+status => max 1 size 1 available 0 waiting 0
+
+# hooks-have-no-deadline
+pool 1 fifo clock 0 => ok
+start => party 0
+poll 0 0 => object 0 value 0
+back 0 => kept
+answer pre pending pending => ok
+answer post pending pending => ok
+start - - 10 => party 1
+poll 1 5 => pending
+poll 1 20 => pending
+poll 1 40 => pending
+poll 1 60 => pending
+poll 1 80 => object 0 value 0
+
+# close-before-the-clock-is-asked
+pool 1 fifo clock 0 => ok
+start => party 0
+poll 0 0 => object 0 value 0
+start 10 - - => party 1
+poll 1 0 => pending
+back 0 => kept
+close => ok
+poll 1 10 => error Pool has been closed
+status => max 0 size 0 available 0 waiting 0
+";

@@ -1,8 +1,7 @@
-//! Scripts with the owner's steps: take, resize, retain, close, and the count of pool handles.
-use super::replies_as_written;
-use std::test::Fail;
+//! The owner's steps: take, resize, retain, close, and the count of handles.
 
-const SCRIPTS: &str = "\
+/// A limit that changes, a close, objects that are taken or not kept, and handles.
+pub const OWN_STEPS: &str = "\
 # clone-and-two-drops
 pool 1 fifo none 0 => ok
 start => party 0
@@ -289,6 +288,94 @@ back 2 => kept
 back 3 => kept
 status => max 2 size 2 available 2 waiting 0
 
+# growth-grants-two-of-three
+pool 1 lifo none 0 => ok
+start => party 0
+poll 0 0 => object 0 value 0
+start => party 1
+poll 1 0 => pending
+start => party 2
+poll 2 0 => pending
+start => party 3
+poll 3 0 => pending
+status => max 1 size 1 available 0 waiting 3
+resize 3 => ok
+status => max 3 size 1 available 0 waiting 3
+poll 3 0 => pending
+poll 2 0 => object 1 value 1
+status => max 3 size 2 available 0 waiting 2
+poll 1 0 => object 2 value 2
+status => max 3 size 3 available 0 waiting 1
+back 0 => kept
+poll 3 0 => object 0 value 0
+
+# growth-from-nothing-grants-in-order
+pool 0 fifo none 0 => ok
+start => party 0
+poll 0 0 => pending
+start => party 1
+poll 1 0 => pending
+start => party 2
+poll 2 0 => pending
+resize 2 => ok
+status => max 2 size 0 available 0 waiting 3
+poll 2 0 => pending
+cancel 0 => cancelled
+status => max 2 size 0 available 0 waiting 2
+poll 2 0 => object 0 value 0
+poll 1 0 => object 1 value 1
+status => max 2 size 2 available 0 waiting 0
+
+# get-granted-by-a-growth-after-a-close
+pool 0 fifo none 0 => ok
+start => party 0
+poll 0 0 => pending
+resize 1 => ok
+status => max 1 size 0 available 0 waiting 1
+close => ok
+status => max 0 size 0 available 0 waiting 1
+poll 0 0 => error Pool has been closed
+status => max 0 size 0 available 0 waiting 0
+poll 0 0 => pending
+
+# shrink-drops-the-front-where-the-first-is-next
+pool 3 fifo none 0 => ok
+start => party 0
+poll 0 0 => object 0 value 0
+start => party 1
+poll 1 0 => object 1 value 1
+start => party 2
+poll 2 0 => object 2 value 2
+back 1 => kept
+back 0 => kept
+back 2 => kept
+resize 2 => ok
+status => max 2 size 2 available 2 waiting 0
+start => party 3
+poll 3 0 => object 0 value 0
+start => party 4
+poll 4 0 => object 2 value 2
+status => max 2 size 2 available 0 waiting 0
+
+# shrink-drops-the-front-where-the-last-is-next
+pool 3 lifo none 0 => ok
+start => party 0
+poll 0 0 => object 0 value 0
+start => party 1
+poll 1 0 => object 1 value 1
+start => party 2
+poll 2 0 => object 2 value 2
+back 1 => kept
+back 0 => kept
+back 2 => kept
+resize 2 => ok
+status => max 2 size 2 available 2 waiting 0
+start => party 3
+poll 3 0 => object 2 value 2
+start => party 4
+poll 4 0 => object 0 value 0
+status => max 2 size 2 available 0 waiting 0
+
 # take-after-a-shrink-leaves-no-place-over
 pool 2 fifo none 0 => ok
 start => party 0
@@ -350,8 +437,3 @@ back 1 => kept
 retain => retained 0 removed 0 1
 status => max 2 size 0 available 0 waiting 0
 ";
-
-#[test]
-fn scripts_have_their_replies(rt: HostRuntime) -> Result<(), Fail> {
-    replies_as_written(&rt, SCRIPTS)
-}

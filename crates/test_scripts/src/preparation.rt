@@ -1,8 +1,7 @@
-//! Scripts of managers and hooks that are pending, refuse or change an object.
-use super::replies_as_written;
-use std::test::Fail;
+//! What an object passes before it is handed out, and creations that end badly.
 
-const SCRIPTS: &str = "\
+/// Managers and hooks that are pending, refuse or change an object.
+pub const PREPARATION: &str = "\
 # allowance-used-up
 pool 3 fifo none 0 => ok
 start => party 0
@@ -113,9 +112,20 @@ poll 1 0 => object 0 value 0
 status => max 1 size 1 available 0 waiting 0
 back 0 => kept
 status => max 1 size 1 available 1 waiting 0
-";
 
-#[test]
-fn scripts_have_their_replies(rt: HostRuntime) -> Result<(), Fail> {
-    replies_as_written(&rt, SCRIPTS)
-}
+# refused-new-object-passes-its-place-on
+pool 1 fifo none 0 => ok
+answer postcreate pending refuse => ok
+start => party 0
+poll 0 0 => pending
+status => max 1 size 1 available 0 waiting 0
+start => party 1
+poll 1 0 => pending
+poll 1 0 => pending
+poll 1 0 => pending
+status => max 1 size 1 available 0 waiting 1
+poll 0 0 => error `post_create` hook failed: refused
+status => max 1 size 0 available 0 waiting 1
+poll 1 0 => object 1 value 1
+status => max 1 size 1 available 0 waiting 0
+";

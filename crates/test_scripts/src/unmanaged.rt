@@ -1,8 +1,7 @@
-//! Scripts of unmanaged pools.
-use super::replies_as_written;
-use std::test::Fail;
+//! Unmanaged pools.
 
-const SCRIPTS: &str = "\
+/// Gets, adds and tries, objects and handles of unmanaged pools.
+pub const UNMANAGED: &str = "\
 # add-and-remove
 unmanaged 2 none => ok
 tryadd 1 => added 0
@@ -341,8 +340,3 @@ unmanaged 18446744073709551615 clock => error Out of memory
 unmanaged 1 none => ok
 tryadd 1 => added 0
 ";
-
-#[test]
-fn scripts_have_their_replies(rt: HostRuntime) -> Result<(), Fail> {
-    replies_as_written(&rt, SCRIPTS)
-}

@@ -1,8 +1,7 @@
-//! Scripts whose pool is configured by a text.
-use super::replies_as_written;
-use std::test::Fail;
+//! Pools that are configured by a text.
 
-const SCRIPTS: &str = r#"# all-timeouts-zero
+/// Configurations that are read, and those that are refused.
+pub const CONFIGURATION: &str = r#"# all-timeouts-zero
 config clock 0 {"max_size":16,"timeouts":{"wait":{"secs":0,"nanos":0},"create":{"secs":0,"nanos":0},"recycle":{"secs":0,"nanos":0}}} => ok
 answer create pending => ok
 start => party 0
@@ -30,9 +29,29 @@ config none 0 {"max_size":1,"queue_mode":"lifo"} => error queue_mode is not Fifo
 config none 0 {"max_size":1,"timeouts":{"wait":{"secs":0,"nanos":0}}} => error Error occurred while building the pool: Timeouts require a runtime
 config none 0 {"max_size":1 => error Configuration is not JSON
 config none 0 {"max_size":1,"timeouts":{"wait":null},"note":[]} => ok
-"#;
 
-#[test]
-fn scripts_have_their_replies(rt: HostRuntime) -> Result<(), Fail> {
-    replies_as_written(&rt, SCRIPTS)
-}
+# json
+config none 0 {"max_size":1,"queue_mode":5,"min_idle":null} => error queue_mode is not Fifo or Lifo
+config none 0 {"max_size":1,"min_idle":null} => error min_idle is not a whole number in range
+config none 0 {"max_size":1,"min_idle":0} => ok
+
+# floor-of-a-configuration
+config none 0 {"max_size":3,"min_idle":1} => ok
+start => party 0
+poll 0 0 => object 0 value 0
+start => party 1
+poll 1 0 => object 1 value 1
+start => party 2
+poll 2 0 => object 2 value 2
+back 0 => kept
+back 1 => kept
+back 2 => kept
+retain => retained 1 removed 0 1
+
+# floors-that-are-no-numbers
+config none 0 {"max_size":1,"min_idle":null} => error min_idle is not a whole number in range
+config none 0 {"max_size":1,"min_idle":-1} => error min_idle is not a whole number in range
+config none 0 {"max_size":1,"min_idle":1.5} => error min_idle is not a whole number in range
+config none 0 {"max_size":1,"min_idle":18446744073709551616} => error min_idle is not a whole number in range
+config none 0 {"max_size":1,"min_idle":18446744073709551615} => ok
+"#;

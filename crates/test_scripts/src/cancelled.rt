@@ -1,8 +1,7 @@
-//! Scripts of a get that is cancelled, whose place one in the queue is then given.
-use super::replies_as_written;
-use std::test::Fail;
+//! Gets that are cancelled, whose place one in the queue is then given.
 
-const SCRIPTS: &str = "\
+/// A get that is cancelled in each of its stages.
+pub const CANCELLED: &str = "\
 # cancelled-while-queued
 pool 1 fifo none 0 => ok
 start => party 0
@@ -20,7 +19,7 @@ poll 1 0 => no such
 poll 2 0 => object 0 value 0
 status => max 1 size 1 available 0 waiting 0
 
-# cancelled-while-granted
+# cancelled-while-granted-again
 pool 1 fifo none 0 => ok
 start => party 0
 poll 0 0 => object 0 value 0
@@ -67,7 +66,7 @@ status => max 1 size 0 available 0 waiting 1
 poll 1 0 => object 0 value 0
 status => max 1 size 1 available 0 waiting 0
 
-# cancelled-with-an-idle-object
+# cancelled-with-an-idle-object-again
 pool 1 fifo none 0 => ok
 start => party 0
 poll 0 0 => object 0 value 0
@@ -98,8 +97,3 @@ status => max 1 size 0 available 0 waiting 1
 poll 1 0 => object 1 value 1
 status => max 1 size 1 available 0 waiting 0
 ";
-
-#[test]
-fn scripts_have_their_replies(rt: HostRuntime) -> Result<(), Fail> {
-    replies_as_written(&rt, SCRIPTS)
-}
