@@ -4,12 +4,12 @@
 //! no trial.
 
 pub use deadpool_managed::{
-    AgainReply, AskReply, AsyncHook, BackReply, BuildError, ConfigError, Core, CreatePoolError,
-    CreatedReply, Desk, EnterReply, Environment, FnHook, GetState, HandleReply, Held, Hook,
-    HookAnswer, HookError, HookResult, Hooks, Manager, Metrics, NoHook, ObjectId, PoolConfig,
-    PoolError, Position, Preparation, QueueMode, RecycleError, RecycleResult, Removal, Removals,
-    RetainResult, Retainer, Serving, Slot, Stage, Status, StepReply, SyncHook, TakeReply,
-    TimeoutType, Timeouts, Turn, laws,
+    AgainReply, AskReply, AsyncHook, BackReply, BuildError, ConfigError, Core, Counts,
+    CreatePoolError, CreatedReply, Desk, EnterReply, Environment, FnHook, GetState, HandleReply,
+    Held, Hook, HookAnswer, HookError, HookResult, Hooks, Manager, Metrics, NoHook, ObjectId,
+    PoolConfig, PoolError, Position, Preparation, QueueMode, RecycleError, RecycleResult, Removal,
+    Removals, RetainResult, Retainer, Serving, Slot, Stage, StageKind, Status, StepReply, SyncHook,
+    TakeReply, TimeoutType, Timeouts, Turn, laws,
 };
 pub use deadpool_shared::{
     Blanks, Entry, Get, GetRef, Journal, Ledgers, Object, OpenPool, Pool, PoolBuilder, Seat,
