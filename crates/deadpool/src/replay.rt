@@ -3,4 +3,4 @@
 pub mod unmanaged;
 
 pub use deadpool_journal::{Journal, Journaled};
-pub use deadpool_replay::{Move, Reply, Trial, laws};
+pub use deadpool_replay::{Look, Move, Reply, Trial, laws};

@@ -5,9 +5,9 @@
 //! steps. Both stand in crates of their own, which know no manager.
 
 pub use deadpool_unmanaged::{
-    AddAskReply, AddEnterReply, AddStage, AddState, BackReply, ConfigError, Core, GetAskReply,
-    GetEnterReply, GetStage, GetState, HandleReply, PoolConfig, PoolError, Status, StepReply,
-    TakeReply,
+    AddAskReply, AddEnterReply, AddStage, AddState, BackReply, ConfigError, Core, Counts,
+    GetAskReply, GetEnterReply, GetStage, GetState, HandleReply, PoolConfig, PoolError, Status,
+    StepReply, TakeReply,
 };
 pub use deadpool_unmanaged_shared::{
     Add, AddRef, Adding, Get, GetRef, Getting, Object, Pool, Remove, Removing,

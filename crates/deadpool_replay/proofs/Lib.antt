@@ -17,6 +17,7 @@ pub mod PreparedNumbers
 pub mod QueuesAndPlaces
 pub mod Runs
 pub mod RunsWell
+pub mod Seen
 pub mod Serving
 pub mod Simulation
 pub mod Staying

@@ -10,6 +10,7 @@ pub mod Laws
 pub mod RunLaws
 -- What a trial shows of it.
 pub mod Replay
+pub mod Look
 -- Scripts that it was checked with: each equation computes.
 pub mod Script
 pub mod ScriptsFirstPath

@@ -1,5 +1,6 @@
--- What a trial makes of a turn, and of an object that comes back.
-use Rattle.std.specs.Prelude.{◌≡◌, true, false, List, Option, Some, None, Ok, Err, ⊤}
+-- What a trial makes of a turn and of an object that comes back, and what is seen of a get.
+use Rattle.std.specs.Prelude.{◌≡◌, ℕ, true, false, List, Option, Some, None, Ok, Err, ⊤, if◌then◌else◌}
+use Rattle.deadpool_gate.specs.Numbers.{has_number}
 use Rattle.deadpool_parts.specs.declared.moment.Moment.{Moment}
 use Rattle.deadpool_parts.specs.declared.moment.Runtime.{Runtime}
 use Rattle.deadpool_managed.specs.HookLists.{HookLists}
@@ -18,6 +19,10 @@ use Rattle.deadpool_desk.specs.declared.desk.TakeReply.{TakeReply}
 use Rattle.deadpool_desk.specs.declared.desk.TakeReply.TheVariants as taking
 use Rattle.deadpool_desk.specs.declared.desk.BackReply.{BackReply}
 use Rattle.deadpool_desk.specs.declared.desk.BackReply.TheVariants as back
+use Rattle.deadpool_managed.specs.declared.kind.StageKind.{StageKind}
+use Rattle.deadpool_managed.specs.declared.kind.StageKind.TheVariants as kind
+use Rattle.deadpool_replay.specs.declared.look.Look.{Look}
+use Rattle.deadpool_replay.specs.declared.look.Look.TheVariants as look
 use Rattle.deadpool_replay.specs.declared.moves.Reply.{Reply}
 use Rattle.deadpool_replay.specs.declared.moves.Reply.TheVariants as reply
 
@@ -60,6 +65,16 @@ module _ {V E C R S F A : Type 0} where
 abbrev pub reply_to_handle : {V E : Type 0} → HandleReply → Reply V E
 reply_to_handle handle.Done = reply.Done
 reply_to_handle handle.NoHandle = reply.NoHandle
+
+-- what is seen of a get at a stage; one in the queue by the tickets that were granted a place
+abbrev pub look_as : List ℕ → StageKind → Look
+look_as granted kind.Unpolled = look.Unpolled
+look_as granted (kind.Queued ticket) = if has_number ticket granted then look.Granted else look.Queued
+look_as granted kind.Going = look.Going
+look_as granted kind.Creating = look.Creating
+look_as granted (kind.Recycling number) = look.Recycling number
+look_as granted (kind.Checking number) = look.Checking number
+look_as granted kind.Finished = look.Finished
 
 -- one advance of a get by its two states: what it made of the desk, and its turn
 pub record AdvancedGet {D V E C R S F A : Type 0} (d : DeskOf D V) (may : May V E C R S F A) (runtime : Option Runtime) (hooks : HookLists F A) (now : Moment)

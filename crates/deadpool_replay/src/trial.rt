@@ -18,6 +18,8 @@ ghost use Rattle.deadpool_gate.specs.Numbers.{has_number};
 ghost use Rattle.deadpool_managed.specs.Answers.{LeavesOrKeeps};
 ghost use Rattle.deadpool_replay.specs.declared.moves.Move.TheVariants as move;
 
+mod seen;
+
 use crate::{Move, Reply};
 use deadpool_managed::{
     AsyncHook, BackReply, BuildError, Core, Desk, Environment, GetState, HandleReply, Manager,

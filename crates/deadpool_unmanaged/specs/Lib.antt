@@ -4,6 +4,8 @@
 pub mod State
 pub mod StateSteps
 pub mod Kept
+-- What a pool counts.
+pub mod Counts
 -- A get and an add that are polled over it, and when a poll joins a queue.
 pub mod Gets
 pub mod Adds

@@ -49,6 +49,13 @@ impl<T: Drop> AddState<T> {
         }
     }
 
+    /// How far the add is.
+    pub fn stage(&self) -> &AddStage<T>
+        ensures { result.now ≡ self.now }
+    {
+        &self.stage
+    }
+
     /// The object, until the add ends.
     pub fn value(&self) -> Option<&T>
         ensures { option_map (λ v. v.now) result ≡ held_by self.now }

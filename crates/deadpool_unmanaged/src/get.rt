@@ -63,6 +63,13 @@ impl GetState {
         }
     }
 
+    /// How far the get is.
+    pub fn stage(&self) -> &GetStage
+        ensures { result.now ≡ self.now }
+    {
+        &self.stage
+    }
+
     /// The ticket, while the get is in the queue.
     pub fn ticket(&self) -> Option<Ticket>
         ensures { result ≡ ticket_of self.now }

@@ -4,6 +4,7 @@
 
 mod add;
 mod config;
+mod counts;
 mod error;
 mod get;
 mod settled;
@@ -12,6 +13,7 @@ mod steps;
 
 pub use add::{AddStage, AddState};
 pub use config::PoolConfig;
+pub use counts::Counts;
 pub use deadpool_gate::gate;
 pub use deadpool_parts::errors::ConfigError;
 pub use deadpool_parts::{Clock, HandleReply, Moment, NoTime, Runtime, Status, StepReply};

@@ -1,12 +1,14 @@
 //! The core of an unmanaged pool: its state, in which nobody waits for what is free between any two steps.
 ghost use Rattle.std.specs.Prelude.{◌≡◌, ℕ, ◌==◌, nat_lt, not, [], length, IfOk, option_copied, slice_get};
+ghost use Rattle.deadpool_gate.specs.Numbers.{has_number};
+ghost use Rattle.deadpool_unmanaged.specs.Counts.{counts_of};
 ghost use Rattle.deadpool_unmanaged.specs.Kept.{IsKept};
 ghost use Rattle.deadpool_unmanaged.specs.State.{IsFull, has_due, get_would_queue, add_would_queue, opened, status_of};
 ghost use Rattle.deadpool_unmanaged.specs.StateSteps.{GetEnters, GetAsks, GetCancels, AddEnters, AddAsks, AddCancels, TakesBack, Takes, TakesGetWake, TakesAddWake, Clones, DropsHandle, Upgrades, closed_pool};
 
 use crate::state::PoolState;
 use crate::steps::{AddAskReply, AddEnterReply, BackReply, GetAskReply, GetEnterReply, TakeReply};
-use crate::{HandleReply, Status, StepReply};
+use crate::{Counts, HandleReply, Status, StepReply};
 use deadpool_gate::gate::Ticket;
 use std::alloc::{AllocError, Global};
 use std::marker::Model;
@@ -139,6 +141,29 @@ impl<T: Drop> Core<T> {
         ensures { option_copied result ≡ slice_get self.now.pool.idle at }
     {
         self.state.idle_at(at)
+    }
+
+    /// What the pool counts.
+    pub fn counts(&self) -> Counts
+        ensures { result ≡ counts_of self.now.pool }
+    {
+        self.state.counts()
+    }
+
+    /// Whether the get in the queue with this ticket was granted an object, which it has not taken yet. Nothing changes.
+    pub fn get_is_granted(&mut self, ticket: Ticket) -> bool
+        ensures granted { result ≡ has_number ticket self.old.pool.gets.granted }
+        ensures same { self.new ≡ self.old }
+    {
+        self.state.get_is_granted(ticket)
+    }
+
+    /// Whether the add in the queue with this ticket was granted room, which it has not taken yet. Nothing changes.
+    pub fn add_is_granted(&mut self, ticket: Ticket) -> bool
+        ensures granted { result ≡ has_number ticket self.old.pool.adds.granted }
+        ensures same { self.new ≡ self.old }
+    {
+        self.state.add_is_granted(ticket)
     }
 
     /// A new get asks for an object, and joins the queue if none is free and `wait` says so. `OutOfMemory` comes only

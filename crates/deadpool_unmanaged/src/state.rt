@@ -3,6 +3,8 @@ ghost use Rattle.std.specs.Prelude.{◌≡◌, ℕ, ◌<◌, ◌≤◌, ◌==◌
 ghost use Rattle.deadpool_unmanaged.specs.State.{IsFull, has_due, free_objects, free_room, get_would_queue, add_would_queue, opened, settled, status_of, last_idle};
 ghost use Rattle.deadpool_unmanaged.specs.StateSteps.{GetEnters, GetAsks, GetCancels, AddEnters, AddAsks, AddCancels, TakesBack, Takes, TakesGetWake, TakesAddWake, Clones, DropsHandle, Upgrades, handed, stored, closed_pool};
 
+mod counted;
+
 use crate::steps::{AddAskReply, AddEnterReply, BackReply, GetAskReply, GetEnterReply, TakeReply};
 use crate::{HandleReply, Status, StepReply};
 use deadpool_gate::gate::{Ask, Entry, Gate, Ticket, Withdrawn};

@@ -11,6 +11,7 @@ pub mod Passes
 pub mod PassesMoves
 pub mod Polls
 pub mod Runs
+pub mod Seen
 pub mod Settling
 pub mod Visitors
 pub mod Well

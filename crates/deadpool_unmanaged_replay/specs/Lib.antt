@@ -6,6 +6,8 @@ pub mod Steps
 pub mod Moves
 pub mod Laws
 pub mod RunLaws
+-- What is seen of a pool between its moves.
+pub mod Look
 -- Scripts that it was checked with: each equation computes.
 pub mod Script
 pub mod Scripts

@@ -1,5 +1,7 @@
--- What a trial makes of what a party comes to.
-use Rattle.std.specs.Prelude.{◌≡◌, ℕ, ⊤, List, Option, Some, None, Result, Ok, Err}
+-- What a trial makes of what a party comes to, and what is seen of one.
+use Rattle.std.specs.Prelude.{◌≡◌, ℕ, ⊤, List, Option, Some, None, Result, Ok, Err, if◌then◌else◌}
+use Rattle.deadpool_gate.specs.Numbers.{has_number}
+use Rattle.deadpool_gate.specs.Queue.{Queue}
 use Rattle.futures.specs.declared.task.Poll.{Poll}
 use Rattle.futures.specs.declared.task.Poll.TheVariants as poll
 use Rattle.deadpool_parts.specs.declared.moment.Moment.{Moment}
@@ -9,8 +11,12 @@ use Rattle.deadpool_unmanaged.specs.Gets.{PollsGet, CancelsGet}
 use Rattle.deadpool_unmanaged.specs.State.{State}
 use Rattle.deadpool_unmanaged_replay.specs.Steps.{with_item}
 use Rattle.deadpool_unmanaged.specs.declared.add.AddStage.{AddStage}
+use Rattle.deadpool_unmanaged.specs.declared.add.AddStage.TheVariants as adding
 use Rattle.deadpool_unmanaged.specs.declared.error.PoolError.{PoolError}
 use Rattle.deadpool_unmanaged.specs.declared.get.GetStage.{GetStage}
+use Rattle.deadpool_unmanaged.specs.declared.get.GetStage.TheVariants as getting
+use Rattle.deadpool_unmanaged_replay.specs.declared.look.Look.{Look}
+use Rattle.deadpool_unmanaged_replay.specs.declared.look.Look.TheVariants as look
 use Rattle.deadpool_unmanaged_replay.specs.declared.moves.Item.{Item}
 use Rattle.deadpool_unmanaged_replay.specs.declared.moves.Reply.{Reply}
 use Rattle.deadpool_unmanaged_replay.specs.declared.moves.Reply.TheVariants as reply
@@ -26,7 +32,19 @@ use Rattle.deadpool_unmanaged.specs.declared.steps.BackReply.TheVariants as back
 use Rattle.deadpool_parts.specs.declared.replies.HandleReply.{HandleReply}
 use Rattle.deadpool_parts.specs.declared.replies.HandleReply.TheVariants as handle
 
+-- what is seen of a get at a stage; one in the queue by its ticket
+abbrev pub look_at_get : Queue → GetStage → Look
+look_at_get gets (getting.Unpolled wait) = look.NewGet
+look_at_get gets (getting.Queued ticket deadline) = if has_number ticket gets.granted then look.GrantedGet else look.QueuedGet
+look_at_get gets getting.Finished = look.Finished
+
 module _ {V : Type 0} where
+  -- the same of an add
+  abbrev pub look_at_add : Queue → AddStage (Item V) → Look
+  look_at_add adds (adding.Unpolled item) = look.NewAdd item.number
+  look_at_add adds (adding.Queued ticket item) = if has_number ticket adds.granted then look.GrantedAdd item.number else look.QueuedAdd item.number
+  look_at_add adds adding.Finished = look.Finished
+
   -- what a get's poll comes to
   abbrev pub got : Poll (Result (Item V) PoolError) → Turn V
   got poll.Pending = turn.Pending

@@ -2,8 +2,10 @@
 #![tactic(auto)]
 
 pub mod laws;
+mod look;
 mod moves;
 mod trial;
 
+pub use look::Look;
 pub use moves::{Item, Move, Reply};
 pub use trial::Trial;

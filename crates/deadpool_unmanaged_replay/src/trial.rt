@@ -11,6 +11,8 @@ ghost use Rattle.deadpool_unmanaged_replay.specs.TrialFields.{PollsVisitor, Poll
 ghost use Rattle.deadpool_unmanaged_replay.specs.declared.trial.Visitor.TheVariants as visitor;
 ghost use Rattle.deadpool_unmanaged_replay.specs.declared.moves.Move.TheVariants as move;
 
+mod seen;
+
 use crate::{Item, Move, Reply};
 use deadpool_parts::tables::{append, put_in, take_out};
 use deadpool_unmanaged::{
