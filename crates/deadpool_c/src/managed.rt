@@ -25,7 +25,8 @@ pub extern "C" fn deadpool_managed_new(
     min_idle: usize,
 ) -> bool
     ensures made { result ≡ true → InBlock pool.new.at }
-    ensures desk { result ≡ true → pool.new.state.pool.core.desk ≡ new_core limit (mode_of is_lifo) 0 min_idle }
+    ensures desk { result ≡ true
+        → pool.new.state.pool.core.desk ≡ new_core limit (mode_of is_lifo) 0 min_idle }
     ensures untold { result ≡ true → pool.new.state.pool.core.untold ≡ [] }
     ensures log { result ≡ true → pool.new.state.pool.log ≡ no_entries most_entries }
 {
@@ -88,7 +89,8 @@ pub extern "C" fn deadpool_managed_again(
     allowance: usize,
 ) -> Reply
     requires { InBlock pool.old.at }
-    ensures step { AsksAgainRaw pool.old.state.pool (allowance_of is_set allowance) result pool.new.state.pool }
+    ensures step { AsksAgainRaw pool.old.state.pool
+        (allowance_of is_set allowance) result pool.new.state.pool }
     ensures made { InBlock pool.new.at }
 {
     replace_with(pool, (is_set, allowance), managed_steps::again)

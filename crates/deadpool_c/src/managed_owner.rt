@@ -20,8 +20,10 @@ use core::mem::replace_with;
 // Writes the keys of the idle objects, at most so many, from the front on, and says how many it has written.
 fn write_keys(pool: &mut ManagedPool, most: usize, keys: &mut [u64]) -> usize
     requires { InBlock pool.old.at }
-    ensures written { Writes (take most (idle_keys pool.old.state.pool.core.desk)) keys.old keys.new }
-    ensures count { result ≡ written_count (take most (idle_keys pool.old.state.pool.core.desk)) keys.old }
+    ensures written { Writes
+        (take most (idle_keys pool.old.state.pool.core.desk)) keys.old keys.new }
+    ensures count { result
+        ≡ written_count (take most (idle_keys pool.old.state.pool.core.desk)) keys.old }
     ensures same { pool.new.state ≡ pool.old.state }
     ensures made { InBlock pool.new.at }
 {
@@ -56,7 +58,8 @@ pub extern "C" fn deadpool_managed_resize(
     keys: &mut [u64],
 ) -> Reply
     requires { InBlock pool.old.at }
-    ensures step { ResizesRaw pool.old.state.pool limit (written_count (surplus_keys limit pool.old.state.pool.core.desk) keys.old) result pool.new.state.pool }
+    ensures step { ResizesRaw pool.old.state.pool limit (written_count
+        (surplus_keys limit pool.old.state.pool.core.desk) keys.old) result pool.new.state.pool }
     ensures keys { Writes (surplus_keys limit pool.old.state.pool.core.desk) keys.old keys.new }
     ensures made { InBlock pool.new.at }
 {
@@ -75,7 +78,8 @@ pub extern "C" fn deadpool_managed_retain(
     keys: &mut [u64],
 ) -> Reply
     requires { InBlock pool.old.at }
-    ensures step { RetainsRaw pool.old.state.pool keep.now keys.old result pool.new.state.pool keys.new }
+    ensures step { RetainsRaw pool.old.state.pool
+        keep.now keys.old result pool.new.state.pool keys.new }
     ensures made { InBlock pool.new.at }
 {
     match replace_with(pool, Choice { keep }, managed_owner_steps::retain) {

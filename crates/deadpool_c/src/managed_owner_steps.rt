@@ -33,7 +33,8 @@ pub fn retain(
     choice: Choice<'_>,
 ) -> (ManagedPool, Result<RetainResult<u64>, AllocError>)
     requires { InBlock pool.at }
-    ensures step { (last : Choice) × RetainsNoted choice_asks pool.state.pool choice.entry result.1 result.0.state.pool last }
+    ensures step { (last : Choice)
+        × RetainsNoted choice_asks pool.state.pool choice.entry result.1 result.0.state.pool last }
     ensures made { InBlock result.0.at }
 {
     let mut choice = choice;

@@ -25,7 +25,8 @@ pub struct Opening {
 
 pub fn open(alloc: Global, opening: Opening) -> Result<ManagedPool, AllocError>
     ensures made { IfOk result (λ pool. InBlock pool.at) }
-    ensures desk { IfOk result (λ pool. pool.state.pool.core.desk ≡ new_core opening.limit (mode_of opening.is_lifo) 0 opening.min_idle) }
+    ensures desk { IfOk result (λ pool. pool.state.pool.core.desk
+        ≡ new_core opening.limit (mode_of opening.is_lifo) 0 opening.min_idle) }
     ensures untold { IfOk result (λ pool. pool.state.pool.core.untold ≡ []) }
     ensures log { IfOk result (λ pool. pool.state.pool.log ≡ no_entries opening.most_entries) }
 {
@@ -68,7 +69,8 @@ pub fn ask(pool: ManagedPool, asked: (usize, bool)) -> (ManagedPool, Reply)
 
 pub fn again(pool: ManagedPool, allowance: (bool, usize)) -> (ManagedPool, Reply)
     requires { InBlock pool.at }
-    ensures step { AsksAgainRaw pool.state.pool (allowance_of allowance.0 allowance.1) result.1 result.0.state.pool }
+    ensures step { AsksAgainRaw pool.state.pool
+        (allowance_of allowance.0 allowance.1) result.1 result.0.state.pool }
     ensures made { InBlock result.0.at }
 {
     let allowed = if allowance.0 { Some(allowance.1) } else { None };

@@ -80,7 +80,8 @@ pub extern "C" fn deadpool_unmanaged_get_ask(
     expired: bool,
 ) -> Reply
     requires { InBlock pool.old.at }
-    ensures step { GetAsksRaw pool.old.state.pool.pool ticket expired result pool.new.state.pool.pool }
+    ensures step { GetAsksRaw pool.old.state.pool.pool
+        ticket expired result pool.new.state.pool.pool }
     ensures made { InBlock pool.new.at }
 {
     replace_with(pool, (ticket, expired), unmanaged_steps::get_ask)
@@ -190,7 +191,8 @@ pub extern "C" fn deadpool_unmanaged_drop_handle(
     requires { InBlock pool.old.at }
     ensures step { DropsHandleRaw pool.old.state.pool.pool result pool.new.state.pool.pool }
     ensures keys { Writes (last_unmanaged_keys pool.old.state.pool.pool) keys.old keys.new }
-    ensures count { written.new ≡ written_count (last_unmanaged_keys pool.old.state.pool.pool) keys.old }
+    ensures count { written.new
+        ≡ written_count (last_unmanaged_keys pool.old.state.pool.pool) keys.old }
     ensures made { InBlock pool.new.at }
 {
     *written = if replace_with(pool, (), unmanaged_steps::is_last_handle) {

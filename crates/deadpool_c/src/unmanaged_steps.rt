@@ -35,7 +35,8 @@ pub fn get_enter(pool: UnmanagedPool, wait: bool) -> (UnmanagedPool, Reply)
 
 pub fn get_ask(pool: UnmanagedPool, asked: (usize, bool)) -> (UnmanagedPool, Reply)
     requires { InBlock pool.at }
-    ensures step { GetAsksRaw pool.state.pool.pool asked.0 asked.1 result.1 result.0.state.pool.pool }
+    ensures step { GetAsksRaw pool.state.pool.pool
+        asked.0 asked.1 result.1 result.0.state.pool.pool }
     ensures made { InBlock result.0.at }
 {
     let (number, expired) = asked;
@@ -56,7 +57,8 @@ pub fn get_cancel(pool: UnmanagedPool, number: usize) -> (UnmanagedPool, Reply)
 
 pub fn add_enter(pool: UnmanagedPool, added: (u64, bool)) -> (UnmanagedPool, Reply)
     requires { InBlock pool.at }
-    ensures step { AddEntersRaw pool.state.pool.pool added.0 added.1 result.1 result.0.state.pool.pool }
+    ensures step { AddEntersRaw pool.state.pool.pool
+        added.0 added.1 result.1 result.0.state.pool.pool }
     ensures made { InBlock result.0.at }
 {
     let (key, wait) = added;
@@ -67,7 +69,8 @@ pub fn add_enter(pool: UnmanagedPool, added: (u64, bool)) -> (UnmanagedPool, Rep
 
 pub fn add_ask(pool: UnmanagedPool, asked: (usize, u64)) -> (UnmanagedPool, Reply)
     requires { InBlock pool.at }
-    ensures step { AddAsksRaw pool.state.pool.pool asked.0 asked.1 result.1 result.0.state.pool.pool }
+    ensures step { AddAsksRaw pool.state.pool.pool
+        asked.0 asked.1 result.1 result.0.state.pool.pool }
     ensures made { InBlock result.0.at }
 {
     let (number, key) = asked;

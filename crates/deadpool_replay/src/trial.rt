@@ -77,8 +77,10 @@ impl<M: Manager, F: SyncHook<M>, A: AsyncHook<M>, C: Drop> Trial<M, F, A, C> {
         parties: usize,
         first_number: usize,
     ) -> Result<Self, BuildError>
-        ensures refused { (result ≡ Err BuildError.NoRuntimeSpecified) ↔ (lacks_any_runtime builder.runtime builder.timeouts ≡ true) }
-        ensures pool { IfOk result (λ t. t.pool ≡ opened builder.max_size builder.queue_mode builder.runtime builder.hooks builder.timeouts first_number parties builder.min_idle) }
+        ensures refused { (result ≡ Err BuildError.NoRuntimeSpecified)
+            ↔ (lacks_any_runtime builder.runtime builder.timeouts ≡ true) }
+        ensures pool { IfOk result (λ t. t.pool ≡ opened builder.max_size builder.queue_mode
+            builder.runtime builder.hooks builder.timeouts first_number parties builder.min_idle) }
         ensures manager { IfOk result (λ t. t.manager ≡ builder.manager) }
     {
         let OpenPool {
@@ -110,7 +112,8 @@ impl<M: Manager, F: SyncHook<M>, A: AsyncHook<M>, C: Drop> Trial<M, F, A, C> {
 
     /// What value an object has, if it is out.
     pub fn value(&self, number: usize) -> Option<&M::Type>
-        ensures { option_map (λ v. v.now) result ≡ option_map (λ s. s.value) (find_slot number self.now.pool.out) }
+        ensures { option_map (λ v. v.now) result
+            ≡ option_map (λ s. s.value) (find_slot number self.now.pool.out) }
     {
         self.out
             .iter()
@@ -127,8 +130,10 @@ impl<M: Manager, F: SyncHook<M>, A: AsyncHook<M>, C: Drop> Trial<M, F, A, C> {
     ) -> Result<Vec<Reply<M::Type, M::Error>>, Vec<Move<M::Type>>>
         ensures run { MatchResult result
             (λ replies. (passed : List (List (Pool M.Type M.Creating M.Recycling A.State F A)))
-            × PoolRuns (may M.Manager F.SyncHook A.AsyncHook self.old.manager) self.old.pool moves.items passed replies.items self.new.pool
-            × Each NobodyWaits (all_states self.old.pool passed) × Neighbours WithinReach (all_states self.old.pool passed))
+            × PoolRuns (may M.Manager F.SyncHook A.AsyncHook self.old.manager)
+            self.old.pool moves.items passed replies.items self.new.pool
+            × Each NobodyWaits (all_states self.old.pool passed)
+            × Neighbours WithinReach (all_states self.old.pool passed))
             (λ refused. (refused ≡ moves) × (self.new ≡ self.old)) }
         ensures manager { self.new.manager ≡ self.old.manager }
         ensures kept { Keeps cx.old cx.new }
@@ -145,7 +150,9 @@ impl<M: Manager, F: SyncHook<M>, A: AsyncHook<M>, C: Drop> Trial<M, F, A, C> {
 
     /// Makes one move, and gives its reply. A move that finds no memory says so in its reply, and has changed nothing.
     pub fn make(&mut self, next: Move<M::Type>, cx: &mut Context<'_>) -> Reply<M::Type, M::Error>
-        ensures made { (passed : List (Pool M.Type M.Creating M.Recycling A.State F A)) × MakesMove (may M.Manager F.SyncHook A.AsyncHook self.old.manager) self.old.pool next passed result × (self.new.pool ≡ last_of self.old.pool passed) }
+        ensures made { (passed : List (Pool M.Type M.Creating M.Recycling A.State F A))
+            × MakesMove (may M.Manager F.SyncHook A.AsyncHook self.old.manager)
+            self.old.pool next passed result × (self.new.pool ≡ last_of self.old.pool passed) }
         ensures manager { self.new.manager ≡ self.old.manager }
         ensures kept { Keeps cx.old cx.new }
     {
@@ -168,7 +175,8 @@ impl<M: Manager, F: SyncHook<M>, A: AsyncHook<M>, C: Drop> Trial<M, F, A, C> {
     }
 
     fn start(&mut self, timeouts: Option<Timeouts>) -> Reply<M::Type, M::Error>
-        ensures made { Gives (may M.Manager F.SyncHook A.AsyncHook self.old.manager) (moved (move.Start timeouts) self.old.pool) (result, self.new.pool) }
+        ensures made { Gives (may M.Manager F.SyncHook A.AsyncHook self.old.manager)
+            (moved (move.Start timeouts) self.old.pool) (result, self.new.pool) }
         ensures manager { self.new.manager ≡ self.old.manager }
     {
         if !self.core.has_handle() {
@@ -189,8 +197,10 @@ impl<M: Manager, F: SyncHook<M>, A: AsyncHook<M>, C: Drop> Trial<M, F, A, C> {
         now: Moment,
         cx: &mut Context<'_>,
     ) -> Reply<M::Type, M::Error>
-        ensures made { Gives (may M.Manager F.SyncHook A.AsyncHook self.old.manager) (moved (move.Advance party now) self.old.pool) (result, self.new.pool) }
-        ensures falls { result ≡ Reply.More → rank_at party self.new.pool < rank_at party self.old.pool }
+        ensures made { Gives (may M.Manager F.SyncHook A.AsyncHook self.old.manager)
+            (moved (move.Advance party now) self.old.pool) (result, self.new.pool) }
+        ensures falls { result ≡ Reply.More
+            → rank_at party self.new.pool < rank_at party self.old.pool }
         ensures manager { self.new.manager ≡ self.old.manager }
         ensures kept { Keeps cx.old cx.new }
     {
@@ -205,7 +215,9 @@ impl<M: Manager, F: SyncHook<M>, A: AsyncHook<M>, C: Drop> Trial<M, F, A, C> {
     }
 
     fn poll(&mut self, party: usize, now: Moment, cx: &mut Context<'_>) -> Reply<M::Type, M::Error>
-        ensures made { (passed : List (Pool M.Type M.Creating M.Recycling A.State F A)) × Polls (may M.Manager F.SyncHook A.AsyncHook self.old.manager) party now self.old.pool passed result × (self.new.pool ≡ last_of self.old.pool passed) }
+        ensures made { (passed : List (Pool M.Type M.Creating M.Recycling A.State F A))
+            × Polls (may M.Manager F.SyncHook A.AsyncHook self.old.manager)
+            party now self.old.pool passed result × (self.new.pool ≡ last_of self.old.pool passed) }
         ensures manager { self.new.manager ≡ self.old.manager }
         ensures kept { Keeps cx.old cx.new }
     {
@@ -218,7 +230,8 @@ impl<M: Manager, F: SyncHook<M>, A: AsyncHook<M>, C: Drop> Trial<M, F, A, C> {
     }
 
     fn cancel(&mut self, party: usize) -> Reply<M::Type, M::Error>
-        ensures made { Gives (may M.Manager F.SyncHook A.AsyncHook self.old.manager) (moved (move.Cancel party) self.old.pool) (result, self.new.pool) }
+        ensures made { Gives (may M.Manager F.SyncHook A.AsyncHook self.old.manager)
+            (moved (move.Cancel party) self.old.pool) (result, self.new.pool) }
         ensures manager { self.new.manager ≡ self.old.manager }
     {
         if party >= self.parties.len() {
@@ -234,7 +247,8 @@ impl<M: Manager, F: SyncHook<M>, A: AsyncHook<M>, C: Drop> Trial<M, F, A, C> {
     }
 
     fn put(&mut self, number: usize, value: M::Type) -> Reply<M::Type, M::Error>
-        ensures made { Gives (may M.Manager F.SyncHook A.AsyncHook self.old.manager) (moved (move.Put number value) self.old.pool) (result, self.new.pool) }
+        ensures made { Gives (may M.Manager F.SyncHook A.AsyncHook self.old.manager)
+            (moved (move.Put number value) self.old.pool) (result, self.new.pool) }
         ensures manager { self.new.manager ≡ self.old.manager }
     {
         match index_of(&self.out, number) {
@@ -247,7 +261,8 @@ impl<M: Manager, F: SyncHook<M>, A: AsyncHook<M>, C: Drop> Trial<M, F, A, C> {
     }
 
     fn back(&mut self, number: usize) -> Reply<M::Type, M::Error>
-        ensures made { Gives (may M.Manager F.SyncHook A.AsyncHook self.old.manager) (moved (move.Back number) self.old.pool) (result, self.new.pool) }
+        ensures made { Gives (may M.Manager F.SyncHook A.AsyncHook self.old.manager)
+            (moved (move.Back number) self.old.pool) (result, self.new.pool) }
         ensures manager { self.new.manager ≡ self.old.manager }
     {
         match take_out(&mut self.out, number) {
@@ -260,7 +275,8 @@ impl<M: Manager, F: SyncHook<M>, A: AsyncHook<M>, C: Drop> Trial<M, F, A, C> {
     }
 
     fn status(&mut self) -> Reply<M::Type, M::Error>
-        ensures made { Gives (may M.Manager F.SyncHook A.AsyncHook self.old.manager) (moved move.Status self.old.pool) (result, self.new.pool) }
+        ensures made { Gives (may M.Manager F.SyncHook A.AsyncHook self.old.manager)
+            (moved move.Status self.old.pool) (result, self.new.pool) }
         ensures manager { self.new.manager ≡ self.old.manager }
     {
         if !self.core.has_handle() {
@@ -270,7 +286,8 @@ impl<M: Manager, F: SyncHook<M>, A: AsyncHook<M>, C: Drop> Trial<M, F, A, C> {
     }
 
     fn take(&mut self, number: usize) -> Reply<M::Type, M::Error>
-        ensures made { Gives (may M.Manager F.SyncHook A.AsyncHook self.old.manager) (moved (move.Take number) self.old.pool) (result, self.new.pool) }
+        ensures made { Gives (may M.Manager F.SyncHook A.AsyncHook self.old.manager)
+            (moved (move.Take number) self.old.pool) (result, self.new.pool) }
         ensures manager { self.new.manager ≡ self.old.manager }
     {
         match take_out(&mut self.out, number) {
@@ -283,7 +300,8 @@ impl<M: Manager, F: SyncHook<M>, A: AsyncHook<M>, C: Drop> Trial<M, F, A, C> {
     }
 
     fn resize(&mut self, limit: usize) -> Reply<M::Type, M::Error>
-        ensures made { Gives (may M.Manager F.SyncHook A.AsyncHook self.old.manager) (moved (move.Resize limit) self.old.pool) (result, self.new.pool) }
+        ensures made { Gives (may M.Manager F.SyncHook A.AsyncHook self.old.manager)
+            (moved (move.Resize limit) self.old.pool) (result, self.new.pool) }
         ensures manager { self.new.manager ≡ self.old.manager }
     {
         if !self.core.has_handle() {
@@ -296,7 +314,8 @@ impl<M: Manager, F: SyncHook<M>, A: AsyncHook<M>, C: Drop> Trial<M, F, A, C> {
     }
 
     fn retain(&mut self, kept: &Vec<usize>) -> Reply<M::Type, M::Error>
-        ensures made { Gives (may M.Manager F.SyncHook A.AsyncHook self.old.manager) (moved (move.Retain kept.now) self.old.pool) (result, self.new.pool) }
+        ensures made { Gives (may M.Manager F.SyncHook A.AsyncHook self.old.manager)
+            (moved (move.Retain kept.now) self.old.pool) (result, self.new.pool) }
         ensures manager { self.new.manager ≡ self.old.manager }
     {
         if !self.core.has_handle() {
@@ -313,7 +332,8 @@ impl<M: Manager, F: SyncHook<M>, A: AsyncHook<M>, C: Drop> Trial<M, F, A, C> {
     }
 
     fn close(&mut self) -> Reply<M::Type, M::Error>
-        ensures made { Gives (may M.Manager F.SyncHook A.AsyncHook self.old.manager) (moved (move.Close) self.old.pool) (result, self.new.pool) }
+        ensures made { Gives (may M.Manager F.SyncHook A.AsyncHook self.old.manager)
+            (moved (move.Close) self.old.pool) (result, self.new.pool) }
         ensures manager { self.new.manager ≡ self.old.manager }
     {
         if !self.core.has_handle() {
@@ -324,7 +344,8 @@ impl<M: Manager, F: SyncHook<M>, A: AsyncHook<M>, C: Drop> Trial<M, F, A, C> {
     }
 
     fn clone_handle(&mut self) -> Reply<M::Type, M::Error>
-        ensures made { Gives (may M.Manager F.SyncHook A.AsyncHook self.old.manager) (moved (move.Clone) self.old.pool) (result, self.new.pool) }
+        ensures made { Gives (may M.Manager F.SyncHook A.AsyncHook self.old.manager)
+            (moved (move.Clone) self.old.pool) (result, self.new.pool) }
         ensures manager { self.new.manager ≡ self.old.manager }
     {
         let reply = self.core.clone_handle();
@@ -332,7 +353,8 @@ impl<M: Manager, F: SyncHook<M>, A: AsyncHook<M>, C: Drop> Trial<M, F, A, C> {
     }
 
     fn drop_handle(&mut self) -> Reply<M::Type, M::Error>
-        ensures made { Gives (may M.Manager F.SyncHook A.AsyncHook self.old.manager) (moved (move.DropHandle) self.old.pool) (result, self.new.pool) }
+        ensures made { Gives (may M.Manager F.SyncHook A.AsyncHook self.old.manager)
+            (moved (move.DropHandle) self.old.pool) (result, self.new.pool) }
         ensures manager { self.new.manager ≡ self.old.manager }
     {
         let reply = self.core.drop_handle();
@@ -340,7 +362,8 @@ impl<M: Manager, F: SyncHook<M>, A: AsyncHook<M>, C: Drop> Trial<M, F, A, C> {
     }
 
     fn upgrade(&mut self) -> Reply<M::Type, M::Error>
-        ensures made { Gives (may M.Manager F.SyncHook A.AsyncHook self.old.manager) (moved (move.Upgrade) self.old.pool) (result, self.new.pool) }
+        ensures made { Gives (may M.Manager F.SyncHook A.AsyncHook self.old.manager)
+            (moved (move.Upgrade) self.old.pool) (result, self.new.pool) }
         ensures manager { self.new.manager ≡ self.old.manager }
     {
         Reply::Upgraded(self.core.upgrade())
@@ -382,7 +405,9 @@ where
     A: AsyncHook<M>,
     D: Desk<M::Type>,
     requires { (holding : Holding) → D.holds desk.old holding }
-    ensures advanced { AdvancesGet D.Desk (may M.Manager F.SyncHook A.AsyncHook environment.now.manager) environment.now.runtime environment.now.hooks now get.old desk.old get.new desk.new result }
+    ensures advanced { AdvancesGet D.Desk
+        (may M.Manager F.SyncHook A.AsyncHook environment.now.manager)
+        environment.now.runtime environment.now.hooks now get.old desk.old get.new desk.new result }
     ensures kept { Keeps cx.old cx.new }
 {
     match get {
@@ -416,7 +441,8 @@ fn after_back<M: Manager, F: SyncHook<M>, A: AsyncHook<M>>(
     reply: BackReply<Slot<M::Type>>,
 ) -> Reply<M::Type, M::Error>
     requires { IsTaken reply }
-    ensures { Gives (may M.Manager F.SyncHook A.AsyncHook environment.now.manager) (reply_to_back reply) result }
+    ensures { Gives (may M.Manager F.SyncHook A.AsyncHook environment.now.manager)
+        (reply_to_back reply) result }
 {
     match reply {
         BackReply::Kept => Reply::Kept,
@@ -436,7 +462,8 @@ fn after_take<M: Manager, F: SyncHook<M>, A: AsyncHook<M>>(
     reply: TakeReply,
 ) -> Reply<M::Type, M::Error>
     requires { reply ≢ TakeReply.Unknown }
-    ensures { Gives (may M.Manager F.SyncHook A.AsyncHook environment.now.manager) (reply_to_take slot.value reply) result }
+    ensures { Gives (may M.Manager F.SyncHook A.AsyncHook environment.now.manager)
+        (reply_to_take slot.value reply) result }
 {
     let mut value = slot.value;
     match reply {

@@ -53,7 +53,8 @@ impl<M: Manager, F: SyncHook<M>, A: AsyncHook<M>, C: Clock, R: Wait + Drop, L: L
     #[inline(always)]
     pub(crate) fn new(home: Result<Home<Shared<M, F, A, C, R, L>>, AllocError>) -> Self
         ensures home { IfOk home (λ shared. result.home ≡ Some shared) }
-        ensures refused { IfErr home (λ refusal. (result.home ≡ None) × (result.refusal ≡ Some refusal)) }
+        ensures refused { IfErr home
+            (λ refusal. (result.home ≡ None) × (result.refusal ≡ Some refusal)) }
         ensures progress { result.progress ≡ record { phase = Unpolled; slot = None } }
     {
         let (home, refusal) = match home {
@@ -78,9 +79,12 @@ impl<M: Manager, F: SyncHook<M>, A: AsyncHook<M>, C: Clock, R: Wait + Drop, L: L
         shared: &Shared<M, F, A, C, R, L>,
         cx: &mut Context<'_>,
     ) -> Poll<Result<W, PoolError<M::Error>>>
-        ensures begun { IfReady result (λ _. (is_some self.old.home || is_some self.old.refusal) ≡ true) }
-        ensures stays { OnPending result ((is_some self.new.home || is_some self.new.refusal) ≡ (is_some self.old.home || is_some self.old.refusal)) }
-        ensures gives { IfReady result (λ ended. IfOk ended (λ w. (o : _) × (M.is_ready o.slot.value × W.from_gives o w))) }
+        ensures begun { IfReady result
+            (λ _. (is_some self.old.home || is_some self.old.refusal) ≡ true) }
+        ensures stays { OnPending result ((is_some self.new.home || is_some self.new.refusal)
+            ≡ (is_some self.old.home || is_some self.old.refusal)) }
+        ensures gives { IfReady result
+            (λ ended. IfOk ended (λ w. (o : _) × (M.is_ready o.slot.value × W.from_gives o w))) }
         ensures armed { OnPending result (IsArmed cx.new) }
         ensures heard { OnPending result (Hears cx.new shared.now.lock.source.id) }
         ensures kept { Keeps cx.old cx.new }
@@ -169,10 +173,13 @@ fn poll_party<
     cx: &mut Context<'_>,
 ) -> Poll<Result<W, PoolError<M::Error>>>
     requires registered { Hears cx.old shared.now.lock.source.id }
-    requires backed { had shares.old ≡ counts_of (held_at (stage_of progress.old.phase progress.old.slot)) }
-    ensures backed { ForSome home.new (λ _. had shares.new ≡ counts_of (held_at (stage_of progress.new.phase progress.new.slot))) }
+    requires backed { had shares.old
+        ≡ counts_of (held_at (stage_of progress.old.phase progress.old.slot)) }
+    ensures backed { ForSome home.new (λ _.
+        had shares.new ≡ counts_of (held_at (stage_of progress.new.phase progress.new.slot))) }
     ensures stays { OnPending result (is_some home.new ≡ true) }
-    ensures gives { IfReady result (λ ended. IfOk ended (λ w. (o : _) × (M.is_ready o.slot.value × W.from_gives o w))) }
+    ensures gives { IfReady result
+        (λ ended. IfOk ended (λ w. (o : _) × (M.is_ready o.slot.value × W.from_gives o w))) }
     ensures kept { Keeps cx.old cx.new }
 {
     let mut seat = Seat::new(shared, shares.take(), listener);

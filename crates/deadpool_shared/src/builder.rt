@@ -62,7 +62,17 @@ impl<M: Manager, F: SyncHook<M>, A: AsyncHook<M>, C: Drop> PoolBuilder<M, F, A, 
     /// A pool of at most two objects, first in first out, with no hook, no timeout, no runtime, no object that has to
     /// stay idle, and no room in its journal. The machine is not asked how many processors it has.
     pub fn new(alloc: Global, manager: M, clock: C) -> Self
-        ensures { result ≡ record { manager = manager; hooks = no_hooks; clock = clock; max_size = 2; timeouts = no_timeouts; queue_mode = Fifo; min_idle = 0; runtime = Option.None; journal = 0 } }
+        ensures { result ≡ record {
+          manager = manager;
+          hooks = no_hooks;
+          clock = clock;
+          max_size = 2;
+          timeouts = no_timeouts;
+          queue_mode = Fifo;
+          min_idle = 0;
+          runtime = Option.None;
+          journal = 0;
+        } }
     {
         PoolBuilder {
             alloc,
@@ -94,10 +104,13 @@ impl<M: Manager, F: SyncHook<M>, A: AsyncHook<M>, C: Drop> PoolBuilder<M, F, A, 
     /// Opens the pool on one thread, with one handle; its first object gets this number. A timeout that is set, zero
     /// included, needs a runtime. Where the pool is not opened, the builder is dropped with all that it has.
     pub fn open(self, first_number: usize) -> Result<OpenPool<M, F, A, C>, BuildError>
-        ensures refused { (result ≡ Err NoRuntimeSpecified) ↔ (lacks_any_runtime self.runtime self.timeouts ≡ true) }
-        ensures core { IfOk result (λ pool. pool.core.desk ≡ new_core self.max_size self.queue_mode first_number self.min_idle) }
+        ensures refused { (result ≡ Err NoRuntimeSpecified)
+            ↔ (lacks_any_runtime self.runtime self.timeouts ≡ true) }
+        ensures core { IfOk result (λ pool.
+            pool.core.desk ≡ new_core self.max_size self.queue_mode first_number self.min_idle) }
         ensures untold { IfOk result (λ pool. pool.core.untold ≡ []) }
-        ensures environment { IfOk result (λ pool. pool.environment ≡ record { manager = self.manager; hooks = self.hooks; runtime = self.runtime }) }
+        ensures environment { IfOk result (λ pool. pool.environment
+            ≡ record { manager = self.manager; hooks = self.hooks; runtime = self.runtime }) }
         ensures timeouts { IfOk result (λ pool. pool.timeouts ≡ self.timeouts) }
         ensures clock { IfOk result (λ pool. pool.clock ≡ self.clock) }
     {
@@ -148,8 +161,10 @@ impl<M: Manager, F: SyncHook<M>, A: AsyncHook<M>, C: Drop> PoolBuilder<M, F, A, 
         M::Error: Send,
         W: From<Object<M, F, A, C, R, L>>,
         requires opens { blanks ≡ L.names }
-        ensures refused { (result ≡ Err NoRuntimeSpecified) ↔ (lacks_any_runtime self.runtime self.timeouts ≡ true) }
-        ensures environment { IfOk result (λ pool. pool.handle.environment ≡ record { manager = self.manager; hooks = self.hooks; runtime = self.runtime }) }
+        ensures refused { (result ≡ Err NoRuntimeSpecified)
+            ↔ (lacks_any_runtime self.runtime self.timeouts ≡ true) }
+        ensures environment { IfOk result (λ pool. pool.handle.environment
+            ≡ record { manager = self.manager; hooks = self.hooks; runtime = self.runtime }) }
         ensures timeouts { IfOk result (λ pool. pool.handle.timeouts ≡ self.timeouts) }
         ensures clock { IfOk result (λ pool. pool.handle.clock ≡ self.clock) }
     {
@@ -185,7 +200,12 @@ impl<M: Manager, F: SyncHook<M>, A: AsyncHook<M>, C: Drop> PoolBuilder<M, F, A, 
 
     /// Takes over a whole configuration.
     pub fn config(mut self, config: PoolConfig) -> Self
-        ensures { result ≡ record self { max_size = config.max_size; timeouts = config.timeouts; queue_mode = config.queue_mode; min_idle = config.min_idle } }
+        ensures { result ≡ record self {
+          max_size = config.max_size;
+          timeouts = config.timeouts;
+          queue_mode = config.queue_mode;
+          min_idle = config.min_idle;
+        } }
     {
         self.max_size = config.max_size;
         self.timeouts = config.timeouts;
@@ -270,7 +290,9 @@ impl<M: Manager, F: SyncHook<M>, A: AsyncHook<M>, C: Drop> PoolBuilder<M, F, A, 
     /// Adds a hook that sees new objects. Where it finds no memory, it comes back, and the builder is as before.
     pub fn post_create(mut self, hook: Hook<F, A>) -> Result<Self, (Self, Hook<F, A>)>
         requires { CanCall F.can_call hook }
-        ensures ok { IfOk result (λ b. b ≡ record self { hooks = record self.hooks { post_create = self.hooks.post_create ++ hook ∷ [] } }) }
+        ensures ok { IfOk result (λ b. b ≡ record self {
+          hooks = record self.hooks { post_create = self.hooks.post_create ++ hook ∷ [] };
+        }) }
         ensures err { IfErr result (λ back. (back.0 ≡ self) × (back.1 ≡ hook)) }
     {
         match self.hooks.add_post_create(hook) {
@@ -283,7 +305,9 @@ impl<M: Manager, F: SyncHook<M>, A: AsyncHook<M>, C: Drop> PoolBuilder<M, F, A, 
     /// builder is as before.
     pub fn pre_recycle(mut self, hook: Hook<F, A>) -> Result<Self, (Self, Hook<F, A>)>
         requires { CanCall F.can_call hook }
-        ensures ok { IfOk result (λ b. b ≡ record self { hooks = record self.hooks { pre_recycle = self.hooks.pre_recycle ++ hook ∷ [] } }) }
+        ensures ok { IfOk result (λ b. b ≡ record self {
+          hooks = record self.hooks { pre_recycle = self.hooks.pre_recycle ++ hook ∷ [] };
+        }) }
         ensures err { IfErr result (λ back. (back.0 ≡ self) × (back.1 ≡ hook)) }
     {
         match self.hooks.add_pre_recycle(hook) {
@@ -296,7 +320,9 @@ impl<M: Manager, F: SyncHook<M>, A: AsyncHook<M>, C: Drop> PoolBuilder<M, F, A, 
     /// builder is as before.
     pub fn post_recycle(mut self, hook: Hook<F, A>) -> Result<Self, (Self, Hook<F, A>)>
         requires { CanCall F.can_call hook }
-        ensures ok { IfOk result (λ b. b ≡ record self { hooks = record self.hooks { post_recycle = self.hooks.post_recycle ++ hook ∷ [] } }) }
+        ensures ok { IfOk result (λ b. b ≡ record self {
+          hooks = record self.hooks { post_recycle = self.hooks.post_recycle ++ hook ∷ [] };
+        }) }
         ensures err { IfErr result (λ back. (back.0 ≡ self) × (back.1 ≡ hook)) }
     {
         match self.hooks.add_post_recycle(hook) {

@@ -27,8 +27,10 @@ pub fn enter_in<T: Drop>(
 ) -> EnterReply<()>
     ensures noted { (whole : EnterReply (Slot T)) × (EntersNoted pool.old wait whole pool.new
         × IsParted whole result place.old place.new) }
-    ensures counts { counted pool.new ≡ shifted Holding.Nothing (held_if_entered result) (counted pool.old) }
-    ensures queued { IfSome (ticket_if_entered result) (λ ticket. (ticket ≡ pool.old.core.next_ticket) × (joins wait pool.old ≡ true)) }
+    ensures counts { counted pool.new
+        ≡ shifted Holding.Nothing (held_if_entered result) (counted pool.old) }
+    ensures queued { IfSome (ticket_if_entered result)
+        (λ ticket. (ticket ≡ pool.old.core.next_ticket) × (joins wait pool.old ≡ true)) }
 {
     pool.enter_in(wait, place)
 }
@@ -41,7 +43,8 @@ pub fn ask_in<T: Drop>(
 ) -> AskReply<()>
     ensures noted { (whole : AskReply (Slot T)) × (AsksNoted pool.old ticket expired whole pool.new
         × IsPartedAsk whole result place.old place.new) }
-    ensures counts { counted pool.new ≡ shifted Holding.Nothing (held_if_asked result) (counted pool.old) }
+    ensures counts { counted pool.new
+        ≡ shifted Holding.Nothing (held_if_asked result) (counted pool.old) }
 {
     pool.ask_in(ticket, expired, place)
 }
@@ -55,7 +58,8 @@ pub fn again_in<T: Drop>(
     ensures noted { (whole : AgainReply (Slot T)) × (AsksAgainNoted pool.old allowance whole pool.new
         × IsPartedAgain whole result place.old place.new) }
     ensures known { IsServed result }
-    ensures counts { counted pool.new ≡ shifted Holding.Place (held_if_asked_again result) (counted pool.old) }
+    ensures counts { counted pool.new
+        ≡ shifted Holding.Place (held_if_asked_again result) (counted pool.old) }
     ensures allowed { IsWithinAllowance allowance result }
 {
     pool.again_in(allowance, place)
@@ -83,7 +87,8 @@ pub fn failed<T: Drop>(pool: &mut Journaled<T>) -> StepReply
     requires { 0 < pool.old.core.desk.creations }
     ensures noted { FailsNoted pool.old result pool.new }
     ensures known { result ≡ StepReply.Done }
-    ensures counts { counted pool.new ≡ shifted Holding.Creation Holding.Nothing (counted pool.old) }
+    ensures counts { counted pool.new
+        ≡ shifted Holding.Creation Holding.Nothing (counted pool.old) }
 {
     pool.failed()
 }

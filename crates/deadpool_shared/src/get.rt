@@ -52,7 +52,8 @@ impl<M: Manager, F: SyncHook<M>, A: AsyncHook<M>, C: Clock, R: Wait + Drop, L: L
     pub(crate) fn new(pool: &Handle<Shared<M, F, A, C, R, L>>, timeouts: Option<Timeouts>) -> Self
         ensures pool { IfSome result.handle (λ shared. shared ≡ pool.now) }
         ensures home { IfSome result.asking.home (λ shared. shared ≡ pool.now) }
-        ensures begun { (IsSome result.handle × IsSome result.asking.home) ⊎ IsSome result.asking.refusal }
+        ensures begun { (IsSome result.handle × IsSome result.asking.home)
+            ⊎ IsSome result.asking.refusal }
         ensures progress { result.asking.progress ≡ record { phase = Unpolled; slot = None } }
         ensures timeouts { result.timeouts ≡ timeouts }
     {

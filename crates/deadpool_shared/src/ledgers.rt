@@ -78,8 +78,10 @@ impl Blanks {
 
     // Each of the three.
     pub(crate) fn into_parts(self) -> (Blank, Blank, Blank)
-        ensures names { (result.0.name ≡ self.going) × (result.1.name ≡ self.creations) × (result.2.name ≡ self.outside) }
-        ensures parts { (result.0.parts ≡ 2 ^ 64 - 1) × (result.1.parts ≡ 2 ^ 64 - 1) × (result.2.parts ≡ 2 ^ 64 - 1) }
+        ensures names { (result.0.name ≡ self.going)
+            × (result.1.name ≡ self.creations) × (result.2.name ≡ self.outside) }
+        ensures parts { (result.0.parts ≡ 2 ^ 64 - 1)
+            × (result.1.parts ≡ 2 ^ 64 - 1) × (result.2.parts ≡ 2 ^ 64 - 1) }
     {
         let Blanks {
             going,

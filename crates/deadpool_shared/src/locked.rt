@@ -76,7 +76,8 @@ impl<T: Drop, L: Ledgers> Locked<T, L> {
         requires { shares.old ≡ counts_of Holding.Nothing }
         ensures holds { shares.new ≡ counts_of (held_if_entered result) }
         ensures entered { (whole : EnterReply (Slot T))
-            × (EntersLocked self.old.pool self.old.wakers wait waker.old whole self.new.pool self.new.wakers waker.new
+            × (EntersLocked self.old.pool self.old.wakers wait waker.old whole
+            self.new.pool self.new.wakers waker.new
             × IsParted whole result place.old place.new) }
     {
         let Locked { pool, books, .. } = self;
@@ -101,7 +102,8 @@ impl<T: Drop, L: Ledgers> Locked<T, L> {
         requires joins { joins true self.old.pool ≡ true }
         ensures holds { shares.new ≡ counts_of (held_if_entered result) }
         ensures entered { (whole : EnterReply (Slot T))
-            × (EntersLocked self.old.pool self.old.wakers true waker.old whole self.new.pool self.new.wakers waker.new
+            × (EntersLocked self.old.pool self.old.wakers true waker.old whole
+            self.new.pool self.new.wakers waker.new
             × IsParted whole result place.old place.new) }
     {
         let Locked {
@@ -135,7 +137,8 @@ impl<T: Drop, L: Ledgers> Locked<T, L> {
         ensures asked { (whole : AskReply (Slot T))
             × (AsksNoted self.old.pool ticket expired whole self.new.pool
             × IsPartedAsk whole result place.old place.new) }
-        ensures wakers { Follows (Some ticket) (ticket_if_asked ticket result) self.old.wakers waker.old spare.new self.new.wakers waker.new }
+        ensures wakers { Follows (Some ticket) (ticket_if_asked ticket result)
+            self.old.wakers waker.old spare.new self.new.wakers waker.new }
     {
         let Locked {
             pool,
@@ -273,7 +276,8 @@ impl<T: Drop, L: Ledgers> Locked<T, L> {
         ensures holds { shares.new ≡ counts_of Holding.Nothing }
         ensures known { HasShare held → result ≡ StepReply.Done }
         ensures cancelled { CancelsNoted self.old.pool held result self.new.pool }
-        ensures wakers { Follows (ticket_of held) None self.old.wakers None spare.new self.new.wakers None }
+        ensures wakers { Follows (ticket_of held)
+            None self.old.wakers None spare.new self.new.wakers None }
     {
         let Locked {
             pool,
@@ -310,7 +314,8 @@ impl<T: Drop, L: Ledgers> Locked<T, L> {
     ) -> Result<RetainResult<T>, AllocError>
         requires { R.can_call retainer.old }
         ensures can_call { R.can_call retainer.new }
-        ensures retained { RetainsNoted R.Retainer self.old.pool retainer.old result self.new.pool retainer.new }
+        ensures retained { RetainsNoted R.Retainer
+            self.old.pool retainer.old result self.new.pool retainer.new }
         ensures wakers { self.new.wakers ≡ self.old.wakers }
     {
         let Locked { pool, .. } = self;
@@ -385,7 +390,8 @@ impl<T: Drop, L: Ledgers> Wakes for Locked<T, L> {
 // Keeps the waker of a get that is queued by this reply. There is a place for it.
 fn keep_waker(wakers: &mut Wakers, reply: &EnterReply<()>, waker: &mut Option<Waker>)
     requires { IfSome (ticket_if_entered reply.now) (λ ticket. ticket < length wakers.old) }
-    ensures { Follows None (ticket_if_entered reply.now) wakers.old waker.old None wakers.new waker.new }
+    ensures { Follows None
+        (ticket_if_entered reply.now) wakers.old waker.old None wakers.new waker.new }
 {
     if let EnterReply::Waiting(ticket) = reply {
         wakers.exchange(*ticket, waker);

@@ -73,7 +73,8 @@ impl<M: Manager, F: SyncHook<M>, A: AsyncHook<M>, C: Clock, R: Wait + Drop, L: L
     /// Takes the value out of the pool for good: the pool has one object less. The manager is told of it first, if the
     /// pool has a handle left.
     pub fn take(this: Self) -> M::Type
-        ensures { LeavesOrKeeps (M.may_detach this.out.home.environment.manager) this.slot.value result }
+        ensures { LeavesOrKeeps (M.may_detach this.out.home.environment.manager)
+            this.slot.value result }
     {
         let Self { out, slot } = this;
         let OutStake { home, shares } = out;
@@ -145,7 +146,10 @@ impl<M: Manager, F: SyncHook<M>, A: AsyncHook<M>, C: Clock, R: Wait + Drop, L: L
     ghost deref_mut_gives = { λ o x. x ≡ o.slot.value };
 
     fn deref_mut(&mut self) -> &mut M::Type
-        ensures* writes_back { sem 𝓛 (Lends (the_row M.row F.row A.row C.row R.row L.row M.Type.row M.Error.row M.Creating.row M.Recycling.row A.State.row C.Alarm.row M.Manager F.SyncHook A.AsyncHook L.Ledgers) M.Type.row self.entry result (λ w. record self.old { slot = record self.old.slot { value = w } })) }
+        ensures* writes_back { sem 𝓛 (Lends (the_row M.row F.row A.row
+            C.row R.row L.row M.Type.row M.Error.row M.Creating.row M.Recycling.row A.State.row
+            C.Alarm.row M.Manager F.SyncHook A.AsyncHook L.Ledgers) M.Type.row self.entry result
+            (λ w. record self.old { slot = record self.old.slot { value = w } })) }
         ensures shows { result.now ≡ self.old.slot.value }
     {
         let slot = &mut self.slot;

@@ -112,7 +112,8 @@ impl<M: Manager, F: SyncHook<M>, A: AsyncHook<M>, C: Clock, R: Wait + Drop, L: L
     pub fn get(&self) -> Get<M, F, A, C, R, L, W>
         ensures pool { IfSome result.handle (λ shared. shared ≡ self.now.handle) }
         ensures home { IfSome result.asking.home (λ shared. shared ≡ self.now.handle) }
-        ensures begun { (IsSome result.handle × IsSome result.asking.home) ⊎ IsSome result.asking.refusal }
+        ensures begun { (IsSome result.handle × IsSome result.asking.home)
+            ⊎ IsSome result.asking.refusal }
         ensures progress { result.asking.progress ≡ record { phase = Unpolled; slot = None } }
         ensures timeouts { result.timeouts ≡ None }
     {
@@ -123,7 +124,8 @@ impl<M: Manager, F: SyncHook<M>, A: AsyncHook<M>, C: Clock, R: Wait + Drop, L: L
     pub fn timeout_get(&self, timeouts: &Timeouts) -> Get<M, F, A, C, R, L, W>
         ensures pool { IfSome result.handle (λ shared. shared ≡ self.now.handle) }
         ensures home { IfSome result.asking.home (λ shared. shared ≡ self.now.handle) }
-        ensures begun { (IsSome result.handle × IsSome result.asking.home) ⊎ IsSome result.asking.refusal }
+        ensures begun { (IsSome result.handle × IsSome result.asking.home)
+            ⊎ IsSome result.asking.refusal }
         ensures progress { result.asking.progress ≡ record { phase = Unpolled; slot = None } }
         ensures timeouts { result.timeouts ≡ Some timeouts.now }
     {

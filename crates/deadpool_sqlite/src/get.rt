@@ -37,7 +37,8 @@ pub fn poll_connection<B: Source, C: Clock, R: Wait + Drop, L: Ledgers>(
     get: &mut GetConnection<B, C, R, L>,
     cx: &mut Context<'_>,
 ) -> Poll<Result<PooledConnection<B, C, R, L>, PoolError<Error>>>
-    ensures settled { IfReadyOk result (λ object. IsSettled (state B.Storage.Store object.slot.value)) }
+    ensures settled { IfReadyOk result
+        (λ object. IsSettled (state B.Storage.Store object.slot.value)) }
     ensures armed { OnPending result (IsArmed cx.new) }
     ensures kept { Keeps cx.old cx.new }
 {

@@ -27,11 +27,17 @@ pub(crate) enum Refusal {
 
 // Rolls back what is open.
 pub(crate) fn roll_back<S: Alter>(conn: &mut Connection<S>) -> Result<(), Error>
-    ensures same { (state S.Store conn.old).in_transaction ≡ false → (result ≡ Ok tt) × (conn.new ≡ conn.old) }
-    ensures clean { doubt (state S.Store conn.old).is_clean ≤ doubt (state S.Store conn.new).is_clean }
-    ensures kept { HasCleanDisk (state S.Store conn.new) → KeepsCommit (state S.Store conn.old) (state S.Store conn.new) }
-    ensures ended { HasCleanDisk (state S.Store conn.new) → OnOk result ((state S.Store conn.new).in_transaction ≡ false) }
-    ensures failed { IfErr result (λ cause. HasCleanDisk (state S.Store conn.new) → Executes (codes "ROLLBACK") [] (state S.Store conn.old) (state S.Store conn.new) (Err cause)) }
+    ensures same { (state S.Store conn.old).in_transaction ≡ false
+        → (result ≡ Ok tt) × (conn.new ≡ conn.old) }
+    ensures clean { doubt (state S.Store conn.old).is_clean
+        ≤ doubt (state S.Store conn.new).is_clean }
+    ensures kept { HasCleanDisk (state S.Store conn.new)
+        → KeepsCommit (state S.Store conn.old) (state S.Store conn.new) }
+    ensures ended { HasCleanDisk (state S.Store conn.new)
+        → OnOk result ((state S.Store conn.new).in_transaction ≡ false) }
+    ensures failed { IfErr result
+        (λ cause. HasCleanDisk (state S.Store conn.new) → Executes (codes "ROLLBACK") []
+        (state S.Store conn.old) (state S.Store conn.new) (Err cause)) }
 {
     if conn.is_autocommit() {
         return Ok(());
@@ -46,11 +52,17 @@ pub(crate) fn verify<S: Alter>(
     method: RecyclingMethod,
 ) -> Result<(), Error>
     ensures fast { method ≡ RecyclingMethod.Fast → (result ≡ Ok tt) × (conn.new ≡ conn.old) }
-    ensures clean { doubt (state S.Store conn.old).is_clean ≤ doubt (state S.Store conn.new).is_clean }
-    ensures mode { (state S.Store conn.old).in_transaction ≡ false → (state S.Store conn.new).in_transaction ≡ false }
-    ensures kept { HasCleanDisk (state S.Store conn.new) → KeepsCommit (state S.Store conn.old) (state S.Store conn.new) }
-    ensures open { method ≡ RecyclingMethod.Verified → HasCleanDisk (state S.Store conn.new) → OnOk result (IsTrue (state S.Store conn.new).is_open) }
-    ensures failed { IfErr result (λ cause. HasCleanDisk (state S.Store conn.new) → QueriesRow (codes "SELECT 1") [] (state S.Store conn.old) (state S.Store conn.new) (Err cause)) }
+    ensures clean { doubt (state S.Store conn.old).is_clean
+        ≤ doubt (state S.Store conn.new).is_clean }
+    ensures mode { (state S.Store conn.old).in_transaction ≡ false
+        → (state S.Store conn.new).in_transaction ≡ false }
+    ensures kept { HasCleanDisk (state S.Store conn.new)
+        → KeepsCommit (state S.Store conn.old) (state S.Store conn.new) }
+    ensures open { method ≡ RecyclingMethod.Verified → HasCleanDisk (state S.Store conn.new)
+        → OnOk result (IsTrue (state S.Store conn.new).is_open) }
+    ensures failed { IfErr result
+        (λ cause. HasCleanDisk (state S.Store conn.new) → QueriesRow (codes "SELECT 1") []
+        (state S.Store conn.old) (state S.Store conn.new) (Err cause)) }
 {
     if method == RecyclingMethod::Verified {
         conn.query_row("SELECT 1", &[])?;
@@ -64,7 +76,8 @@ pub(crate) fn reuse<S: Alter>(
     method: RecyclingMethod,
 ) -> Result<(), Refusal>
     ensures settled { OnOk result (IsSettled (state S.Store conn.new)) }
-    ensures kept { HasCleanDisk (state S.Store conn.new) → KeepsCommit (state S.Store conn.old) (state S.Store conn.new) }
+    ensures kept { HasCleanDisk (state S.Store conn.new)
+        → KeepsCommit (state S.Store conn.old) (state S.Store conn.new) }
     ensures accepted { OnOk result (Accepts S.Store method conn.old conn.new) }
     ensures refused { IfErr result (λ refusal. Refuses S.Store method refusal conn.old conn.new) }
 {

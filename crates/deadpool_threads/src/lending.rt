@@ -26,7 +26,8 @@ where
     U: PoolUser<M, F, A, C, R>,
     M::Type: Send,
     M::Error: Send,
-    ensures refused { (result ≡ Err NoRuntimeSpecified) ↔ (lacks_any_runtime builder.runtime builder.timeouts ≡ true) }
+    ensures refused { (result ≡ Err NoRuntimeSpecified)
+        ↔ (lacks_any_runtime builder.runtime builder.timeouts ≡ true) }
 {
     lend_by::<M, F, A, C, R, U, Brand>(builder, rt, user, Blanks::new())
 }
@@ -49,7 +50,8 @@ where
     M::Type: Send,
     M::Error: Send,
     requires opens { blanks ≡ L.names }
-    ensures refused { (result ≡ Err NoRuntimeSpecified) ↔ (lacks_any_runtime builder.runtime builder.timeouts ≡ true) }
+    ensures refused { (result ≡ Err NoRuntimeSpecified)
+        ↔ (lacks_any_runtime builder.runtime builder.timeouts ≡ true) }
 {
     let pool: Pool<M, F, A, C, R, L> = builder.build(blanks, rt)?;
     Ok(user.run(&rt, &pool))

@@ -36,7 +36,8 @@ where
     M::Recycling: Send + 'static,
     A::State: Send + 'static,
     C::Alarm: Send + 'static,
-    ensures refused { (result ≡ Err NoRuntimeSpecified) ↔ (lacks_any_runtime builder.runtime builder.timeouts ≡ true) }
+    ensures refused { (result ≡ Err NoRuntimeSpecified)
+        ↔ (lacks_any_runtime builder.runtime builder.timeouts ≡ true) }
     ensures each { IfOk result (λ outputs. vec_len outputs.0 ≡ vec_len workers) }
 {
     lend_among_by::<M, F, A, C, R, W, U, Brand>(builder, rt, workers, last, Blanks::new())
@@ -67,7 +68,8 @@ where
     A::State: Send + 'static,
     C::Alarm: Send + 'static,
     requires opens { blanks ≡ L.names }
-    ensures refused { (result ≡ Err NoRuntimeSpecified) ↔ (lacks_any_runtime builder.runtime builder.timeouts ≡ true) }
+    ensures refused { (result ≡ Err NoRuntimeSpecified)
+        ↔ (lacks_any_runtime builder.runtime builder.timeouts ≡ true) }
     ensures each { IfOk result (λ outputs. vec_len outputs.0 ≡ vec_len workers) }
 {
     let pool: Pool<M, F, A, C, R, L> = builder.build(blanks, rt)?;

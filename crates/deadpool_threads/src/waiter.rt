@@ -58,7 +58,8 @@ impl Waiter {
         R: Wait + Drop,
         L: Ledgers,
         W: From<Object<M, F, A, C, R, L>>,
-        ensures ready { IfOk result (λ given. (object : _) × (M.is_ready object.slot.value × W.from_gives object given)) }
+        ensures ready { IfOk result
+            (λ given. (object : _) × (M.is_ready object.slot.value × W.from_gives object given)) }
     {
         match self.wait(rt, pool.get_ref()) {
             Ok(ended) => ended,

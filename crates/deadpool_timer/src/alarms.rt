@@ -50,7 +50,8 @@ impl Alarms {
     pub fn set(&mut self, at: Moment, waker: Waker) -> Result<Place, Waker>
         ensures moment { IfOk result (λ place. place.0 ≡ at.0) }
         ensures was_free { IfOk result (λ place. get place_cmp self.old.wakers place ≡ None) }
-        ensures put { IfOk result (λ place. Updates place_cmp self.old.wakers self.new.wakers place (Some waker)) }
+        ensures put { IfOk result
+            (λ place. Updates place_cmp self.old.wakers self.new.wakers place (Some waker)) }
         ensures refused { IfErr result (λ back. back ≡ waker) }
         ensures unchanged { OnErr result (IsUnchanged self.old.wakers self.new.wakers) }
     {
@@ -87,7 +88,8 @@ impl Alarms {
 
     /// What the thread does next at this moment. Once the timer was stopped, all that are set ring, one after the other.
     pub fn next(&mut self, now: Moment) -> Next
-        ensures { Tells self.old.is_stopped self.old.wakers.entries self.new.wakers.entries now.0 result }
+        ensures { Tells self.old.is_stopped
+            self.old.wakers.entries self.new.wakers.entries now.0 result }
     {
         if !self.is_stopped {
             let Some(at) = self.first() else {

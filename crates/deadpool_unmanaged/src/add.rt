@@ -102,7 +102,8 @@ impl<T: Drop> AddState<T> {
     pub fn poll(&mut self, core: &mut Core<T>) -> Poll<Result<(), (T, PoolError)>>
         ensures polls { PollsAdd self.old core.old.pool result self.new core.new.pool }
         ensures memory { IsWithoutMemory result → IsFull core.old.adds_room core.old.pool.adds }
-        ensures number { ticket_of self.old ≡ None → IfSome (ticket_of self.new) (λ ticket. ticket ≡ core.old.next_add) }
+        ensures number { ticket_of self.old ≡ None
+            → IfSome (ticket_of self.new) (λ ticket. ticket ≡ core.old.next_add) }
     {
         match mem::replace(&mut self.stage, AddStage::Finished) {
             AddStage::Unpolled(value) => {

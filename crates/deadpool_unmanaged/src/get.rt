@@ -119,8 +119,10 @@ impl GetState {
         now: Moment,
     ) -> Poll<Result<T, PoolError>>
         ensures polls { PollsGet runtime now self.old core.old.pool result self.new core.new.pool }
-        ensures memory { result ≡ Poll.Ready (Err PoolError.OutOfMemory) → IsFull core.old.gets_room core.old.pool.gets }
-        ensures number { ticket_of self.old ≡ None → IfSome (ticket_of self.new) (λ ticket. ticket ≡ core.old.next_get) }
+        ensures memory { result ≡ Poll.Ready (Err PoolError.OutOfMemory)
+            → IsFull core.old.gets_room core.old.pool.gets }
+        ensures number { ticket_of self.old ≡ None
+            → IfSome (ticket_of self.new) (λ ticket. ticket ≡ core.old.next_get) }
     {
         match mem::replace(&mut self.stage, GetStage::Finished) {
             GetStage::Unpolled(wait) => {

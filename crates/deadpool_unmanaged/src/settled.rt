@@ -170,8 +170,10 @@ impl<T: Drop> Core<T> {
     /// if the queue had no room left.
     pub fn get_enter(&mut self, wait: bool) -> GetEnterReply<T>
         ensures enters { GetEnters self.old.pool wait result self.new.pool }
-        ensures memory { result ≡ GetEnterReply.OutOfMemory → IsFull self.old.gets_room self.old.pool.gets }
-        ensures number { (ticket : ℕ) → result ≡ GetEnterReply.Waiting ticket → ticket ≡ self.old.next_get }
+        ensures memory { result ≡ GetEnterReply.OutOfMemory
+            → IsFull self.old.gets_room self.old.pool.gets }
+        ensures number { (ticket : ℕ)
+            → result ≡ GetEnterReply.Waiting ticket → ticket ≡ self.old.next_get }
     {
         self.state.get_enter(wait)
     }
@@ -194,8 +196,10 @@ impl<T: Drop> Core<T> {
     /// caller until it is stored. `OutOfMemory` comes only if the queue had no room left.
     pub fn add_enter(&mut self, value: T, wait: bool) -> AddEnterReply<T>
         ensures enters { AddEnters self.old.pool value wait result self.new.pool }
-        ensures memory { result ≡ AddEnterReply.OutOfMemory value → IsFull self.old.adds_room self.old.pool.adds }
-        ensures number { (ticket : ℕ) → result ≡ AddEnterReply.Waiting ticket value → ticket ≡ self.old.next_add }
+        ensures memory { result ≡ AddEnterReply.OutOfMemory value
+            → IsFull self.old.adds_room self.old.pool.adds }
+        ensures number { (ticket : ℕ)
+            → result ≡ AddEnterReply.Waiting ticket value → ticket ≡ self.old.next_add }
     {
         self.state.add_enter(value, wait)
     }

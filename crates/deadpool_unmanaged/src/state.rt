@@ -200,8 +200,10 @@ impl<T: Drop> PoolState<T> {
     /// A new get has an object, joins its queue, or is refused.
     pub fn get_enter(&mut self, wait: bool) -> GetEnterReply<T>
         ensures enters { GetEnters self.old.pool wait result self.new.pool }
-        ensures memory { result ≡ GetEnterReply.OutOfMemory → IsFull self.old.gets_room self.old.pool.gets }
-        ensures number { (ticket : ℕ) → result ≡ GetEnterReply.Waiting ticket → ticket ≡ self.old.next_get }
+        ensures memory { result ≡ GetEnterReply.OutOfMemory
+            → IsFull self.old.gets_room self.old.pool.gets }
+        ensures number { (ticket : ℕ)
+            → result ≡ GetEnterReply.Waiting ticket → ticket ≡ self.old.next_get }
     {
         let objects = self.free_objects();
         match self.gets.enter(objects, wait) {
@@ -261,8 +263,10 @@ impl<T: Drop> PoolState<T> {
     /// A new add leaves its object, joins its queue, or has the object back.
     pub fn add_enter(&mut self, value: T, wait: bool) -> AddEnterReply<T>
         ensures enters { AddEnters self.old.pool value wait result self.new.pool }
-        ensures memory { result ≡ AddEnterReply.OutOfMemory value → IsFull self.old.adds_room self.old.pool.adds }
-        ensures number { (ticket : ℕ) → result ≡ AddEnterReply.Waiting ticket value → ticket ≡ self.old.next_add }
+        ensures memory { result ≡ AddEnterReply.OutOfMemory value
+            → IsFull self.old.adds_room self.old.pool.adds }
+        ensures number { (ticket : ℕ)
+            → result ≡ AddEnterReply.Waiting ticket value → ticket ≡ self.old.next_add }
     {
         let room = self.free_room();
         match self.adds.enter(room, wait) {

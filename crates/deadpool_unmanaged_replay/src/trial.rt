@@ -106,7 +106,8 @@ impl<T: Drop> Trial<T> {
 
     /// What value an object has, if it is out.
     pub fn value(&self, number: usize) -> Option<&T>
-        ensures { option_map (λ v. v.now) result ≡ option_map (λ s. s.value) (find_item number self.now.out) }
+        ensures { option_map (λ v. v.now) result
+            ≡ option_map (λ s. s.value) (find_item number self.now.out) }
     {
         self.out
             .iter()
@@ -120,7 +121,8 @@ impl<T: Drop> Trial<T> {
         ensures run { MatchResult result
             (λ replies. (passed : List (List (Pool T)))
             × PoolRuns self.old moves.items passed replies.items self.new
-            × Each NobodyWaits (all_states self.old passed) × Each IsWithinLimit (all_states self.old passed))
+            × Each NobodyWaits (all_states self.old passed)
+            × Each IsWithinLimit (all_states self.old passed))
             (λ refused. (refused ≡ moves) × (self.new ≡ self.old)) }
     {
         let Ok(mut replies) = Vec::with_capacity(self.alloc, moves.len()) else {
@@ -315,7 +317,8 @@ impl<T: Drop> Trial<T> {
 // Gives an object that is handed in the next number, or the value back if no number is left.
 fn draw<T: Drop>(next: &mut usize, value: T) -> Result<Item<T>, T>
     ensures { MatchResult result
-        (λ item. (next.old ≢ largest_usize) × (item ≡ record { number = next.old; value = value }) × (next.new ≡ next.old + 1))
+        (λ item. (next.old ≢ largest_usize) × (item ≡ record { number = next.old; value = value })
+        × (next.new ≡ next.old + 1))
         (λ given. (next.old ≡ largest_usize) × (given ≡ value) × (next.new ≡ next.old)) }
 {
     if *next == usize::MAX {
@@ -348,7 +351,8 @@ fn poll_get<T: Drop>(
     runtime: Option<Runtime>,
     now: Moment,
 ) -> Turn<T>
-    ensures { PolledGet runtime now state.old core.old.pool (Option.Some result) (Option.Some (visitor.Get state.new)) core.new.pool }
+    ensures { PolledGet runtime now state.old core.old.pool
+        (Option.Some result) (Option.Some (visitor.Get state.new)) core.new.pool }
 {
     match state.poll(core, runtime, now) {
         Poll::Pending => Turn::Pending,
@@ -359,7 +363,8 @@ fn poll_get<T: Drop>(
 
 // An add that has ended has no object and is not polled any more.
 fn poll_add<T: Drop>(state: &mut AddState<Item<T>>, core: &mut Core<Item<T>>) -> Turn<T>
-    ensures { PolledAdd state.old core.old.pool (Option.Some result) (Option.Some (visitor.Add state.new)) core.new.pool }
+    ensures { PolledAdd state.old core.old.pool
+        (Option.Some result) (Option.Some (visitor.Add state.new)) core.new.pool }
 {
     let Some(item) = state.value() else {
         return Turn::Pending;

@@ -151,7 +151,8 @@ impl<T: Drop> Adding<T> {
         shared: &Shared<T, C, R>,
         listener: &mut Listener,
     ) -> Result<Self, Result<(), (T, PoolError)>>
-        ensures { IfErr result (λ added. IfErr added (λ refused. held_by self.state ≡ Some refused.0)) }
+        ensures { IfErr result
+            (λ added. IfErr added (λ refused. held_by self.state ≡ Some refused.0)) }
     {
         let Adding { mut state } = self;
         let mut step = shared.lock.begin();

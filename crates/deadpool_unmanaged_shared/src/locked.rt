@@ -46,8 +46,10 @@ impl<T: Drop> Locked<T> {
         now: Moment,
         waker: &mut Option<Waker>,
     ) -> (Poll<Result<T, PoolError>>, Option<Waker>)
-        ensures polls { PollsGet runtime now state.old self.old.core.pool result.0 state.new self.new.core.pool }
-        ensures waits { IfSome (gets.ticket_of state.new) (λ ticket. (waker_at ticket self.new.gets ≡ waker.old) ⊎ (result.1 ≡ waker.old)) }
+        ensures polls { PollsGet runtime
+            now state.old self.old.core.pool result.0 state.new self.new.core.pool }
+        ensures waits { IfSome (gets.ticket_of state.new)
+            (λ ticket. (waker_at ticket self.new.gets ≡ waker.old) ⊎ (result.1 ≡ waker.old)) }
         ensures others { self.new.adds ≡ self.old.adds }
     {
         let Locked { core, gets, .. } = self;
@@ -64,7 +66,8 @@ impl<T: Drop> Locked<T> {
     /// A get is given up. The answer is the waker that was kept for it.
     pub fn cancel_get(&mut self, state: GetState) -> Option<Waker>
         ensures cancels { gets.CancelsGet state self.old.core.pool self.new.core.pool }
-        ensures waker { Follows (gets.ticket_of state) None self.old.gets None result self.new.gets None }
+        ensures waker { Follows (gets.ticket_of state)
+            None self.old.gets None result self.new.gets None }
         ensures others { self.new.adds ≡ self.old.adds }
     {
         let Locked { core, gets, .. } = self;
@@ -81,8 +84,10 @@ impl<T: Drop> Locked<T> {
         state: &mut AddState<T>,
         waker: &mut Option<Waker>,
     ) -> (Poll<Result<(), (T, PoolError)>>, Option<Waker>)
-        ensures polls { PollsAdd state.old self.old.core.pool result.0 state.new self.new.core.pool }
-        ensures waits { IfSome (adds.ticket_of state.new) (λ ticket. (waker_at ticket self.new.adds ≡ waker.old) ⊎ (result.1 ≡ waker.old)) }
+        ensures polls { PollsAdd state.old
+            self.old.core.pool result.0 state.new self.new.core.pool }
+        ensures waits { IfSome (adds.ticket_of state.new)
+            (λ ticket. (waker_at ticket self.new.adds ≡ waker.old) ⊎ (result.1 ≡ waker.old)) }
         ensures others { self.new.gets ≡ self.old.gets }
     {
         let Locked { core, adds, .. } = self;
@@ -102,7 +107,8 @@ impl<T: Drop> Locked<T> {
     pub fn cancel_add(&mut self, state: AddState<T>) -> (Option<T>, Option<Waker>)
         ensures cancels { adds.CancelsAdd state self.old.core.pool self.new.core.pool }
         ensures value { result.0 ≡ adds.held_by state }
-        ensures waker { Follows (adds.ticket_of state) None self.old.adds None result.1 self.new.adds None }
+        ensures waker { Follows (adds.ticket_of state)
+            None self.old.adds None result.1 self.new.adds None }
         ensures others { self.new.gets ≡ self.old.gets }
     {
         let Locked { core, adds, .. } = self;

@@ -49,7 +49,8 @@ impl<T: Drop, C: Clock, R: Wait + Drop> DerefMut for Object<T, C, R> {
     ghost deref_mut_gives = { λ o x. x ≡ o.value };
 
     fn deref_mut(&mut self) -> &mut T
-        ensures* writes_back { sem 𝓛 (Lends (the_row T.row C.row R.row C.Alarm.row) T.row self.entry result (λ w. record self.old { value = w })) }
+        ensures* writes_back { sem 𝓛 (Lends (the_row T.row C.row R.row C.Alarm.row)
+            T.row self.entry result (λ w. record self.old { value = w })) }
         ensures shows { result.now ≡ self.old.value }
     {
         &mut self.value

@@ -105,7 +105,8 @@ impl<T: Drop + Send, C: Clock + Send + Sync, R: Wait + Drop + Send + Sync> Pool<
 impl<T: Drop, C: Clock, R: Wait + Drop> Pool<T, C, R> {
     /// A get that waits as long as the configuration says.
     pub fn get(&self) -> Get<T, C, R>
-        ensures asks { IfSome result.request (λ get. get.state ≡ GetStage.Unpolled self.now.inner.timeout) }
+        ensures asks { IfSome result.request
+            (λ get. get.state ≡ GetStage.Unpolled self.now.inner.timeout) }
         ensures begun { IsSome result.request ⊎ IsSome result.refusal }
         ensures handle { IfSome result.handle (λ shared. shared ≡ self.now.inner) }
     {
@@ -127,7 +128,8 @@ impl<T: Drop, C: Clock, R: Wait + Drop> Pool<T, C, R> {
 
     /// A get that waits as long as the configuration says, and borrows this handle.
     pub fn get_ref(&self) -> GetRef<'_, T, C, R>
-        ensures asks { IfSome result.request (λ get. get.state ≡ GetStage.Unpolled self.now.inner.timeout) }
+        ensures asks { IfSome result.request
+            (λ get. get.state ≡ GetStage.Unpolled self.now.inner.timeout) }
         ensures begun { IsSome result.request ⊎ IsSome result.refusal }
         ensures handle { result.handle.now ≡ self.now.inner }
     {
@@ -189,7 +191,8 @@ impl<T: Drop, C: Clock, R: Wait + Drop> Pool<T, C, R> {
 
     /// A get whose object leaves the pool for good.
     pub fn remove(&self) -> Remove<T, C, R>
-        ensures asks { IfSome result.request (λ removal. removal.get.state ≡ GetStage.Unpolled self.now.inner.timeout) }
+        ensures asks { IfSome result.request
+            (λ removal. removal.get.state ≡ GetStage.Unpolled self.now.inner.timeout) }
         ensures begun { IsSome result.request ⊎ IsSome result.refusal }
         ensures handle { IfSome result.handle (λ shared. shared ≡ self.now.inner) }
     {
@@ -198,7 +201,8 @@ impl<T: Drop, C: Clock, R: Wait + Drop> Pool<T, C, R> {
 
     /// A get with a timeout of its own, whose object leaves the pool for good.
     pub fn timeout_remove(&self, timeout: Option<Duration>) -> Remove<T, C, R>
-        ensures asks { IfSome result.request (λ removal. removal.get.state ≡ GetStage.Unpolled timeout) }
+        ensures asks { IfSome result.request
+            (λ removal. removal.get.state ≡ GetStage.Unpolled timeout) }
         ensures begun { IsSome result.request ⊎ IsSome result.refusal }
         ensures handle { IfSome result.handle (λ shared. shared ≡ self.now.inner) }
     {
