@@ -21,7 +21,7 @@ pub use engine::play;
 pub use expecting::{expect_crowd, expect_over, expect_script, find_mismatch};
 pub use fault::Fault;
 pub use lines::{read_line, without_line_feed, write_out};
-pub use manager::{Answer, Answers, Kind, Refused, ScriptHook, ScriptManager};
+pub use manager::{Answer, Answers, HasAnswers, Kind, Refused, ScriptHook, ScriptManager};
 pub use mismatch::Mismatch;
 pub use script::{
     LineError, ManagedLine, ManagedPool, PoolLine, Settings, UnmanagedPool, parse_managed,
