@@ -54,10 +54,7 @@ impl Runtime {
 
 impl fmt::Debug for Runtime {
     fn fmt(&self, f: &mut fmt::Formatter<'_>) -> fmt::Result {
-        f.write_str(match self {
-            Runtime::Thread => "Thread",
-            Runtime::Timers(_) => "Timers",
-        })
+        f.write_str(if matches!(self, Runtime::Thread) { "Thread" } else { "Timers" })
     }
 }
 
