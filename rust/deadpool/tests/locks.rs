@@ -2,17 +2,17 @@
 mod common;
 
 use common::{Numbers, block_on, is_answered};
-use deadpool::Runtime;
 use deadpool::managed::{
     Hook, HookError, Manager, Metrics, Object, Pool, RecycleError, RecycleResult, Timeouts, WeakPool,
 };
 use deadpool::unmanaged;
+use deadpool::{Runtime, Sleep, Timers};
 use std::convert::Infallible;
-use std::future::Future;
+use std::future::{Future, poll_fn};
 use std::pin::pin;
-use std::sync::atomic::{AtomicUsize, Ordering};
+use std::sync::atomic::{AtomicBool, AtomicUsize, Ordering};
 use std::sync::{Arc, Mutex, OnceLock};
-use std::task::{Context, Wake, Waker};
+use std::task::{Context, Poll, Wake, Waker};
 use std::time::Duration;
 
 /// Asks the pool how it stands when it is woken, which takes the lock.
@@ -185,22 +185,32 @@ fn all_wakers_of_a_step_may_call_the_pool() {
     }
 }
 
+static IS_LATE: AtomicBool = AtomicBool::new(false);
+
+/// Timers whose time has passed once the test says so.
+struct ByHand;
+
+impl Timers for ByHand {
+    fn sleep(&self, _: Duration) -> Sleep {
+        Box::pin(poll_fn(|_| if IS_LATE.load(Ordering::SeqCst) { Poll::Ready(()) } else { Poll::Pending }))
+    }
+}
+
 #[test]
 fn the_waker_of_a_wait_that_is_late_is_dropped_without_the_lock() {
-    let pool: Pool<Numbers> =
-        Pool::builder(Numbers::default()).max_size(0).runtime(Runtime::Thread).build().expect("a pool");
+    let builder = Pool::builder(Numbers::default()).max_size(0).runtime(Runtime::Timers(&ByHand));
+    let pool: Pool<Numbers> = builder.build().expect("a pool");
     let answered = Arc::new(AtomicUsize::new(0));
     let waker = Waker::from(Arc::new(Parting { pool: pool.weak(), answered: answered.clone() }));
-    let mut get = Box::pin(pool.timeout_get(&SOON));
+    let timeouts = Timeouts::wait_millis(1);
+    let mut get = Box::pin(pool.timeout_get(&timeouts));
     assert!(get.as_mut().poll(&mut Context::from_waker(&waker)).is_pending());
     drop(waker);
-    std::thread::sleep(Duration::from_millis(20));
     assert_eq!(answered.load(Ordering::SeqCst), 0);
+    IS_LATE.store(true, Ordering::SeqCst);
     assert!(get.as_mut().poll(&mut Context::from_waker(Waker::noop())).is_ready());
     assert_eq!(answered.load(Ordering::SeqCst), 1);
 }
-
-const SOON: Timeouts = Timeouts { wait: Some(Duration::from_millis(1)), create: None, recycle: None };
 
 /// Asks its pool how it stands in each of its calls. It refuses to recycle what it is told to.
 #[derive(Default)]

@@ -3,7 +3,7 @@
 mod common;
 
 use common::{Numbers, Task, counts};
-use deadpool::managed::{BuildError, OutOfMemory, Pool, PoolError};
+use deadpool::managed::{BuildError, Hook, Manager, Metrics, Object, OutOfMemory, Pool, PoolError};
 use deadpool::unmanaged;
 use std::cell::Cell;
 use std::ffi::c_void;
@@ -210,4 +210,71 @@ fn calls_without_an_error_for_memory_panic_and_change_nothing() {
     assert!(panics(&|| _ = refusing(0, || pool.retain(|_, _| false))));
     assert_eq!((pool.status().max_size, counts(pool.status())), (1, [1, 1, 0]));
     assert!(panics(&|| _ = unmanaged::Pool::<u64>::new(usize::MAX)));
+}
+
+/// The object that a get makes or finds without memory.
+fn get_without_memory<M: Manager>(pool: &Pool<M>) -> Object<M> {
+    let (polled, was_refused) = refusing(0, || poll_once(pin!(pool.get())));
+    assert!(!was_refused, "the table of values grows");
+    match polled {
+        Poll::Ready(Ok(object)) => object,
+        _ => panic!("a place is free"),
+    }
+}
+
+#[test]
+fn what_has_left_leaves_room_in_the_table() {
+    let ways: [fn(&Pool<Numbers>, Object<Numbers>); 5] = [
+        |_, object| _ = Object::take(object),
+        |pool, object| {
+            pool.resize(0);
+            drop(object);
+        },
+        |pool, object| {
+            drop(object);
+            pool.resize(0);
+        },
+        |pool, object| {
+            drop(object);
+            assert_eq!(pool.retain(|_, _| false).removed.len(), 1);
+        },
+        |pool, object| {
+            drop(object);
+            let get = pool.get();
+            // (it is dropped while its object is recycled)
+            assert!(poll_once(pin!(get)).is_pending());
+        },
+    ];
+    let slow = || {
+        Hook::async_fn(|_: &mut usize, _: &Metrics| {
+            Box::pin(async {
+                common::pause().await;
+                Ok(())
+            })
+        })
+    };
+    for leave in ways {
+        let pool = Pool::builder(Numbers::default()).max_size(1).post_recycle(slow()).build().expect("a pool");
+        leave(&pool, Task::new(pool.get()).ready().expect("an object"));
+        for _ in 0..100 {
+            pool.resize(1);
+            leave(&pool, get_without_memory(&pool));
+        }
+    }
+}
+
+#[test]
+fn what_has_left_an_unmanaged_pool_leaves_room_in_the_table() {
+    let pool = unmanaged::Pool::from([7]);
+    for _ in 0..100 {
+        let ((), was_refused) = refusing(0, || {
+            assert_eq!(pool.try_add(8), Err((8, unmanaged::PoolError::Timeout)));
+            assert_eq!(pool.try_remove(), Ok(7));
+            assert_eq!(pool.try_add(7), Ok(()));
+        });
+        assert!(!was_refused, "the table of values grows");
+    }
+    let held = pool.try_get().expect("an object");
+    pool.close();
+    drop(held);
 }
