@@ -63,10 +63,9 @@ impl Waiter {
     }
 }
 
-const TURNS: u32 = 20_000;
-
-/// The nanoseconds of a turn, on one thread.
+/// The nanoseconds of a turn, on one thread. It is timed over fewer turns than a busy machine interrupts.
 fn alone(mut turn: impl FnMut()) -> f64 {
+    const TURNS: u32 = 2000;
     let begun = Instant::now();
     for _ in 0..TURNS {
         turn();
@@ -76,18 +75,19 @@ fn alone(mut turn: impl FnMut()) -> f64 {
 
 /// The nanoseconds of a turn, between so many threads.
 fn among(threads: u32, turn: impl Fn(&Waiter) + Sync) -> f64 {
+    const TURNS: u32 = 4800;
     let begun = Instant::now();
     thread::scope(|scope| {
         for _ in 0..threads {
             scope.spawn(|| {
                 let waiter = Waiter::new();
-                for _ in 0..TURNS / 4 / threads {
+                for _ in 0..TURNS / threads {
                     turn(&waiter);
                 }
             });
         }
     });
-    begun.elapsed().as_nanos() as f64 / f64::from(TURNS / 4)
+    begun.elapsed().as_nanos() as f64 / f64::from(TURNS)
 }
 
 /// How long a turn takes, in nanoseconds, each time that it is asked.
@@ -166,7 +166,7 @@ fn among_threads(rounds: u32, threads: u32, name: &str, held: fn()) {
 
 fn main() {
     let mut words = std::env::args().skip(1);
-    let rounds = words.next().and_then(|word| word.parse().ok()).unwrap_or(9);
+    let rounds = words.next().and_then(|word| word.parse().ok()).unwrap_or(60);
     let is_wanted = |part: &str, wanted: &Option<String>| wanted.as_ref().is_none_or(|word| word == part);
     let wanted = words.next();
     println!("| nanoseconds a turn, the least of {rounds} | this crate | plain pool | ratio | fair pool | ratio |");

@@ -222,9 +222,12 @@ fn get_without_memory<M: Manager>(pool: &Pool<M>) -> Object<M> {
     }
 }
 
+/// A way in which an object leaves its pool.
+type Leave = fn(&Pool<Numbers>, Object<Numbers>);
+
 #[test]
 fn what_has_left_leaves_room_in_the_table() {
-    let ways: [fn(&Pool<Numbers>, Object<Numbers>); 5] = [
+    let ways: [Leave; 5] = [
         |_, object| _ = Object::take(object),
         |pool, object| {
             pool.resize(0);

@@ -242,19 +242,20 @@ fn a_detach_that_panics_holds_no_place() {
 
 #[test]
 fn what_a_panic_drops_is_given_back() {
-    let pool = late(2);
+    let pool = late(3);
+    let kept = block_on(pool.get()).expect("an object");
     let held = block_on(pool.get()).expect("an object");
-    let (other, weak) = (pool.clone(), pool.weak());
+    let other = pool.clone();
     let preparing = begun(&pool);
     let waits = begun(&pool);
-    assert_eq!(counts(pool.status()), [1, 0, 2]);
+    assert_eq!(counts(pool.status()), [2, 0, 2]);
     panics(|| {
         let _dropped = (held, preparing, waits, other);
         panic!("on purpose")
     });
-    assert_eq!(counts(pool.status()), [1, 1, 0]);
+    assert_eq!(counts(pool.status()), [2, 1, 0]);
     drop(pool);
-    assert!(weak.upgrade().is_none());
+    assert!(Object::pool(&kept).is_none());
     let pool = unmanaged::Pool::from([1]);
     let held = pool.try_get().expect("an object");
     let mut gets = [Task::new(pool.get()), Task::new(pool.get())];
