@@ -82,8 +82,7 @@ fn serve() {
             reached.into_iter().for_each(|(_, waker)| waker.wake());
             waiting = wakers();
         } else {
-            let waited = HAVE_CHANGED.wait_timeout(waiting, left);
-            waiting = waited.unwrap_or_else(PoisonError::into_inner).0;
+            waiting = HAVE_CHANGED.wait_timeout(waiting, left).unwrap_or_else(PoisonError::into_inner).0;
         }
     }
 }
