@@ -163,8 +163,8 @@ fn confirm(reply: &mut String) -> Result<(), LineError> {
     Ok(())
 }
 
-// The reply to a line whose pool is refused. If there was no memory to read its configuration, it has none.
-fn refuse(refusal: Refusal, reply: &mut String) -> Result<(), LineError> {
+/// The reply to a line whose pool is refused. If there was no memory to read its configuration, it has none.
+pub fn refuse(refusal: Refusal, reply: &mut String) -> Result<(), LineError> {
     if refusal == Refusal::Unread {
         return Err(LineError::OutOfMemory);
     }

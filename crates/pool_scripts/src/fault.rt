@@ -2,6 +2,8 @@
 use std::alloc::AllocError;
 use std::{fmt, io};
 
+const USAGE: &str = "usage: poolrun [draw [journal] | threads N M [journal K] | buffers MOST]";
+
 /// Why a run ended before its input did. Its text is what the program says on standard error.
 #[derive(Clone, Copy, Debug, PartialEq, Eq)]
 pub enum Fault {
@@ -9,6 +11,10 @@ pub enum Fault {
     Usage,
     /// The line with this number, from 1, is not in the language.
     NotAMove(u64),
+    /// The line with this number, from 1, is beyond what is drawn.
+    TooMuch(u64),
+    /// The step in the line with this number, from 1, has another reply when it is made again.
+    OtherReply(u64),
     /// The program itself found no memory.
     OutOfMemory,
     /// A read failed.
@@ -21,7 +27,7 @@ impl Fault {
     /// The status that the program ends with.
     pub fn status(self) -> u8 {
         match self {
-            Fault::Usage | Fault::NotAMove(_) => 2,
+            Fault::Usage | Fault::NotAMove(_) | Fault::TooMuch(_) | Fault::OtherReply(_) => 2,
             Fault::OutOfMemory | Fault::InputFailed | Fault::OutputFailed => 1,
         }
     }
@@ -58,8 +64,10 @@ impl From<AllocError> for Fault {
 impl fmt::Display for Fault {
     fn fmt<W: fmt::Write>(&self, f: &mut fmt::Formatter<W>) -> fmt::Result {
         match self {
-            Fault::Usage => f.write_str("usage: poolrun [threads N M | buffers MOST]"),
+            Fault::Usage => f.write_str(USAGE),
             Fault::NotAMove(number) => write!(f, "line {number}: not a move"),
+            Fault::TooMuch(number) => write!(f, "line {number}: too much to draw"),
+            Fault::OtherReply(number) => write!(f, "line {number}: the pool has another reply"),
             Fault::OutOfMemory => f.write_str("out of memory"),
             Fault::InputFailed => f.write_str("input failed"),
             Fault::OutputFailed => f.write_str("output failed"),

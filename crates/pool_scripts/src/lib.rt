@@ -17,14 +17,15 @@ mod players;
 mod script;
 mod texts;
 
-pub use engine::play;
+pub use engine::{play, refuse};
 pub use expecting::{expect_crowd, expect_over, expect_script, find_mismatch};
 pub use fault::Fault;
 pub use lines::{read_line, without_line_feed, write_out};
 pub use manager::{Answer, Answers, HasAnswers, Kind, Refused, ScriptHook, ScriptManager};
 pub use mismatch::Mismatch;
+pub use opening::{ManagedTrial, PARTIES, Refusal, ScriptPool, UnmanagedTrial, open_pool};
 pub use script::{
-    LineError, ManagedLine, ManagedPool, PoolLine, Settings, UnmanagedPool, parse_managed,
-    parse_number, parse_pool, parse_unmanaged,
+    LineError, ManagedLine, ManagedPool, PoolLine, Settings, UnmanagedPool, is_skipped,
+    parse_managed, parse_number, parse_pool, parse_unmanaged,
 };
-pub use texts::{write_managed, write_status, write_unmanaged};
+pub use texts::{end_line, write_managed, write_status, write_unmanaged};

@@ -1,7 +1,7 @@
 //! Threads that count by the objects of one managed pool.
 
 use deadpool::NoTime;
-use deadpool::managed::{Ledgers, Metrics, NoHook, PoolBuilder, RecycleResult};
+use deadpool::managed::{Journal, Ledgers, Metrics, NoHook, PoolBuilder, RecycleResult};
 use deadpool_threads::{Host, Plain, PlainManager, PlainPool, PoolUser, Waiter, lend_among};
 use pool_scripts::{Fault, parse_number, write_out, write_status};
 use std::alloc::AllocError;
@@ -75,6 +75,27 @@ pub fn count<R: Host, W: Write>(rt: &R, crowd: Crowd, writer: &mut W) -> Result<
     write_out(writer, text?.as_str())
 }
 
+/// Has the threads count, and writes the journal of the pool, of at most so many entries.
+pub fn count_with_journal<R: Host, W: Write>(
+    rt: &R,
+    crowd: Crowd,
+    entries: usize,
+    writer: &mut W,
+) -> Result<(), Fault> {
+    let builder = PoolBuilder::new(rt.alloc(), Plain(Zeros), NoTime)
+        .max_size(MOST_OBJECTS)
+        .journal(entries);
+    let workers = workers_of(rt, crowd)?;
+    let Ok((endings, journal)) = lend_among(builder, *rt, workers, Copying) else {
+        return Err(Fault::OutOfMemory);
+    };
+    for ending in endings {
+        ending?;
+    }
+    let text = format!(in rt.alloc(); "{}\n", journal?)?;
+    write_out(writer, text.as_str())
+}
+
 // One for each thread.
 fn workers_of<R: AllocGlobal>(rt: &R, crowd: Crowd) -> Result<Vec<AddingOnes>, AllocError> {
     let mut workers = Vec::new(rt.alloc());
@@ -120,6 +141,18 @@ impl<R: Host> PoolUser<Plain<Zeros>, NoHook, NoHook, NoTime, R> for Telling {
         let total = total_of(pool)?;
         write!(&mut text, "\ntotal {total}\n")?;
         Ok(text)
+    }
+}
+
+// Gives a copy of the journal.
+#[derive(Drop)]
+struct Copying;
+
+impl<R: Host> PoolUser<Plain<Zeros>, NoHook, NoHook, NoTime, R> for Copying {
+    type Output = Result<Journal, AllocError>;
+
+    fn run<L: Ledgers>(self, rt: &R, pool: &CounterPool<R, L>) -> Result<Journal, AllocError> {
+        pool.journal()
     }
 }
 

@@ -1,8 +1,9 @@
 //! A program that does what its arguments say.
 use crate::arguments::Task;
 use crate::buffers::{builder_of, fill_buffers};
-use crate::counting::count;
+use crate::counting::{count, count_with_journal};
 use deadpool_threads::Host;
+use pool_drawing::{draw_journal, draw_script};
 use pool_scripts::{Fault, play};
 use std::env;
 use std::io::{BufRead, Write};
@@ -12,7 +13,9 @@ use std::rt::Env;
 /// Does what the arguments say. With none it plays the script that the reader gives, and writes the replies to the writer.
 /// With `threads N M` it reads nothing: in N threads, M times each, one is added to an object of a pool, and the writer
 /// is given the pool's status and the sum of its objects. With `buffers MOST` it puts each line that it reads into a
-/// buffer of a pool, and writes which one it was.
+/// buffer of a pool, and writes which one it was. With `draw` it plays the script, and writes a picture of the run; with
+/// `draw journal` it reads a journal, and writes a picture of its counts. `threads N M journal K` writes the journal of the
+/// pool in place of the rest.
 ///
 /// A run that ends before its input does says why on `errors`, in a line of its own. Gives the status that the program is
 /// to end with.
@@ -45,7 +48,10 @@ where
     let _program = arguments.next();
     match Task::parse(&mut arguments).ok_or(Fault::Usage)? {
         Task::Play => play(rt, reader, writer),
+        Task::Draw => draw_script(rt, reader, writer),
+        Task::DrawJournal => draw_journal(rt.alloc(), reader, writer),
         Task::Count(crowd) => count(rt, crowd, writer),
+        Task::Journal(crowd, entries) => count_with_journal(rt, crowd, entries, writer),
         Task::Fill(most) => fill_buffers(rt, builder_of(rt.alloc(), most), reader, writer),
     }
 }

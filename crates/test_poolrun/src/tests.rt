@@ -2,6 +2,7 @@ mod backend;
 mod bad_bytes;
 mod buffers;
 mod counting;
+mod drawn;
 mod faults;
 mod long;
 mod million;

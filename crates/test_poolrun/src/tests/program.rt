@@ -55,8 +55,13 @@ fn text_and_status_say_how_a_script_ended(rt: HostRuntime) -> Result<(), Fail> {
     Ok(())
 }
 
-const ARGUMENTS: [Arguments; 6] = [
+const ARGUMENTS: [Arguments; 11] = [
     &[b"poolrun", b"script"],
+    &[b"poolrun", b"draw", b"script"],
+    &[b"poolrun", b"draw", b"journal", b"more"],
+    &[b"poolrun", b"threads", b"2", b"3", b"draw"],
+    &[b"poolrun", b"threads", b"2", b"3", b"journal"],
+    &[b"poolrun", b"threads", b"2", b"3", b"journal", b"1000001"],
     &[b"poolrun", b"threads"],
     &[b"poolrun", b"script", b"more"],
     &[b"poolrun", b"poolrun"],

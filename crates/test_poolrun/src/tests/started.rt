@@ -161,7 +161,7 @@ where
 {
     let mut reader: &[u8] = b"pool 1 fifo none 0\n";
     let mut written = Vec::new(rt.alloc());
-    let said = "usage: poolrun [threads N M | buffers MOST]\n";
+    let said = "usage: poolrun [draw [journal] | threads N M [journal K] | buffers MOST]\n";
     ends_so(rt, arguments, &mut reader, &mut written, said, 2)?;
     if written.is_empty() && reader.len() == 19 {
         return Ok(());

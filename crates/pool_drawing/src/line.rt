@@ -1,0 +1,56 @@
+//! The lines that are written below a picture.
+use std::alloc::{AllocError, Global};
+
+// How many bytes of a line or a reply are shown at most.
+const MOST_SHOWN: usize = 60;
+
+/// A line of the input, and what was replied.
+#[derive(Drop)]
+pub struct Line {
+    /// Its number in the input, from 1.
+    pub number: u64,
+    pub text: String,
+    pub reply: String,
+    pub is_error: bool,
+    /// Whether it has a column.
+    pub is_move: bool,
+}
+
+impl Line {
+    /// A line with its reply, each as far as it is shown. Bytes that are no text are shown as `?`.
+    pub fn new(alloc: Global, number: u64, line: &[u8], reply: &str) -> Result<Line, AllocError> {
+        Ok(Line {
+            number,
+            text: shortened(alloc, line)?,
+            reply: shortened(alloc, reply.trim_ascii().as_bytes())?,
+            is_error: reply.starts_with("error"),
+            is_move: true,
+        })
+    }
+
+    /// A line that has no column: with what is said of it, it is an error.
+    pub fn aside(alloc: Global, number: u64, line: &[u8], why: &str) -> Result<Line, AllocError> {
+        let mut aside = Line::new(alloc, number, line, why)?;
+        aside.is_error = !why.is_empty();
+        aside.is_move = false;
+        Ok(aside)
+    }
+}
+
+// What is shown of some bytes: those that can be printed, and dots for what is left out.
+fn shortened(alloc: Global, bytes: &[u8]) -> Result<String, AllocError> {
+    let mut text = String::new(alloc);
+    let shown = if bytes.len() > MOST_SHOWN {
+        &bytes[..MOST_SHOWN]
+    } else {
+        bytes
+    };
+    for byte in shown {
+        let printed = byte.is_ascii_graphic() || *byte == b' ';
+        text.push(if printed { char::from(*byte) } else { '?' })?;
+    }
+    if bytes.len() > MOST_SHOWN {
+        text.push_str(" ..")?;
+    }
+    Ok(text)
+}

@@ -1,0 +1,93 @@
+//! Where each object of a trial is.
+use crate::{MOST_OBJECTS, Stop};
+use deadpool::managed::{AsyncHook, Manager, SyncHook};
+use deadpool::replay::{Trial, unmanaged};
+use pool_lanes::{Place, Shape, Stage};
+
+/// Puts where each object is in place of what was there: that of the first number first. An object of which nothing is seen any
+/// more was given up.
+pub fn show_objects<M: Manager, F: SyncHook<M>, A: AsyncHook<M>, C: Drop>(
+    trial: &Trial<M, F, A, C>,
+    first: usize,
+    shapes: &[Shape],
+    places: &mut Vec<Place>,
+) -> Result<(), Stop> {
+    clear(places);
+    for at in 0..usize::MAX {
+        match trial.idle_at(at) {
+            Some(number) => put(places, first, number, Place::Idle)?,
+            None => break,
+        }
+    }
+    show_held(first, shapes, places)?;
+    for at in 0..usize::MAX {
+        match trial.out_at(at) {
+            Some(number) => put(places, first, number, Place::Out)?,
+            None => break,
+        }
+    }
+    Ok(())
+}
+
+/// The same for an unmanaged pool, whose first object has the number 0.
+pub fn show_unmanaged_objects<T: Drop>(
+    trial: &unmanaged::Trial<T>,
+    shapes: &[Shape],
+    places: &mut Vec<Place>,
+) -> Result<(), Stop> {
+    clear(places);
+    for at in 0..usize::MAX {
+        match trial.idle_at(at) {
+            Some(number) => put(places, 0, number, Place::Idle)?,
+            None => break,
+        }
+    }
+    show_held(0, shapes, places)?;
+    for at in 0..usize::MAX {
+        match trial.out_at(at) {
+            Some(number) => put(places, 0, number, Place::Out)?,
+            None => break,
+        }
+    }
+    Ok(())
+}
+
+fn clear(places: &mut Vec<Place>) {
+    for place in places {
+        *place = Place::GivenUp;
+    }
+}
+
+// The objects that parties have.
+fn show_held(first: usize, shapes: &[Shape], places: &mut Vec<Place>) -> Result<(), Stop> {
+    for shape in shapes {
+        if let Some(number) = shape.object {
+            put(places, first, number, place_with(shape.stage))?;
+        }
+    }
+    Ok(())
+}
+
+// Where the object of a party is that stands so.
+fn place_with(stage: Stage) -> Place {
+    match stage {
+        Stage::New | Stage::Queued | Stage::Granted => Place::Offered,
+        Stage::Holding => Place::Out,
+        _ => Place::Prepared,
+    }
+}
+
+// The object with this number is there.
+fn put(places: &mut Vec<Place>, first: usize, number: usize, place: Place) -> Result<(), Stop> {
+    let at = number.saturating_sub(first);
+    if at >= MOST_OBJECTS {
+        return Err(Stop::TooMuch);
+    }
+    while places.len() <= at {
+        places.push(Place::GivenUp)?;
+    }
+    if at < places.len() {
+        places[at] = place;
+    }
+    Ok(())
+}

@@ -1,0 +1,116 @@
+//! Makes the moves of a script, and keeps what parties are given.
+use crate::Stop;
+use deadpool::replay::{Move, Reply, unmanaged};
+use futures::task::Context;
+use pool_scripts::{
+    Answers, ManagedLine, ManagedTrial, Refused, UnmanagedTrial, end_line, parse_managed,
+    parse_unmanaged, write_managed, write_unmanaged,
+};
+use pool_shapes::Given;
+use std::alloc::{AllocError, Global};
+
+// Whom a move names.
+#[derive(Clone, Copy)]
+enum Named {
+    Party(usize),
+    Object(usize),
+    Nobody,
+}
+
+/// Makes the move of a line, or keeps its answers for the manager, and writes the reply.
+pub fn play_managed(
+    trial: &mut ManagedTrial<'_>,
+    given: &mut Given,
+    alloc: Global,
+    answers: &Answers,
+    line: &[u8],
+    cx: &mut Context<'_>,
+    reply: &mut String,
+) -> Result<(), Stop> {
+    match parse_managed(alloc, line)? {
+        ManagedLine::Answer(kind, words) => {
+            answers.append(kind, words)?;
+            reply.push_str("ok")?;
+        }
+        ManagedLine::Move(next) => {
+            let named = named_by(&next);
+            let answer = trial.make(next, cx);
+            note(given, named, &answer)?;
+            write_managed(reply, &answer, value_of(trial, &answer))?;
+        }
+    }
+    end_line(reply)?;
+    Ok(())
+}
+
+fn named_by(next: &Move<u64>) -> Named {
+    match next {
+        Move::Advance(party, _) | Move::Poll(party, _) => Named::Party(*party),
+        Move::Back(number) | Move::Take(number) => Named::Object(*number),
+        _ => Named::Nobody,
+    }
+}
+
+fn note(given: &mut Given, named: Named, answer: &Reply<u64, Refused>) -> Result<(), AllocError> {
+    match (named, answer) {
+        (_, Reply::Started(_)) => return given.add_party(),
+        (_, Reply::NoSuch) => {}
+        (Named::Party(party), Reply::Object(number)) => given.give(party, *number),
+        (Named::Object(number), _) => given.take_away(number),
+        (_, _) => {}
+    }
+    Ok(())
+}
+
+fn value_of(trial: &ManagedTrial<'_>, answer: &Reply<u64, Refused>) -> Option<u64> {
+    match answer {
+        Reply::Object(number) => trial.value(*number).copied(),
+        _ => None,
+    }
+}
+
+/// Makes the move of a line, and writes the reply.
+pub fn play_unmanaged(
+    trial: &mut UnmanagedTrial,
+    given: &mut Given,
+    line: &[u8],
+    reply: &mut String,
+) -> Result<(), Stop> {
+    let next = parse_unmanaged(line)?;
+    let named = named_by_unmanaged(&next);
+    let answer = trial.make(next);
+    note_unmanaged(given, named, &answer)?;
+    write_unmanaged(reply, &answer, unmanaged_value_of(trial, &answer))?;
+    end_line(reply)?;
+    Ok(())
+}
+
+fn named_by_unmanaged(next: &unmanaged::Move<u64>) -> Named {
+    match next {
+        unmanaged::Move::Poll(party, _) => Named::Party(*party),
+        unmanaged::Move::Back(number) | unmanaged::Move::Take(number) => Named::Object(*number),
+        _ => Named::Nobody,
+    }
+}
+
+fn note_unmanaged(
+    given: &mut Given,
+    named: Named,
+    answer: &unmanaged::Reply<u64>,
+) -> Result<(), AllocError> {
+    match (named, answer) {
+        (_, unmanaged::Reply::Started(_)) => return given.add_party(),
+        (_, unmanaged::Reply::NoSuch) => {}
+        (Named::Party(party), unmanaged::Reply::Object(number)) => given.give(party, *number),
+        (Named::Object(number), _) => given.take_away(number),
+        (_, _) => {}
+    }
+    Ok(())
+}
+
+fn unmanaged_value_of(trial: &UnmanagedTrial, answer: &unmanaged::Reply<u64>) -> Option<u64> {
+    match answer {
+        unmanaged::Reply::Object(number) => trial.value(*number).copied(),
+        _ => None,
+    }
+}

@@ -1,0 +1,2 @@
+pub mod LaidMarks
+pub mod GrownLanes

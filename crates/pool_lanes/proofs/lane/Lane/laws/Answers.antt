@@ -1,0 +1,10 @@
+use Rattle.std.proofs.Common.{subst}
+use Rattle.pool_lanes.specs.Marks.{AreApart}
+use Rattle.pool_lanes.proofs.LaidMarks.{laid_apart, all_shown}
+use Rattle.pool_lanes.proofs.lane.Lane.laws.Goals as goal
+
+pub returns-clause-apart : goal.returns-clause-apart
+returns-clause-apart g c = subst (λ l. AreApart l) c.self.view_is (laid_apart _ _ c.self.invariant)
+
+pub returns-clause-shown : goal.returns-clause-shown
+returns-clause-shown g c = all_shown c.self.inside.earlier.items c.self.inside.last _ c.self.view_is c.self.invariant

@@ -1,0 +1,6 @@
+-- What a picture shows of a pool at one move. In the order in which it can be read.
+
+-- The objects that parties were given, and that are out.
+pub mod Given
+-- What lanes show of parties and counts.
+pub mod Shapes

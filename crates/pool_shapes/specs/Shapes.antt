@@ -1,0 +1,82 @@
+-- What lanes show of a pool at one move: of each party its stage and its object, and the counts.
+use Rattle.std.specs.Prelude.{◌≡◌, ℕ, ◌+◌, min, List, [], ◌∷◌, length, Option, Some, None, slice_get}
+use Rattle.deadpool_gate.specs.Numbers.{largest_usize}
+use Rattle.deadpool_desk.specs.Counts.{reach as desk_reach}
+use Rattle.deadpool_desk.specs.DeskState.{DeskState, places as desk_places, size as desk_size}
+use Rattle.deadpool_replay.specs.Look.{look_of}
+use Rattle.deadpool_replay.specs.Pool.{Pool, places, size, reach}
+use Rattle.deadpool_replay.specs.declared.look.Look.{Look}
+use Rattle.deadpool_replay.specs.declared.look.Look.TheVariants as look
+use Rattle.deadpool_unmanaged_replay.specs.Look.{look_of as unmanaged_look_of}
+use Rattle.deadpool_unmanaged_replay.specs.Pool.{Pool as UnmanagedPool, size as unmanaged_size}
+use Rattle.deadpool_unmanaged_replay.specs.declared.look.Look.{Look as UnmanagedLook}
+use Rattle.deadpool_unmanaged_replay.specs.declared.look.Look.TheVariants as unmanaged
+use Rattle.pool_lanes.specs.declared.shape.Shape.{Shape}
+use Rattle.pool_lanes.specs.declared.shape.Stage.{Stage}
+use Rattle.pool_lanes.specs.declared.shape.Stage.TheVariants as stage
+
+abbrev pub alone : Stage → Shape
+alone stage = record { stage = stage; object = None }
+
+abbrev pub with_object : Stage → ℕ → Shape
+with_object stage number = record { stage = stage; object = Some number }
+
+-- a party that has ended has the object that it was given, while that is out
+abbrev pub ended_with : Option ℕ → Shape
+ended_with (Some number) = with_object stage.Holding number
+ended_with None = alone stage.Ended
+
+-- Of a party that a trial has started: what is seen of it, and the object that it was given. A party of which nothing is seen any
+-- more was cancelled.
+abbrev pub shape_of : Look → Option ℕ → Shape
+shape_of look.NoSuch given = alone stage.Cancelled
+shape_of look.Unpolled given = alone stage.New
+shape_of look.Queued given = alone stage.Queued
+shape_of look.Granted given = alone stage.Granted
+shape_of look.Going given = alone stage.Going
+shape_of look.Creating given = alone stage.Creating
+shape_of (look.Recycling number) given = with_object stage.Recycling number
+shape_of (look.Checking number) given = with_object stage.Checking number
+shape_of look.Finished given = ended_with given
+
+abbrev pub unmanaged_shape_of : UnmanagedLook → Option ℕ → Shape
+unmanaged_shape_of unmanaged.NoSuch given = alone stage.Cancelled
+unmanaged_shape_of unmanaged.NewGet given = alone stage.New
+unmanaged_shape_of unmanaged.QueuedGet given = alone stage.Queued
+unmanaged_shape_of unmanaged.GrantedGet given = alone stage.Granted
+unmanaged_shape_of (unmanaged.NewAdd number) given = with_object stage.New number
+unmanaged_shape_of (unmanaged.QueuedAdd number) given = with_object stage.Queued number
+unmanaged_shape_of (unmanaged.GrantedAdd number) given = with_object stage.Granted number
+unmanaged_shape_of unmanaged.Finished given = ended_with given
+
+-- a shape for each party, by its number
+pub record ShowsEach (shape : ℕ → Option ℕ → Shape) (given : List (Option ℕ)) (shapes : List Shape) : Type 0 where
+  pub count : length shapes ≡ length given
+  pub each : (n : ℕ) (object : Option ℕ) → slice_get given n ≡ Some object → slice_get shapes n ≡ Some (shape n object)
+
+-- the length of a queue, stopped at the greatest number
+abbrev pub queue_length : ℕ → ℕ → ℕ
+queue_length granted waiting = min (granted + waiting) largest_usize
+
+module _ {V C R S F A : Type 0} where
+  -- how each party of a pool stands
+  abbrev pub ShowsParties : Pool V C R S F A → List (Option ℕ) → List Shape → Type 0
+  ShowsParties p given shapes = ShowsEach (λ n object. shape_of (look_of n p) object) given shapes
+
+  -- from the top: the limit, the size, the places that are held, the reach, the queue
+  abbrev pub levels_of : Pool V C R S F A → List ℕ
+  levels_of p = p.limit ∷ size p ∷ places p ∷ reach p ∷ queue_length (length p.granted) (length p.waiting) ∷ []
+
+-- the same of a pool without names
+abbrev pub desk_levels_of : {O : Type 0} → DeskState O → List ℕ
+desk_levels_of d = d.limit ∷ desk_size d ∷ desk_places d ∷ desk_reach d ∷ queue_length (length d.granted) (length d.waiting) ∷ []
+
+module _ {V : Type 0} where
+  abbrev pub UnmanagedShowsParties : UnmanagedPool V → List (Option ℕ) → List Shape → Type 0
+  UnmanagedShowsParties p given shapes = ShowsEach (λ n object. unmanaged_shape_of (unmanaged_look_of n p) object) given shapes
+
+  -- from the top: the limit, the size, the room that is taken or granted, the queue of the gets and that of the adds
+  abbrev pub unmanaged_levels_of : UnmanagedPool V → List ℕ
+  unmanaged_levels_of p =
+      p.limit ∷ unmanaged_size p ∷ queue_length (unmanaged_size p) (length p.adds.granted)
+      ∷ queue_length (length p.gets.granted) (length p.gets.waiting) ∷ queue_length (length p.adds.granted) (length p.adds.waiting) ∷ []
