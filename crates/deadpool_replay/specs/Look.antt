@@ -1,4 +1,4 @@
--- What is seen of a pool from outside: how a party stands, which objects are idle and out, and the counts.
+-- What is seen of a pool from outside: how a party stands, and the counts.
 use Rattle.std.specs.Prelude.{ℕ, Bool, length, Option, Some, None, if◌then◌else◌, slice_get}
 use Rattle.deadpool_gate.specs.Numbers.{has_number}
 use Rattle.deadpool_managed.specs.Prepare.{object_of}
@@ -29,6 +29,7 @@ module _ {V C R S F A : Type 0} where
   abbrev pub look_of : ℕ → Pool V C R S F A → Look
   look_of n p = look_if (has_number n p.granted) (slice_get p.parties n)
 
+  -- what the pool counts
   abbrev pub counts_of : Pool V C R S F A → Counts
   counts_of p = record {
     limit = p.limit;
