@@ -175,8 +175,9 @@ fn all_wakers_of_a_step_may_call_the_pool() {
     let pool: Pool<Numbers> = Pool::builder(Numbers::default()).max_size(0).build().expect("a pool");
     let mut gets: Vec<_> = (0..3).map(|_| Box::pin(pool.get())).collect();
     for get in &mut gets {
-        let asked = pool.clone();
-        let waker = Curious::waker(move || assert_eq!(asked.status().max_size, 3));
+        // (a handle in a waker would be dropped with it)
+        let asked = pool.weak();
+        let waker = Curious::waker(move || assert!(asked.upgrade().is_some_and(|pool| pool.status().max_size == 3)));
         assert!(get.as_mut().poll(&mut Context::from_waker(&waker)).is_pending());
     }
     pool.resize(3);

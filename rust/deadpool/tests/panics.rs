@@ -8,6 +8,8 @@ use std::convert::Infallible;
 use std::panic::{AssertUnwindSafe, catch_unwind};
 use std::sync::atomic::{AtomicBool, Ordering};
 use std::task::{Context, RawWaker, RawWakerVTable, Waker};
+use std::thread;
+use std::time::Duration;
 
 fn panics<R>(call: impl FnOnce() -> R) {
     assert!(catch_unwind(AssertUnwindSafe(call)).is_err(), "the call panics");
@@ -81,6 +83,27 @@ fn a_predicate_that_panics_removes_nothing() {
     assert_eq!(counts(pool.status()), [2, 2, 0]);
     assert_eq!(pool.retain(|value, _| *value == 1).removed, [0]);
     assert_eq!(*block_on(pool.get()).expect("an object"), 1);
+}
+
+#[test]
+fn a_lock_under_which_a_predicate_has_panicked_is_waited_for() {
+    let pool: Pool<Numbers> = Pool::builder(Numbers::default()).max_size(2).build().expect("a pool");
+    drop([block_on(pool.get()).expect("an object"), block_on(pool.get()).expect("an object")]);
+    panics(|| pool.retain(|_, _| panic!("on purpose")));
+    let is_asked = AtomicBool::new(false);
+    thread::scope(|scope| {
+        scope.spawn(|| {
+            pool.retain(|_, _| {
+                is_asked.store(true, Ordering::SeqCst);
+                thread::sleep(Duration::from_millis(30));
+                true
+            })
+        });
+        while !is_asked.load(Ordering::SeqCst) {
+            thread::yield_now();
+        }
+        assert_eq!(counts(pool.status()), [2, 2, 0]);
+    });
 }
 
 /// Panics when it is dropped.

@@ -4,7 +4,7 @@ mod common;
 use common::{Numbers, Task, counts};
 use deadpool::managed::{Hook, HookError, Metrics, Object, Pool, QueueMode};
 use deadpool::unmanaged;
-use std::collections::BTreeSet;
+use std::collections::{BTreeSet, VecDeque};
 use std::task::Poll;
 
 /// Numbers that look as if they were thrown, the same in each run.
@@ -67,6 +67,31 @@ fn each_number_keeps_its_value() {
             assert_eq!(numbers.len(), out.len());
         }
         assert!(pool.manager().detached() > 100);
+    }
+}
+
+#[test]
+fn who_is_next_is_handed_out_with_its_value() {
+    for (seed, queue_mode) in [(4, QueueMode::Fifo), (5, QueueMode::Lifo)] {
+        let builder = Pool::builder(Numbers::default()).max_size(4).queue_mode(queue_mode);
+        let (pool, mut dice): (Pool<Numbers>, _) = (builder.build().expect("a pool"), Dice(seed));
+        let (mut out, mut idle, mut next) = (Vec::<Object<Numbers>>::new(), VecDeque::new(), 0);
+        for _ in 0..4000 {
+            match dice.below(6) {
+                0..=2 if out.len() < 4 => {
+                    let object = Task::new(pool.get()).ready().expect("a place is free");
+                    let first = if queue_mode == QueueMode::Fifo { idle.pop_front() } else { idle.pop_back() };
+                    let expected = first.unwrap_or(next);
+                    next += usize::from(first.is_none());
+                    assert_eq!((*object, Object::id(&object).to_string()), (expected, expected.to_string()));
+                    out.push(object);
+                }
+                5 => drop(one(&mut out, &mut dice).map(Object::take)),
+                _ => idle.extend(one(&mut out, &mut dice).map(|object| *object)),
+            }
+            assert_eq!(counts(pool.status()), [out.len() + idle.len(), idle.len(), 0]);
+        }
+        assert!(next > 300);
     }
 }
 
