@@ -40,12 +40,7 @@ impl Line {
 // What is shown of some bytes: those that can be printed, and dots for what is left out.
 fn shortened(alloc: Global, bytes: &[u8]) -> Result<String, AllocError> {
     let mut text = String::new(alloc);
-    let shown = if bytes.len() > MOST_SHOWN {
-        &bytes[..MOST_SHOWN]
-    } else {
-        bytes
-    };
-    for byte in shown {
+    for byte in bytes.iter().take(MOST_SHOWN) {
         let printed = byte.is_ascii_graphic() || *byte == b' ';
         text.push(if printed { char::from(*byte) } else { '?' })?;
     }

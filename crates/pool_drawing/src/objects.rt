@@ -83,7 +83,7 @@ fn put(places: &mut Vec<Place>, first: usize, number: usize, place: Place) -> Re
     if at >= MOST_OBJECTS {
         return Err(Stop::TooMuch);
     }
-    while places.len() <= at {
+    for _new in places.len()..at.saturating_add(1) {
         places.push(Place::GivenUp)?;
     }
     if at < places.len() {

@@ -52,14 +52,32 @@ fn named_by(next: &Move<u64>) -> Named {
 }
 
 fn note(given: &mut Given, named: Named, answer: &Reply<u64, Refused>) -> Result<(), AllocError> {
-    match (named, answer) {
-        (_, Reply::Started(_)) => return given.add_party(),
-        (_, Reply::NoSuch) => {}
-        (Named::Party(party), Reply::Object(number)) => given.give(party, *number),
-        (Named::Object(number), _) => given.take_away(number),
-        (_, _) => {}
+    match answer {
+        Reply::Started(_) => given.add_party(),
+        Reply::Object(number) => {
+            give(given, named, *number);
+            Ok(())
+        }
+        Reply::Kept | Reply::Detached | Reply::Dropped | Reply::Taken(_) => {
+            take_away(given, named);
+            Ok(())
+        }
+        _ => Ok(()),
     }
-    Ok(())
+}
+
+// The party that the move names was given this object.
+fn give(given: &mut Given, named: Named, number: usize) {
+    if let Named::Party(party) = named {
+        given.give(party, number);
+    }
+}
+
+// The object that the move names is out no more.
+fn take_away(given: &mut Given, named: Named) {
+    if let Named::Object(number) = named {
+        given.take_away(number);
+    }
 }
 
 fn value_of(trial: &ManagedTrial<'_>, answer: &Reply<u64, Refused>) -> Option<u64> {
@@ -98,14 +116,18 @@ fn note_unmanaged(
     named: Named,
     answer: &unmanaged::Reply<u64>,
 ) -> Result<(), AllocError> {
-    match (named, answer) {
-        (_, unmanaged::Reply::Started(_)) => return given.add_party(),
-        (_, unmanaged::Reply::NoSuch) => {}
-        (Named::Party(party), unmanaged::Reply::Object(number)) => given.give(party, *number),
-        (Named::Object(number), _) => given.take_away(number),
-        (_, _) => {}
+    match answer {
+        unmanaged::Reply::Started(_) => given.add_party(),
+        unmanaged::Reply::Object(number) => {
+            give(given, named, *number);
+            Ok(())
+        }
+        unmanaged::Reply::Kept | unmanaged::Reply::Dropped | unmanaged::Reply::Taken(_) => {
+            take_away(given, named);
+            Ok(())
+        }
+        _ => Ok(()),
     }
-    Ok(())
 }
 
 fn unmanaged_value_of(trial: &UnmanagedTrial, answer: &unmanaged::Reply<u64>) -> Option<u64> {

@@ -1,4 +1,4 @@
-use Rattle.std.proofs.Common.{◌≡◌, ◌∙◌, None, arith, rules, length-append}
+use Rattle.std.proofs.Common.{◌∙◌, None, arith, rules, length-append}
 use Rattle.std.proofs.lemmas.Option.{slice_get-get_or, slice_get_within}
 use Rattle.deadpool_unmanaged_replay.specs.Look.{look_of}
 use Rattle.pool_shapes.proofs.Columns.{one_more}
