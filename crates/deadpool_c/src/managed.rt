@@ -96,7 +96,7 @@ pub extern "C" fn deadpool_managed_again(
     replace_with(pool, (is_set, allowance), managed_steps::again)
 }
 
-/// An idle object under preparation is given up, and its get keeps the place: `DONE`, `UNKNOWN`.
+/// An object that was idle, and is prepared, is given up, and its get keeps the place: `DONE`, `UNKNOWN`.
 #[unsafe(no_mangle)]
 pub extern "C" fn deadpool_managed_discard(pool: &mut ManagedPool) -> Reply
     requires { InBlock pool.old.at }

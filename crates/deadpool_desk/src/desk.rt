@@ -3,8 +3,8 @@
 //! A get that holds a place and no object is served: it is given an idle object, or it begins a creation.
 //!
 //! What a step does is said as `Core` does it, by its relations. Of the steps below, those that lower a count answer
-//! `Unknown` where there is nothing to lower, and change nothing. Another desk has relations of its own, and owes
-//! nothing beyond them but that it keeps to an allowance.
+//! `Unknown` where there is nothing to lower, and so do those of a ticket that nobody has; then nothing changes. Another
+//! desk has relations of its own, and owes nothing beyond them but that it keeps to an allowance and says what its get holds.
 ghost use Rattle.std.specs.Prelude.{◌≡◌, ℕ, ⊤, Bool, Option, None};
 ghost use Rattle.deadpool_desk.specs.Allowance.{IsWithinAllowance};
 ghost use Rattle.deadpool_desk.specs.Held.{held_if_served, held_if_entered, held_if_asked, held_if_asked_again, held_if_created, held_if_discarded, held_as};
@@ -360,7 +360,7 @@ pub trait Desk<T> {
         rest.with(place)
     }
 
-    /// An idle object under preparation is given up, and its get keeps the place.
+    /// An object that was idle, and is prepared, is given up, and its get keeps the place.
     fn discard(&mut self) -> StepReply
         requires { holds self.old Holding.Object }
         ensures discarded { discards self.old result self.new }

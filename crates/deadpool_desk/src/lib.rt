@@ -1,7 +1,7 @@
 //! The state of a managed pool on one thread, and its steps.
 //!
-//! A pool is asked for one step at a time, by a get or an object (`desk`) or by its owner (`owner_desk`). `settled` is
-//! such a desk to both: whole steps over `state`. Nothing here asks a manager or a hook; a retain asks its retainer
+//! A pool is asked for one step at a time, by a get or an object (`desk`) or by its owner (`owner_desk`). `settled` has
+//! `Core`, which is a desk to both: whole steps over `state`. Nothing here asks a manager or a hook; a retain asks its retainer
 //! (`retain`, `review`).
 #![tactic(auto)]
 

@@ -76,6 +76,7 @@ impl Removals {
         Removals { removals }
     }
 
+    /// They, front to back.
     pub fn as_slice(&self) -> &[Removal]
         ensures { result.now ≡ self.now }
     {

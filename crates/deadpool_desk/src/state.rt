@@ -1,5 +1,5 @@
 //! The state of a managed pool on one thread: its queue, its idle objects, and three counts.
-ghost use Rattle.std.specs.Prelude.{◌≡◌, ◌+◌, ◌-◌, ◌≤◌, ◌&&◌, ◌==◌, not, nat_lt, nat_le, is_some, [], IfOk, option_copied, slice_get};
+ghost use Rattle.std.specs.Prelude.{◌≡◌, ◌+◌, ◌-◌, ◌≤◌, ◌&&◌, ◌==◌, not, nat_le, is_some, [], IfOk, option_copied, slice_get};
 ghost use Rattle.deadpool_desk.specs.Allowance.{IsWithinAllowance};
 ghost use Rattle.deadpool_desk.specs.DeskState.{least_idle, new_core, places, settled, next_idle, other_idle};
 ghost use Rattle.deadpool_desk.specs.DeskSteps.{Serves, surplus};
@@ -74,20 +74,6 @@ impl<T: Drop> PoolState<T> {
             creations: 0,
             outside: 0,
         })
-    }
-
-    /// Whether a handle is left.
-    pub fn has_handle(&self) -> bool
-        ensures { result ≡ nat_lt 0 self.now.desk.handles }
-    {
-        self.handles > 0
-    }
-
-    /// Whether just one handle is left.
-    pub fn is_last_handle(&self) -> bool
-        ensures { result ≡ (self.now.desk.handles == 1) }
-    {
-        self.handles == 1
     }
 
     /// The idle object at this position, front to back.

@@ -12,7 +12,7 @@ pub enum StageKind {
     Going,
     /// With a creation under way.
     Creating,
-    /// With this idle object, which is prepared.
+    /// With this object, which was idle and is prepared.
     Recycling(usize),
     /// With this new object, which the hooks see.
     Checking(usize),

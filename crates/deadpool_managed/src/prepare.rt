@@ -1,4 +1,4 @@
-//! The calls that an object passes before it is handed out, and the creation of one.
+//! The calls that an object passes before it is handed out.
 //!
 //! A call that is pending keeps its state until the next poll; the calls before it are not made again.
 ghost use Rattle.std.specs.Prelude.{◌≡◌, All, drop, Option};
@@ -47,7 +47,7 @@ pub enum Verdict<S, E> {
     Pending(Position<S>),
 }
 
-/// An idle object under preparation.
+/// An object that was idle, under preparation. No code makes one: contracts see a get so.
 #[derive(Drop)]
 pub enum Preparation<T, R, S> {
     /// The hooks before the recycling see it.
@@ -58,7 +58,7 @@ pub enum Preparation<T, R, S> {
     PostRecycle(Slot<T>, Position<S>),
 }
 
-/// What came of a preparation.
+/// What came of a preparation. No code makes one either.
 #[derive(Drop)]
 pub enum Prepared<T, R, S> {
     Accepted(Slot<T>),
@@ -149,7 +149,7 @@ fn pass<M: Manager, F: SyncHook<M>, A: AsyncHook<M>>(
     Verdict::Accepted
 }
 
-/// The hooks that see a new object, from the position on.
+// The hooks that see a new object, from the position on.
 fn check<M: Manager, F: SyncHook<M>, A: AsyncHook<M>>(
     slot: &mut Slot<M::Type>,
     position: Position<A::State>,
@@ -247,7 +247,7 @@ fn begin_recycling<M: Manager, F: SyncHook<M>, A: AsyncHook<M>>(
     poll_recycling(slot, recycling, deadline, environment, now, cx)
 }
 
-/// Prepares an idle object, from where it had come.
+// Prepares an object that was idle, from where it had come.
 fn prepare<M: Manager, F: SyncHook<M>, A: AsyncHook<M>>(
     slot: &mut Slot<M::Type>,
     preparing: Preparing<M::Recycling, A::State>,

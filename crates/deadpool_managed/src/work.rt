@@ -149,7 +149,7 @@ impl<M: Manager, A: AsyncHook<M>> Work<M, A> {
         }
     }
 
-    // A step of one that may take so many more objects, or that creates.
+    // A step of a get that has taken an object in this poll, or that creates or checks.
     fn go_on<F: SyncHook<M>, D: Desk<M::Type>>(
         &mut self,
         timeouts: &Timeouts,
@@ -177,7 +177,7 @@ impl<M: Manager, A: AsyncHook<M>> Work<M, A> {
         }
     }
 
-    // A step of a get that was pending, or that creates.
+    // Any step but the first, and that of an object which was served in this poll.
     fn step_rarely<F: SyncHook<M>, D: Desk<M::Type>>(
         &mut self,
         timeouts: &Timeouts,

@@ -1,10 +1,9 @@
--- What is seen of a pool from outside: how a party stands, which objects are idle and out, and the counts.
+-- What is seen of a pool from outside: how a party stands, and the counts.
 use Rattle.std.specs.Prelude.{ℕ, Bool, length, Option, Some, None, if◌then◌else◌, slice_get}
 use Rattle.deadpool_gate.specs.Numbers.{has_number}
 use Rattle.deadpool_managed.specs.Prepare.{object_of}
 use Rattle.deadpool_replay.specs.Pool.{Pool, Party, Standing, unpolled, queued, going, creating, recycling, checking, finished, size, places, reach}
 use Rattle.deadpool_desk.specs.declared.counts.Counts.{Counts}
-use Rattle.deadpool_desk.specs.declared.slot.Slot.{Slot}
 use Rattle.deadpool_replay.specs.declared.look.Look.{Look}
 use Rattle.deadpool_replay.specs.declared.look.Look.TheVariants as look
 
@@ -30,6 +29,7 @@ module _ {V C R S F A : Type 0} where
   abbrev pub look_of : ℕ → Pool V C R S F A → Look
   look_of n p = look_if (has_number n p.granted) (slice_get p.parties n)
 
+  -- what the pool counts
   abbrev pub counts_of : Pool V C R S F A → Counts
   counts_of p = record {
     limit = p.limit;

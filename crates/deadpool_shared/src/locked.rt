@@ -175,7 +175,7 @@ impl<T: Drop, L: Ledgers> Locked<T, L> {
         reply
     }
 
-    /// An idle object under preparation is given up.
+    /// An object that was idle, and is prepared, is given up.
     pub fn discard(&mut self, shares: &mut Shares<L>) -> StepReply
         requires { shares.old ≡ counts_of Holding.Object }
         ensures holds { shares.new ≡ counts_of Holding.Place }

@@ -1,5 +1,5 @@
 -- What is seen of a trial's fields is what is seen of the pool that they are.
-use Rattle.std.proofs.Common.{◌≡◌, ℕ, List, Option, Some, None, refl, eq-eqb}
+use Rattle.std.proofs.Common.{◌≡◌, ℕ, List, Option, Some, refl, eq-eqb}
 use Rattle.std.specs.List.{slice_get}
 use Rattle.std.proofs.lemmas.Option.{slice_get-map}
 use Rattle.deadpool_gate.proofs.Owners.{granted-renamed}

@@ -21,7 +21,7 @@ pub use engine::{play, refuse};
 pub use expecting::{expect_crowd, expect_over, expect_script, find_mismatch};
 pub use fault::Fault;
 pub use lines::{read_line, without_line_feed, write_out};
-pub use manager::{Answer, Answers, Kind, Refused, ScriptHook, ScriptManager};
+pub use manager::{Answer, Answers, HasAnswers, Kind, Refused, ScriptHook, ScriptManager};
 pub use mismatch::Mismatch;
 pub use opening::{ManagedTrial, PARTIES, Refusal, ScriptPool, UnmanagedTrial, open_pool};
 pub use script::{

@@ -8,6 +8,7 @@ use std::alloc::{AllocError, Global};
 use std::cell::Cell;
 use std::collections::VecDeque;
 use std::fmt;
+use std::rc::Rc;
 
 /// What is asked of the manager and the hooks.
 #[derive(Clone, Copy, Debug, PartialEq, Eq)]
@@ -75,8 +76,8 @@ impl Answers {
         appended
     }
 
-    /// The first answer left, which is taken. If none is, a poll is accepted.
-    pub fn next(&self, kind: Kind) -> Answer {
+    // The first answer left, which is taken.
+    fn next(&self, kind: Kind) -> Answer {
         let left = self.of_kind(kind);
         let mut queue = left.replace(VecDeque::new(self.alloc));
         let answer = queue.pop_front().unwrap_or(Answer::Accept);
@@ -84,8 +85,8 @@ impl Answers {
         answer
     }
 
-    /// Answers a poll that has an object.
-    pub fn respond(&self, kind: Kind, value: &mut u64) -> Poll<Result<(), Refused>> {
+    // Answers a poll that has an object.
+    fn respond(&self, kind: Kind, value: &mut u64) -> Poll<Result<(), Refused>> {
         match self.next(kind) {
             Answer::Accept => Poll::Ready(Ok(())),
             Answer::Pending => Poll::Pending,
@@ -110,24 +111,41 @@ impl fmt::Display for Refused {
     }
 }
 
+/// What a manager and its hooks have the answers of: a reference to them, or a share of them.
+pub trait HasAnswers: Drop {
+    fn answers(&self) -> &Answers;
+}
+
+impl HasAnswers for &Answers {
+    fn answers(&self) -> &Answers {
+        *self
+    }
+}
+
+impl HasAnswers for Rc<Answers, Global> {
+    fn answers(&self) -> &Answers {
+        &**self
+    }
+}
+
 /// Creates the whole numbers from 0 on, as far as the answers allow.
 #[derive(Drop)]
-pub struct ScriptManager<'a> {
-    answers: &'a Answers,
+pub struct ScriptManager<H: HasAnswers> {
+    told: H,
     next_value: Cell<u64>,
 }
 
-impl<'a> ScriptManager<'a> {
+impl<H: HasAnswers> ScriptManager<H> {
     /// A manager that has created nothing yet.
-    pub fn new(answers: &'a Answers) -> Self {
+    pub fn new(told: H) -> Self {
         ScriptManager {
-            answers,
+            told,
             next_value: Cell::new(0),
         }
     }
 }
 
-impl<'a> Manager for ScriptManager<'a> {
+impl<H: HasAnswers> Manager for ScriptManager<H> {
     type Type = u64;
 
     type Error = Refused;
@@ -137,12 +155,12 @@ impl<'a> Manager for ScriptManager<'a> {
     type Recycling = ();
 
     fn create(&self) -> () {
-        count(&self.answers.calls.created);
+        count(&self.told.answers().calls.created);
     }
 
     fn poll_create(&self, _creating: &mut (), _cx: &mut Context<'_>) -> Poll<Result<u64, Refused>> {
-        count(&self.answers.calls.polled);
-        match self.answers.next(Kind::Create) {
+        count(&self.told.answers().calls.polled);
+        match self.told.answers().next(Kind::Create) {
             Answer::Pending => Poll::Pending,
             Answer::Refuse => Poll::Ready(Err(Refused)),
             // A script says `add` only if there is a value.
@@ -155,7 +173,7 @@ impl<'a> Manager for ScriptManager<'a> {
     }
 
     fn recycle(&self, _value: &mut u64, _metrics: &Metrics) -> () {
-        count(&self.answers.calls.recycled);
+        count(&self.told.answers().calls.recycled);
     }
 
     fn poll_recycle(
@@ -165,8 +183,8 @@ impl<'a> Manager for ScriptManager<'a> {
         _metrics: &Metrics,
         _cx: &mut Context<'_>,
     ) -> Poll<RecycleResult<Refused>> {
-        count(&self.answers.calls.polled);
-        match self.answers.respond(Kind::Recycle, value) {
+        count(&self.told.answers().calls.polled);
+        match self.told.answers().respond(Kind::Recycle, value) {
             Poll::Pending => Poll::Pending,
             Poll::Ready(Ok(())) => Poll::Ready(Ok(())),
             Poll::Ready(Err(cause)) => Poll::Ready(Err(RecycleError::Backend(cause))),
@@ -174,25 +192,25 @@ impl<'a> Manager for ScriptManager<'a> {
     }
 
     fn detach(&self, _value: &mut u64) {
-        count(&self.answers.calls.detached);
+        count(&self.told.answers().calls.detached);
     }
 }
 
 /// A hook that answers as the script says.
 #[derive(Drop)]
-pub struct ScriptHook<'a> {
-    answers: &'a Answers,
+pub struct ScriptHook<H: HasAnswers> {
+    told: H,
     kind: Kind,
 }
 
-impl<'a> ScriptHook<'a> {
+impl<H: HasAnswers> ScriptHook<H> {
     /// The hook whose answers are of this kind.
-    pub fn new(answers: &'a Answers, kind: Kind) -> Self {
-        ScriptHook { answers, kind }
+    pub fn new(told: H, kind: Kind) -> Self {
+        ScriptHook { told, kind }
     }
 }
 
-impl<'a> AsyncHook<ScriptManager<'a>> for ScriptHook<'a> {
+impl<H: HasAnswers> AsyncHook<ScriptManager<H>> for ScriptHook<H> {
     type State = ();
 
     fn begin(&self, _value: &mut u64, _metrics: &Metrics) -> () {}
@@ -204,7 +222,7 @@ impl<'a> AsyncHook<ScriptManager<'a>> for ScriptHook<'a> {
         _metrics: &Metrics,
         _cx: &mut Context<'_>,
     ) -> Poll<HookResult<Refused>> {
-        match self.answers.respond(self.kind, value) {
+        match self.told.answers().respond(self.kind, value) {
             Poll::Pending => Poll::Pending,
             Poll::Ready(Ok(())) => Poll::Ready(Ok(())),
             Poll::Ready(Err(Refused)) => Poll::Ready(Err(HookError::message(REFUSED))),

@@ -7,7 +7,7 @@ use std::alloc::{AllocError, Global};
 use std::fmt;
 
 /// A script's managed pool.
-pub type ManagedTrial<'a> = Trial<ScriptManager<'a>, NoHook, ScriptHook<'a>, ()>;
+pub type ManagedTrial<'a> = Trial<ScriptManager<&'a Answers>, NoHook, ScriptHook<&'a Answers>, ()>;
 
 /// A script's unmanaged pool.
 pub type UnmanagedTrial = unmanaged::Trial<u64>;
@@ -132,6 +132,6 @@ fn read_config(alloc: Global, json: &[u8]) -> Result<PoolConfig, Refusal> {
     }
 }
 
-fn hook(answers: &Answers, kind: Kind) -> Hook<NoHook, ScriptHook<'_>> {
+fn hook(answers: &Answers, kind: Kind) -> Hook<NoHook, ScriptHook<&Answers>> {
     Hook::async_fn(ScriptHook::new(answers, kind))
 }

@@ -54,10 +54,7 @@ impl Runtime {
 
 impl fmt::Debug for Runtime {
     fn fmt(&self, f: &mut fmt::Formatter<'_>) -> fmt::Result {
-        f.write_str(match self {
-            Runtime::Thread => "Thread",
-            Runtime::Timers(_) => "Timers",
-        })
+        f.write_str(if matches!(self, Runtime::Thread) { "Thread" } else { "Timers" })
     }
 }
 
@@ -85,8 +82,7 @@ fn serve() {
             reached.into_iter().for_each(|(_, waker)| waker.wake());
             waiting = wakers();
         } else {
-            let waited = HAVE_CHANGED.wait_timeout(waiting, left);
-            waiting = waited.unwrap_or_else(PoisonError::into_inner).0;
+            waiting = HAVE_CHANGED.wait_timeout(waiting, left).unwrap_or_else(PoisonError::into_inner).0;
         }
     }
 }

@@ -4,9 +4,10 @@
 use crate::sys::{Desk, Reply};
 use crate::table::Table;
 use crate::waiting::Wakers;
+use std::hint::spin_loop;
 use std::iter::from_fn;
 use std::ops::Deref;
-use std::sync::{Arc, Mutex, MutexGuard, PoisonError};
+use std::sync::{Arc, Mutex, MutexGuard, PoisonError, TryLockError};
 use std::task::Waker;
 
 pub(crate) struct State<D, V> {
@@ -34,8 +35,16 @@ pub(crate) struct Shared<C, D, V> {
 }
 
 impl<C, D: Desk, V> Shared<C, D, V> {
-    /// The state, for a look at it. No step is left half done by a panic.
+    /// The state, for a look at it. No step is left half done by a panic. A step is shorter than a call of the system, so a thread
+    /// that finds the lock taken tries it again, after ever longer pauses of some microseconds in all, before it sleeps.
     pub(crate) fn look(&self) -> MutexGuard<'_, State<D, V>> {
+        for pause in 4..9 {
+            match self.state.try_lock() {
+                Ok(state) => return state,
+                Err(TryLockError::Poisoned(state)) => return state.into_inner(),
+                Err(TryLockError::WouldBlock) => (0..1 << pause).for_each(|_| spin_loop()),
+            }
+        }
         self.state.lock().unwrap_or_else(PoisonError::into_inner)
     }
 

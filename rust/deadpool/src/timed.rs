@@ -22,8 +22,7 @@ impl Alarm {
     }
 
     pub(crate) fn is_over(&mut self, cx: &mut Context<'_>) -> bool {
-        let is_over = |sleep: &mut Sleep| sleep.as_mut().poll(cx).is_ready();
-        self.is_over = self.is_over || self.sleep.as_mut().is_some_and(is_over);
+        self.is_over = self.is_over || self.sleep.as_mut().is_some_and(|sleep| sleep.as_mut().poll(cx).is_ready());
         self.is_over
     }
 }

@@ -79,11 +79,11 @@ impl<C, D: Desk, V> Waiting<'_, C, D, V> {
 impl<C, D: Desk, V> Drop for Waiting<'_, C, D, V> {
     fn drop(&mut self) {
         if let Some(ticket) = self.ticket {
-            let stale = self.pool.step(|state| {
+            // (the waker is dropped once the lock is given back)
+            drop(self.pool.step(|state| {
                 (self.cancel)(&mut state.desk, ticket);
                 (self.wakers)(state).take(ticket)
-            });
-            drop(stale);
+            }));
         }
     }
 }

@@ -98,6 +98,46 @@ fn post_recycle_refuses_an_object() {
     each_is_used_twice(builder(0).post_recycle(Hook::sync_fn(refuse_used)));
 }
 
+/// A hook that appends a digit to the number that it sees.
+fn append(digit: usize) -> Hook<Numbers> {
+    Hook::sync_fn(move |value: &mut usize, _: &Metrics| -> Answer {
+        *value = *value * 10 + digit;
+        Ok(())
+    })
+}
+
+#[test]
+fn hooks_of_a_list_see_an_object_in_turn() {
+    let builder = builder(0).post_create(append(1)).post_create(append(2)).pre_recycle(append(3));
+    let builder = builder.pre_recycle(append(4)).post_recycle(append(5)).post_recycle(append(6));
+    let pool = builder.build().expect("a pool");
+    assert_eq!(*block_on(pool.get()).expect("an object"), 12);
+    assert_eq!(*block_on(pool.get()).expect("an object"), 123456);
+}
+
+#[test]
+fn hooks_behind_one_that_refuses_are_not_asked() {
+    let calls = std::sync::Arc::new(AtomicUsize::new(0));
+    let count = || {
+        let calls = calls.clone();
+        Hook::sync_fn(move |_: &mut usize, _: &Metrics| -> Answer {
+            calls.fetch_add(1, Ordering::SeqCst);
+            Ok(())
+        })
+    };
+    let refuse = || Hook::sync_fn(|_: &mut usize, _: &Metrics| -> Answer { Err(HookError::message("no")) });
+    let pool = builder(0).post_create(refuse()).post_create(count()).build().expect("a pool");
+    assert!(matches!(block_on(pool.get()), Err(PoolError::PostCreateHook(_))));
+    let before = builder(0).pre_recycle(refuse()).pre_recycle(count()).post_recycle(count());
+    let behind = builder(0).post_recycle(refuse()).post_recycle(count());
+    for pool in [before, behind].map(|it| it.build().expect("a pool")) {
+        for value in [0, 1] {
+            assert_eq!(*block_on(pool.get()).expect("an object"), value);
+        }
+    }
+    assert_eq!(calls.load(Ordering::SeqCst), 0);
+}
+
 #[test]
 fn errors_have_their_texts_and_causes() {
     use std::error::Error;

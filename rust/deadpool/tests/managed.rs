@@ -235,37 +235,3 @@ fn a_shrink_and_a_retain_keep_the_least_number_of_idle_objects() {
     pool.resize(1);
     assert_eq!(pool.status(), Status { max_size: 1, size: 1, available: 1, waiting: 0 });
 }
-
-#[test]
-fn a_journal_has_each_step_with_its_reply() {
-    let pool: Pool<Numbers> = Pool::builder(Numbers::default()).max_size(1).journal(12).build().expect("a pool");
-    let held = block_on(pool.get()).expect("an object");
-    let mut waiter = Task::new(pool.get());
-    assert!(waiter.poll().is_pending());
-    drop(held);
-    drop(block_on(async { waiter.poll() }));
-    assert_eq!(pool.status().max_size, 1);
-    drop(waiter);
-    assert_eq!(pool.retain(|_, _| false).removed, [0]);
-    pool.resize(3);
-    pool.close();
-    let journal = pool.journal();
-    let entries = [
-        "enter create",
-        "created 0",
-        "enter waiting 0",
-        "back 0 kept",
-        "ask 0 object 0 left 0",
-        "back 0 kept",
-        "status 1 1 1 0",
-        "retain removed 0@0",
-        "resize 3 done",
-        "close done",
-    ];
-    assert_eq!(journal.entries, entries);
-    assert!(!journal.is_full);
-    assert!(matches!(block_on(pool.get()), Err(PoolError::Closed)));
-    drop(pool.clone());
-    assert!(pool.journal().is_full);
-    assert!(pool.journal().to_string().ends_with("enter closed\nclone_handle done\nfull"));
-}

@@ -1,12 +1,15 @@
 //! User code that panics. No place is lost by it.
 mod common;
 
-use common::{Numbers, Task, block_on, counts};
-use deadpool::managed::{Hook, Manager, Metrics, Pool, PoolBuilder, RecycleResult};
+use common::{Numbers, Task, block_on, counts, pause};
+use deadpool::managed::{Hook, Manager, Metrics, Object, Pool, PoolBuilder, RecycleError, RecycleResult};
 use deadpool::unmanaged;
 use std::convert::Infallible;
 use std::panic::{AssertUnwindSafe, catch_unwind};
 use std::sync::atomic::{AtomicBool, Ordering};
+use std::task::{Context, RawWaker, RawWakerVTable, Waker};
+use std::thread;
+use std::time::Duration;
 
 fn panics<R>(call: impl FnOnce() -> R) {
     assert!(catch_unwind(AssertUnwindSafe(call)).is_err(), "the call panics");
@@ -82,6 +85,27 @@ fn a_predicate_that_panics_removes_nothing() {
     assert_eq!(*block_on(pool.get()).expect("an object"), 1);
 }
 
+#[test]
+fn a_lock_under_which_a_predicate_has_panicked_is_waited_for() {
+    let pool: Pool<Numbers> = Pool::builder(Numbers::default()).max_size(2).build().expect("a pool");
+    drop([block_on(pool.get()).expect("an object"), block_on(pool.get()).expect("an object")]);
+    panics(|| pool.retain(|_, _| panic!("on purpose")));
+    let is_asked = AtomicBool::new(false);
+    thread::scope(|scope| {
+        scope.spawn(|| {
+            pool.retain(|_, _| {
+                is_asked.store(true, Ordering::SeqCst);
+                thread::sleep(Duration::from_millis(30));
+                true
+            })
+        });
+        while !is_asked.load(Ordering::SeqCst) {
+            thread::yield_now();
+        }
+        assert_eq!(counts(pool.status()), [2, 2, 0]);
+    });
+}
+
 /// Panics when it is dropped.
 struct Bomb(bool);
 
@@ -131,4 +155,163 @@ fn objects_that_a_resize_drops_may_panic() {
     assert_eq!(counts(pool.status()), [0, 0, 0]);
     pool.resize(1);
     assert!(block_on(pool.get()).is_ok());
+}
+
+/// Is pending once, and then panics or refuses as it is told to. It panics at each detach that it is told to.
+#[derive(Default)]
+struct Late {
+    create: AtomicBool,
+    recycle: AtomicBool,
+    refuse: AtomicBool,
+    detach: AtomicBool,
+}
+
+impl Manager for Late {
+    type Type = u8;
+    type Error = ();
+
+    async fn create(&self) -> Result<u8, ()> {
+        pause().await;
+        panic_if(&self.create);
+        Ok(0)
+    }
+
+    async fn recycle(&self, _: &mut u8, _: &Metrics) -> RecycleResult<()> {
+        pause().await;
+        panic_if(&self.recycle);
+        if self.refuse.swap(false, Ordering::SeqCst) { Err(RecycleError::Backend(())) } else { Ok(()) }
+    }
+
+    fn detach(&self, _: &mut u8) {
+        panic_if(&self.detach);
+    }
+}
+
+fn late(max_size: usize) -> Pool<Late> {
+    Pool::builder(Late::default()).max_size(max_size).build().expect("a pool")
+}
+
+/// The one place of a pool is free: a get has it, and one that waited was woken.
+fn is_served(pool: &Pool<Late>, waits: Task<'_, impl Sized>) {
+    assert_eq!(waits.woken(), 1);
+    drop(waits);
+    drop(block_on(pool.get()).expect("the place is free"));
+    assert_eq!(counts(pool.status()), [1, 1, 0]);
+}
+
+fn begun<'a>(pool: &'a Pool<Late>) -> Task<'a, impl Sized + use<'a>> {
+    let mut get = Task::new(pool.get());
+    assert!(get.poll().is_pending());
+    get
+}
+
+#[test]
+fn a_manager_that_panics_late_wakes_the_next() {
+    let pool = late(1);
+    let mut get = Task::new(pool.get());
+    assert!(get.poll().is_pending());
+    let waits = begun(&pool);
+    pool.manager().create.store(true, Ordering::SeqCst);
+    panics(|| get.poll());
+    drop(get);
+    is_served(&pool, waits);
+    let mut get = Task::new(pool.get());
+    assert!(get.poll().is_pending());
+    let waits = begun(&pool);
+    pool.manager().recycle.store(true, Ordering::SeqCst);
+    panics(|| get.poll());
+    drop(get);
+    is_served(&pool, waits);
+}
+
+#[test]
+fn a_detach_that_panics_holds_no_place() {
+    let pool = late(1);
+    let get = || block_on(pool.get()).expect("an object");
+    let told = || pool.manager().detach.store(true, Ordering::SeqCst);
+    // A get gives an object up that is not recycled, and its place then.
+    drop(get());
+    told();
+    pool.manager().refuse.store(true, Ordering::SeqCst);
+    panics(|| block_on(pool.get()).map(drop));
+    assert_eq!(counts(pool.status()), [0, 0, 0]);
+    // One is dropped while its object is recycled.
+    drop(get());
+    let under_way = begun(&pool);
+    let waits = begun(&pool);
+    told();
+    panics(|| drop(under_way));
+    is_served(&pool, waits);
+    // An object is taken, and one comes back that is above the limit.
+    let held = get();
+    let waits = begun(&pool);
+    told();
+    panics(|| Object::take(held));
+    is_served(&pool, waits);
+    let held = get();
+    pool.resize(0);
+    told();
+    panics(|| drop(held));
+    assert_eq!(counts(pool.status()), [0, 0, 0]);
+    // A retain gives two up.
+    pool.resize(2);
+    drop([get(), get()]);
+    told();
+    panics(|| pool.retain(|_, _| false));
+    assert_eq!(counts(pool.status()), [0, 0, 0]);
+    drop([get(), get()]);
+    assert_eq!(counts(pool.status()), [2, 2, 0]);
+}
+
+#[test]
+fn what_a_panic_drops_is_given_back() {
+    let pool = late(3);
+    let kept = block_on(pool.get()).expect("an object");
+    let held = block_on(pool.get()).expect("an object");
+    let other = pool.clone();
+    let preparing = begun(&pool);
+    let waits = begun(&pool);
+    assert_eq!(counts(pool.status()), [2, 0, 2]);
+    panics(|| {
+        let _dropped = (held, preparing, waits, other);
+        panic!("on purpose")
+    });
+    assert_eq!(counts(pool.status()), [2, 1, 0]);
+    drop(pool);
+    assert!(Object::pool(&kept).is_none());
+    let pool = unmanaged::Pool::from([1]);
+    let held = pool.try_get().expect("an object");
+    let mut gets = [Task::new(pool.get()), Task::new(pool.get())];
+    let mut adds = [Task::new(pool.add(2)), Task::new(pool.add(3))];
+    assert!(gets.iter_mut().all(|get| get.poll().is_pending()) && adds.iter_mut().all(|add| add.poll().is_pending()));
+    let ([get, other_get], [add, other_add]) = (gets, adds);
+    panics(|| {
+        let _dropped = (held, get, add);
+        panic!("on purpose")
+    });
+    assert_eq!(counts(pool.status()), [1, 1, 1]);
+    assert_eq!(pool.try_remove(), Err(unmanaged::PoolError::Timeout));
+    drop(other_get);
+    assert_eq!(pool.try_remove(), Ok(1));
+    assert!(other_add.ready().is_ok());
+}
+
+/// A waker that cannot be cloned.
+fn unclonable() -> Waker {
+    const TABLE: RawWakerVTable = RawWakerVTable::new(|_| panic!("on purpose"), |_| (), |_| (), |_| ());
+    // SAFETY: the table's calls look at nothing.
+    unsafe { Waker::from_raw(RawWaker::new(std::ptr::null(), &TABLE)) }
+}
+
+#[test]
+fn a_waker_that_panics_leaves_no_one_in_the_queue() {
+    let pool: Pool<Numbers> = Pool::builder(Numbers::default()).max_size(1).build().expect("a pool");
+    let held = block_on(pool.get()).expect("an object");
+    let waker = unclonable();
+    let mut get = Box::pin(pool.get());
+    panics(|| get.as_mut().poll(&mut Context::from_waker(&waker)).is_pending());
+    drop(get);
+    assert_eq!(counts(pool.status()), [1, 0, 0]);
+    drop(held);
+    assert_eq!(*block_on(pool.get()).expect("the place is free"), 0);
 }

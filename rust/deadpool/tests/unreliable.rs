@@ -56,6 +56,31 @@ fn objects_that_are_not_recycled_are_detached() {
     assert_eq!(counts(pool.status()), [1, 1, 0]);
 }
 
+/// Makes numbers, and recycles each twice.
+#[derive(Default)]
+struct Wearing(AtomicUsize);
+
+impl Manager for Wearing {
+    type Type = usize;
+    type Error = &'static str;
+
+    async fn create(&self) -> Result<usize, &'static str> {
+        Ok(self.0.fetch_add(1, Ordering::SeqCst))
+    }
+
+    async fn recycle(&self, _: &mut usize, metrics: &Metrics) -> RecycleResult<&'static str> {
+        assert_eq!(metrics.recycled.is_some(), metrics.recycle_count > 0);
+        if metrics.recycle_count == 2 { Err(RecycleError::message("worn out")) } else { Ok(()) }
+    }
+}
+
+#[test]
+fn a_manager_sees_what_is_known_of_an_object() {
+    let pool: Pool<Wearing> = Pool::builder(Wearing::default()).max_size(1).build().expect("a pool");
+    let values: Vec<_> = (0..7).map(|_| *block_on(pool.get()).expect("an object")).collect();
+    assert_eq!(values, [0, 0, 0, 1, 1, 1, 2]);
+}
+
 /// Creates once its door is open: at first it refuses, and then it does not.
 struct Late {
     door: Door,

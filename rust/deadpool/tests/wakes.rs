@@ -1,15 +1,12 @@
-//! Who is woken, and that no waker is called and no value dropped under the lock.
+//! Who is woken, and when.
 mod common;
 
-use common::{Numbers, Task, block_on, is_answered};
-use deadpool::managed::{Manager, Metrics, Pool, RecycleResult, WeakPool};
+use common::{Count, Numbers, Task, block_on, pause};
+use deadpool::managed::{Hook, HookError, HookFuture, Metrics, Object, Pool, PoolBuilder, PoolError};
 use deadpool::unmanaged;
+use std::cell::RefCell;
 use std::convert::Infallible;
-use std::future::Future;
-use std::pin::pin;
-use std::sync::atomic::{AtomicUsize, Ordering};
-use std::sync::{Arc, Mutex, OnceLock};
-use std::task::{Context, Wake, Waker};
+use std::task::{Context, Poll};
 
 #[test]
 fn the_one_that_waits_longest_is_woken() {
@@ -41,157 +38,120 @@ fn a_larger_limit_wakes_as_many_as_it_serves() {
     assert_eq!(tasks.iter().map(Task::woken).collect::<Vec<_>>(), [1, 1, 1, 0]);
 }
 
-/// Asks the pool how it stands when it is woken, which takes the lock.
-struct Curious(Mutex<Option<Box<dyn FnOnce() + Send>>>);
-
-impl Curious {
-    fn waker(ask: impl FnOnce() + Send + 'static) -> Waker {
-        Waker::from(Arc::new(Curious(Mutex::new(Some(Box::new(ask))))))
-    }
+fn one(manager: Numbers) -> PoolBuilder<Numbers> {
+    Pool::builder(manager).max_size(1)
 }
 
-impl Wake for Curious {
-    fn wake(self: Arc<Self>) {
-        let ask = self.0.lock().expect("no panic").take();
-        assert!(is_answered(ask.expect("a wake comes once")), "a waker is called under the lock");
-    }
-}
-
-#[test]
-fn a_waker_may_call_the_pool() {
-    let pool: Pool<Numbers> = Pool::builder(Numbers::default()).max_size(1).build().expect("a pool");
-    let held = block_on(pool.get()).expect("an object");
-    let asked = pool.clone();
-    let waker = Curious::waker(move || assert_eq!(asked.status().max_size, 1));
-    let mut get = pin!(pool.get());
-    assert!(get.as_mut().poll(&mut Context::from_waker(&waker)).is_pending());
-    drop(held);
-    assert!(get.as_mut().poll(&mut Context::from_waker(&waker)).is_ready());
+/// A get that waits is woken once by what is done with the place that another one has.
+fn wakes_by<T>(pool: &Pool<Numbers>, hold: impl FnOnce(&Pool<Numbers>) -> T, free: impl FnOnce(T)) {
+    let held = hold(pool);
+    let mut waits = Task::new(pool.get());
+    assert!(waits.poll().is_pending());
+    assert_eq!(waits.woken(), 0);
+    free(held);
+    assert_eq!(waits.woken(), 1);
+    assert!(matches!(waits.poll(), Poll::Ready(Ok(_))));
 }
 
 #[test]
-fn a_waker_may_call_an_unmanaged_pool() {
+fn each_place_that_is_given_back_wakes_one() {
+    let get = |pool: &Pool<Numbers>| block_on(pool.get()).expect("an object");
+    let pool = one(Numbers::default()).build().expect("a pool");
+    wakes_by(&pool, get, drop);
+    wakes_by(&pool, get, |held| _ = Object::take(held));
+    // It is above the limit, so that its return gives it up.
+    let pool = one(Numbers::default()).max_size(2).build().expect("a pool");
+    let (first, second) = (get(&pool), get(&pool));
+    pool.resize(1);
+    drop(second);
+    wakes_by(&pool, |_| first, drop);
+}
+
+fn slow<'a>(value: &'a mut usize, _: &'a Metrics) -> HookFuture<'a, Infallible> {
+    let refuses = *value == 0;
+    Box::pin(async move {
+        pause().await;
+        if refuses { Err(HookError::message("the first")) } else { Ok(()) }
+    })
+}
+
+#[test]
+fn a_get_that_ends_without_an_object_wakes_the_next() {
+    fn begun(pool: &Pool<Numbers>) -> Task<'_, Result<Object<Numbers>, PoolError<Infallible>>> {
+        let mut get = Task::new(pool.get());
+        assert!(get.poll().is_pending());
+        get
+    }
+    let waits = |pool: &Pool<Numbers>, free: fn(&mut Task<'_, Result<Object<Numbers>, _>>)| {
+        let mut get = begun(pool);
+        let mut next = Task::new(pool.get());
+        assert!(next.poll().is_pending());
+        free(&mut get);
+        drop(get);
+        assert_eq!(next.woken(), 1);
+    };
+    // It is dropped while a hook sees its object, which is new.
+    waits(&one(Numbers::default()).post_create(Hook::async_fn(slow)).build().expect("a pool"), |_| ());
+    // The hook refuses its object.
+    waits(&one(Numbers::default()).post_create(Hook::async_fn(slow)).build().expect("a pool"), |get| {
+        assert!(matches!(get.poll(), Poll::Ready(Err(PoolError::PostCreateHook(_)))));
+        assert!(get.woken() > 0);
+    });
+    // It is dropped while a hook sees its object, which was idle.
+    let pool = one(Numbers::default()).pre_recycle(Hook::async_fn(slow)).build().expect("a pool");
+    drop(block_on(pool.get()).expect("an object"));
+    waits(&pool, |_| ());
+}
+
+#[test]
+fn each_step_of_an_unmanaged_pool_wakes_the_one_that_it_serves() {
+    let pool = unmanaged::Pool::new(1);
+    let wakes_a_get = |free: &dyn Fn()| {
+        let mut get = Task::new(pool.get());
+        assert!(get.poll().is_pending());
+        free();
+        assert_eq!(get.woken(), 1);
+        get.ready().expect("an object")
+    };
+    let held = wakes_a_get(&|| pool.try_add(1).expect("there is room"));
+    let held = RefCell::new(Some(held));
+    assert_eq!(*wakes_a_get(&|| drop(held.take())), 1);
+    assert_eq!(pool.try_remove(), Ok(1));
+    assert_eq!(*wakes_a_get(&|| Task::new(pool.add(2)).ready().expect("there is room")), 2);
+    let wakes_an_add = |free: &dyn Fn()| {
+        let mut add = Task::new(pool.add(3));
+        assert!(add.poll().is_pending());
+        free();
+        assert_eq!(add.woken(), 1);
+        add.ready().expect("there is room");
+    };
+    wakes_an_add(&|| _ = unmanaged::Object::take(pool.try_get().expect("an object")));
+    wakes_an_add(&|| assert_eq!(pool.try_remove(), Ok(3)));
+}
+
+#[test]
+fn a_close_wakes_gets_and_adds() {
     let pool = unmanaged::Pool::from([1]);
     let held = pool.try_get().expect("an object");
-    let asked = pool.clone();
-    let waker = Curious::waker(move || assert_eq!(asked.status().size, 1));
-    let mut get = pin!(pool.get());
-    assert!(get.as_mut().poll(&mut Context::from_waker(&waker)).is_pending());
+    let mut gets = [Task::new(pool.get()), Task::new(pool.get())];
+    assert!(gets.iter_mut().all(|get| get.poll().is_pending()));
+    let mut adds = [Task::new(pool.add(2)), Task::new(pool.add(3))];
+    assert!(adds.iter_mut().all(|add| add.poll().is_pending()));
+    pool.close();
+    assert_eq!(gets.iter().map(Task::woken).collect::<Vec<_>>(), [1, 1]);
+    assert_eq!(adds.iter().map(Task::woken).collect::<Vec<_>>(), [1, 1]);
     drop(held);
-    assert!(get.as_mut().poll(&mut Context::from_waker(&waker)).is_ready());
-}
-
-/// A waker that asks the pool how it stands when it is dropped, and notes how often it had an answer.
-struct Parting {
-    pool: WeakPool<Numbers>,
-    answered: Arc<AtomicUsize>,
-}
-
-impl Wake for Parting {
-    fn wake(self: Arc<Self>) {}
-}
-
-impl Drop for Parting {
-    fn drop(&mut self) {
-        let pool = self.pool.clone();
-        let ask = move || _ = pool.upgrade().map(|pool| pool.status());
-        assert!(is_answered(ask), "a waker is dropped under the lock");
-        self.answered.fetch_add(1, Ordering::SeqCst);
-    }
 }
 
 #[test]
-fn a_waker_that_is_not_needed_any_more_is_dropped_without_the_lock() {
-    let pool: Pool<Numbers> = Pool::builder(Numbers::default()).max_size(0).build().expect("a pool");
-    let answered = Arc::new(AtomicUsize::new(0));
-    let waker = || Waker::from(Arc::new(Parting { pool: pool.weak(), answered: answered.clone() }));
+fn one_that_is_polled_again_is_woken_by_its_last_waker() {
+    let pool = one(Numbers::default()).build().expect("a pool");
+    let held = block_on(pool.get()).expect("an object");
     let mut get = Box::pin(pool.get());
-    for replaced in [0, 1] {
-        assert!(get.as_mut().poll(&mut Context::from_waker(&waker())).is_pending());
-        assert_eq!(answered.load(Ordering::SeqCst), replaced);
+    let wakers = [Count::waker(), Count::waker()];
+    for (waker, _) in &wakers {
+        assert!(get.as_mut().poll(&mut Context::from_waker(waker)).is_pending());
     }
-    drop(get);
-    assert_eq!(answered.load(Ordering::SeqCst), 2);
-}
-
-/// A value that asks its pool how it stands when it is dropped, and notes how often it had an answer.
-struct Asks {
-    ask: Arc<OnceLock<Box<dyn Fn() + Send + Sync>>>,
-    answered: Arc<AtomicUsize>,
-}
-
-impl Drop for Asks {
-    fn drop(&mut self) {
-        let ask = self.ask.clone();
-        assert!(is_answered(move || ask.get().expect("a pool")()), "a value is dropped under the lock");
-        self.answered.fetch_add(1, Ordering::SeqCst);
-    }
-}
-
-#[derive(Default)]
-struct AskMaker {
-    ask: Arc<OnceLock<Box<dyn Fn() + Send + Sync>>>,
-    answered: Arc<AtomicUsize>,
-}
-
-impl AskMaker {
-    fn make(&self) -> Asks {
-        Asks { ask: self.ask.clone(), answered: self.answered.clone() }
-    }
-
-    fn answered(&self) -> usize {
-        self.answered.load(Ordering::SeqCst)
-    }
-}
-
-impl Manager for AskMaker {
-    type Type = Asks;
-    type Error = Infallible;
-
-    async fn create(&self) -> Result<Asks, Infallible> {
-        Ok(self.make())
-    }
-
-    async fn recycle(&self, _: &mut Asks, _: &Metrics) -> RecycleResult<Infallible> {
-        Ok(())
-    }
-}
-
-#[test]
-fn values_of_a_managed_pool_are_dropped_without_the_lock() {
-    let pool: Pool<AskMaker> = Pool::builder(AskMaker::default()).max_size(6).build().expect("a pool");
-    let weak = pool.weak();
-    let ask = move || _ = weak.upgrade().map(|pool| pool.status());
-    assert!(pool.manager().ask.set(Box::new(ask)).is_ok());
-    let mut out: Vec<_> = (0..6).map(|_| block_on(pool.get()).expect("an object")).collect();
-    let kept = out.split_off(5);
-    drop(out);
-    pool.resize(4);
-    assert_eq!(pool.manager().answered(), 2);
-    let mut asked = 0;
-    drop(pool.retain(|_, _| {
-        asked += 1;
-        asked > 1
-    }));
-    assert_eq!(pool.manager().answered(), 3);
-    pool.close();
-    assert_eq!(pool.manager().answered(), 5);
-    drop(kept);
-    assert_eq!(pool.manager().answered(), 6);
-}
-
-#[test]
-fn values_of_an_unmanaged_pool_are_dropped_without_the_lock() {
-    let maker = AskMaker::default();
-    let pool = unmanaged::Pool::from([maker.make(), maker.make(), maker.make()]);
-    let asked = pool.clone();
-    let ask = move || _ = asked.status();
-    assert!(maker.ask.set(Box::new(ask)).is_ok());
-    let kept = pool.try_get().expect("an object");
-    drop(unmanaged::Object::take(pool.try_get().expect("an object")));
-    assert_eq!(maker.answered(), 1);
-    pool.close();
-    assert_eq!(maker.answered(), 2);
-    drop(kept);
-    assert_eq!(maker.answered(), 3);
+    drop(held);
+    assert_eq!(wakers.map(|(_, woken)| woken.get()), [0, 1]);
 }

@@ -2,17 +2,18 @@
 """make.py POOLRUN COUNT: writes COUNT random scripts of each kind with the replies of the program POOLRUN.
 
 managed.txt and unmanaged.txt were made with a COUNT of 1500 over a build of crates/poolrun without a proof; `rt run` there leaves a
-proved one, out/poolrun. The lines are chosen by a generator with a fixed seed, which knows nothing of a pool: only how many parties
-it has started, and how many handles it has taken. The replies are those of poolrun, none is written by hand.
+proved one, out/poolrun. The lines are chosen by a generator with a fixed seed, which knows nothing of a pool. It notes of each reply
+whether an object was handed out and whether a party has ended, so that most lines name an object that is out or a party that
+goes on; some name others. The replies are those of poolrun, none is written by hand.
 """
 import os
 import random
 import subprocess
 import sys
 
-MANAGED = ["start"] * 6 + ["timed"] * 2 + ["poll"] * 12 + ["cancel"] * 2 + ["back"] * 6 + ["take", "put", "resize", "resize",
-           "retain", "status", "status", "status", "clone", "drop", "upgrade"] + ["answer"] * 4 + ["rare"]
-UNMANAGED = ["get"] * 4 + ["timed"] * 2 + ["add"] * 5 + ["poll"] * 10 + ["tryget"] * 3 + ["tryadd"] * 3 + ["cancel"] * 2 + \
+MANAGED = ["start"] * 4 + ["timed"] * 2 + ["poll"] * 16 + ["cancel"] * 2 + ["back"] * 6 + ["take", "put", "resize", "resize",
+           "retain", "status", "status", "status", "clone", "drop", "upgrade"] + ["answer"] * 5 + ["rare"]
+UNMANAGED = ["get"] * 3 + ["timed"] * 2 + ["add"] * 3 + ["poll"] * 14 + ["tryget"] * 3 + ["tryadd"] * 3 + ["cancel"] * 2 + \
             ["back"] * 6 + ["take"] * 2 + ["status"] * 3 + ["clone", "drop", "rare"]
 WORDS = {"create": ["ok", "pending", "refuse"], "recycle": ["ok", "pending", "refuse", "add"], "pre": ["ok", "pending", "refuse", "add"],
          "post": ["ok", "pending", "refuse", "add"], "postcreate": ["ok", "pending", "refuse", "add"]}
@@ -21,15 +22,46 @@ WORDS = {"create": ["ok", "pending", "refuse"], "recycle": ["ok", "pending", "re
 class Script:
     def __init__(self, dice):
         self.dice, self.parties, self.now, self.handles = dice, 0, 0, 1
+        self.going, self.out, self.seen = [], [], []
 
     def party(self):
+        if self.going and self.dice.random() < 0.95:
+            return self.dice.choice(self.going)
         return self.dice.randrange(max(1, self.parties + (self.dice.random() < 0.05)))
 
     def object(self):
+        if self.out and self.dice.random() < 0.95:
+            return self.dice.choice(self.out)
         return self.dice.randrange(8) + self.first
 
+    def seen_object(self):
+        return self.dice.choice(self.seen) if self.seen and self.dice.random() < 0.9 else self.object()
+
+    def next_line(self):
+        """A line, seldom one that names what is not there."""
+        while True:
+            line = self.line()
+            kind, *words = line.split()
+            named = {"poll": self.going, "cancel": self.going, "back": self.out, "take": self.out, "put": self.out}.get(kind)
+            if named is None or int(words[0]) in named or self.dice.random() < 0.03:
+                return line
+
+    def note(self, line, reply):
+        """Notes what a reply says of parties and of objects that are out."""
+        kind, *words = line.split()
+        named = int(words[0]) if words and words[0].isdigit() else None
+        if kind in ("start", "get", "add") and reply.startswith("party "):
+            self.going.append(int(reply.split()[1]))
+        if kind == "cancel" or (kind == "poll" and reply not in ("pending", "no such")):
+            self.going = [party for party in self.going if party != named]
+        if kind in ("back", "take"):
+            self.out = [number for number in self.out if number != named]
+        if reply.startswith("object "):
+            self.out.append(int(reply.split()[1]))
+            self.seen.append(self.out[-1])
+
     def wait(self):
-        return self.dice.choice(["-", "-", "0", "1", "5", "20"])
+        return self.dice.choice(["-", "-", "0", "1", "5", "5", "20"])
 
     def common(self, kind):
         dice = self.dice
@@ -59,7 +91,7 @@ class Managed(Script):
         dice = self.dice
         self.first = dice.choice([0, 0, 0, 7])
         floor = dice.choice(["", "", f" {dice.randrange(3)}"])
-        return f"pool {dice.randrange(5)} {dice.choice(['fifo', 'lifo'])} {dice.choice(['none', 'clock'])} {self.first}{floor}"
+        return f"pool {dice.choice([0, 1, 1, 2, 2, 3, 4])} {dice.choice(['fifo', 'lifo'])} {dice.choice(['none', 'clock', 'clock'])} {self.first}{floor}"
 
     def line(self):
         dice, kind = self.dice, self.dice.choice(self.kinds)
@@ -71,7 +103,7 @@ class Managed(Script):
         if kind == "resize":
             return f"resize {dice.randrange(6)}"
         if kind == "retain":
-            return " ".join(["retain", *[str(self.object()) for _ in range(dice.randrange(4))]])
+            return " ".join(["retain", *[str(self.seen_object()) for _ in range(dice.randrange(4))]])
         if kind == "upgrade":
             self.handles += self.handles > 0
             return kind
@@ -86,7 +118,7 @@ class Unmanaged(Script):
     first = 0
 
     def opening(self):
-        return f"unmanaged {self.dice.randrange(5)} {self.dice.choice(['none', 'clock'])}"
+        return f"unmanaged {self.dice.choice([0, 1, 1, 2, 2, 3, 4])} {self.dice.choice(['none', 'clock', 'clock'])}"
 
     def line(self):
         kind = self.dice.choice(self.kinds)
@@ -100,11 +132,19 @@ class Unmanaged(Script):
 
 def made(program, kind, seed):
     script = kind(random.Random(seed))
-    lines = [script.opening(), *[script.line() for _ in range(script.dice.randrange(10, 45))]]
-    ran = subprocess.run([program], input="\n".join(lines) + "\n", capture_output=True, text=True)
-    replies = ran.stdout.split("\n")[:-1]
-    assert ran.returncode == 0 and len(replies) == len(lines), (lines, ran)
-    return "".join(f"{line} => {reply}\n" for line, reply in zip(lines, replies))
+    count = script.dice.randrange(10, 45)
+    with subprocess.Popen([program], stdin=subprocess.PIPE, stdout=subprocess.PIPE, text=True) as ran:
+        told = []
+        for at in range(count + 1):
+            line = script.next_line() if at else script.opening()
+            ran.stdin.write(line + "\n")
+            ran.stdin.flush()
+            reply = ran.stdout.readline().rstrip("\n")
+            script.note(line, reply)
+            told.append(f"{line} => {reply}\n")
+        ran.stdin.close()
+        assert ran.wait() == 0 and not ran.stdout.read(), told
+    return "".join(told)
 
 
 def main():

@@ -1,5 +1,5 @@
-//! What a pool's state says of itself: its counts, and who in the queue has a place.
-ghost use Rattle.std.specs.Prelude.{◌≡◌};
+//! What a pool's state says of itself: its handles, its counts, and who in the queue has a place.
+ghost use Rattle.std.specs.Prelude.{◌≡◌, ◌==◌, nat_lt};
 ghost use Rattle.deadpool_gate.specs.Numbers.{has_number};
 ghost use Rattle.deadpool_desk.specs.Counts.{counts_of};
 
@@ -8,6 +8,20 @@ use crate::Counts;
 use crate::gate::Ticket;
 
 impl<T: Drop> PoolState<T> {
+    /// Whether a handle is left.
+    pub fn has_handle(&self) -> bool
+        ensures { result ≡ nat_lt 0 self.now.desk.handles }
+    {
+        self.handles > 0
+    }
+
+    /// Whether just one handle is left.
+    pub fn is_last_handle(&self) -> bool
+        ensures { result ≡ (self.now.desk.handles == 1) }
+    {
+        self.handles == 1
+    }
+
     /// What the pool counts.
     pub fn counts(&self) -> Counts
         ensures { result ≡ counts_of self.now.desk }

@@ -15,9 +15,9 @@ use std::alloc::{AllocError, Global};
 use std::random::RandomSource;
 use std::test::Fail;
 
-type Get<'a> = GetState<ScriptManager<'a>, ScriptHook<'a>>;
+type Get<'a> = GetState<ScriptManager<&'a Answers>, ScriptHook<&'a Answers>>;
 
-type Surroundings<'a> = Environment<ScriptManager<'a>, NoHook, ScriptHook<'a>>;
+type Surroundings<'a> = Environment<ScriptManager<&'a Answers>, NoHook, ScriptHook<&'a Answers>>;
 
 /// A pool with the gets that a script started and the objects that are out.
 #[derive(Drop)]

@@ -82,22 +82,23 @@ fn plays_all<R: Host>(rt: R, text: &str) -> Result<(), Fail> {
 
 // The lines of a worked script with those whom they are to wake.
 fn with_wakes(alloc: Global, name: &str, lines: &str) -> Result<String, Fail> {
-    let mut waking = lines_of(WAKES, name).unwrap_or("");
+    let waking = lines_of(WAKES, name).unwrap_or("");
+    let mut found = 0usize;
     let mut text = String::new(alloc);
     for line in lines.lines() {
-        let (next, rest) = parted(waking);
+        let next = waking.lines().nth(found).unwrap_or("");
         let (said, _) = next.split_once(", wakes ").unwrap_or((next, ""));
         if said == line {
             writeln!(text, "{next}")?;
-            waking = rest;
+            found = found.saturating_add(1);
         } else {
             writeln!(text, "{line}")?;
         }
     }
-    if waking.is_empty() {
+    if found == waking.lines().count() {
         return Ok(text);
     }
-    Err(Fail::new(format_args!("{name}: it has no such lines: {waking}")))
+    Err(Fail::new(format_args!("{name}: some lines that wake are not in it")))
 }
 
 // Whether a worked script is none of a shared pool.

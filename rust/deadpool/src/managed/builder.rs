@@ -123,9 +123,6 @@ impl<M: Manager, W: From<Object<M>>> PoolBuilder<M, W> {
 
 impl<M: Manager, W: From<Object<M>>> fmt::Debug for PoolBuilder<M, W> {
     fn fmt(&self, f: &mut fmt::Formatter<'_>) -> fmt::Result {
-        f.debug_struct("PoolBuilder")
-            .field("config", &self.config)
-            .field("runtime", &self.runtime)
-            .finish_non_exhaustive()
+        f.debug_struct("PoolBuilder").field("config", &self.config).finish_non_exhaustive()
     }
 }

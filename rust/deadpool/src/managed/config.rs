@@ -24,8 +24,7 @@ impl PoolConfig {
 /// Twice as many objects as there are processors.
 impl Default for PoolConfig {
     fn default() -> Self {
-        let processors = std::thread::available_parallelism();
-        PoolConfig::new(processors.map_or(2, |count| count.get().saturating_mul(2)))
+        PoolConfig::new(std::thread::available_parallelism().map_or(2, |count| count.get().saturating_mul(2)))
     }
 }
 

@@ -32,10 +32,7 @@ impl<'a, M: Manager> Get<'a, M> {
         let mut serving = pool.get(may_wait, alarm, |state, reply| get.served(state, reply)).await?;
         loop {
             let allowance = match serving {
-                Serving::Create => {
-                    get.create(timeouts.create).await?;
-                    break;
-                }
+                Serving::Create => break get.create(timeouts.create).await?,
                 Serving::Object(left) => {
                     let (prepared, was_pending) = noting_polls(pin!(get.prepare(timeouts.recycle))).await;
                     if prepared.is_some() {

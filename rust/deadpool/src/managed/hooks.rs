@@ -48,10 +48,7 @@ impl<M: Manager> Hook<M> {
 
 impl<M: Manager> fmt::Debug for Hook<M> {
     fn fmt(&self, f: &mut fmt::Formatter<'_>) -> fmt::Result {
-        f.write_str(match self {
-            Hook::Fn(_) => "Fn",
-            Hook::AsyncFn(_) => "AsyncFn",
-        })
+        f.write_str(if matches!(self, Hook::Fn(_)) { "Fn" } else { "AsyncFn" })
     }
 }
 

@@ -10,6 +10,7 @@ mod journal;
 mod manager;
 mod object;
 mod pool;
+pub mod reexports;
 
 pub use crate::Status;
 pub use crate::errors::OutOfMemory;
@@ -29,9 +30,3 @@ use crate::sys::ManagedDesk;
 type State<M> = shared::State<ManagedDesk, object::Slot<M>>;
 type Shared<M> = shared::Shared<builder::Setup<M>, ManagedDesk, object::Slot<M>>;
 type Handle<M> = shared::Handle<builder::Setup<M>, ManagedDesk, object::Slot<M>>;
-
-/// What a backend gives on under its own name, so that its users need not depend on this crate.
-pub mod reexports {
-    pub use super::{Metrics, ObjectId, PoolConfig, Status, TimeoutType, Timeouts};
-    pub use crate::Runtime;
-}

@@ -74,9 +74,8 @@ impl<M: Manager> Drop for Object<M> {
             state.idle.settle(key, &mut self.slot, reply.kind == KEPT);
             reply
         });
-        match &mut self.slot {
-            Some(slot) if reply.kind == DETACH => self.pool.setup.manager.detach(&mut slot.value),
-            _ => (),
+        if let (DETACH, Some(slot)) = (reply.kind, &mut self.slot) {
+            self.pool.setup.manager.detach(&mut slot.value);
         }
     }
 }

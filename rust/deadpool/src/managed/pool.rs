@@ -16,6 +16,12 @@ pub struct RetainResult<T> {
     pub removed: Vec<T>,
 }
 
+impl<T> Default for RetainResult<T> {
+    fn default() -> Self {
+        RetainResult { retained: 0, removed: Vec::new() }
+    }
+}
+
 /// A handle of a pool, which hands its objects out as `W`. With the last handle the idle objects are dropped.
 pub struct Pool<M: Manager, W: From<Object<M>> = Object<M>> {
     shared: Handle<M>,

@@ -36,6 +36,18 @@ pub fn block_on<F: Future>(future: F) -> F::Output {
 #[derive(Default)]
 pub struct Count(AtomicUsize);
 
+impl Count {
+    /// A waker, with what counts its wakes.
+    pub fn waker() -> (Waker, Arc<Self>) {
+        let count = Arc::<Self>::default();
+        (Waker::from(count.clone()), count)
+    }
+
+    pub fn get(&self) -> usize {
+        self.0.load(Ordering::SeqCst)
+    }
+}
+
 impl Wake for Count {
     fn wake(self: Arc<Self>) {
         self.0.fetch_add(1, Ordering::SeqCst);
@@ -59,7 +71,7 @@ impl<'a, T> Task<'a, T> {
     }
 
     pub fn woken(&self) -> usize {
-        self.woken.0.load(Ordering::SeqCst)
+        self.woken.get()
     }
 
     /// What it gives at the next poll.

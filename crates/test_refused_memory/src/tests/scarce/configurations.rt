@@ -1,6 +1,6 @@
 //! Configurations that are written, and hooks that are added, while too little memory is left.
 use super::calls::TRIES;
-use super::told::{SharedWorld, Told, ToldHook, World};
+use super::told::{Told, ToldHook, hook_of, manager_of, no_answers};
 use deadpool::managed::{ConfigError, Hook, NoHook, PoolBuilder, PoolConfig, QueueMode, Timeouts};
 use deadpool::unmanaged;
 use pool_scripts::Kind;
@@ -116,21 +116,13 @@ fn add(hoard: &mut Hoard, apart: Apart) -> Result<usize, Fail> {
     Err(Fail::new("memory is always refused"))
 }
 
-// A builder that has no hook.
-fn builder_of(alloc: Global, world: &SharedWorld) -> Result<Builder, AllocError> {
-    let manager = Told {
-        world: world.clone()?,
-    };
-    Ok(PoolBuilder::new(alloc, manager, ()))
-}
-
 // A hook that finds no memory comes back with the builder, and both are as before: it is added once there is some.
 #[test]
 fn hooks_that_find_no_memory(rt: HostRuntime) -> Result<(), Fail> {
-    let world = World::shared(rt.alloc())?;
+    let answers = no_answers(rt.alloc())?;
     let mut hoard = Hoard::new(rt.alloc())?;
-    let builder = builder_of(rt.alloc(), &world)?;
-    let hook = ToldHook::of(&world, Kind::PostCreate)?;
+    let builder = PoolBuilder::new(rt.alloc(), manager_of(&answers)?, ());
+    let hook = hook_of(&answers, Kind::PostCreate)?;
     let refusals = add(&mut hoard, (builder, hook))?;
     tell(&rt, refusals)
 }

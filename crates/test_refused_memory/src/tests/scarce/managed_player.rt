@@ -1,6 +1,6 @@
 //! A managed trial on which scripts are played.
 use super::player::Player;
-use super::told::{SharedWorld, Told, ToldHook, World};
+use super::told::{SharedAnswers, Told, ToldHook, hook_of, manager_of, no_answers};
 use deadpool::managed::{BuildError, NoHook, PoolBuilder};
 use deadpool::replay::{Move, Reply, Trial};
 use futures::test::MockTask;
@@ -23,7 +23,7 @@ type Builder = PoolBuilder<Told, NoHook, ToldHook, ()>;
 #[derive(Drop)]
 pub struct ManagedPlayer {
     alloc: Global,
-    world: SharedWorld,
+    answers: SharedAnswers,
     task: MockTask,
     trial: Trial<Told, NoHook, ToldHook, ()>,
 }
@@ -31,12 +31,12 @@ pub struct ManagedPlayer {
 impl ManagedPlayer {
     fn new<R: RandomSource + AllocGlobal>(
         rt: &R,
-        world: SharedWorld,
+        answers: SharedAnswers,
         trial: Trial<Told, NoHook, ToldHook, ()>,
     ) -> Result<Self, Fail> {
         Ok(ManagedPlayer {
             alloc: rt.alloc(),
-            world,
+            answers,
             task: MockTask::new(rt)?,
             trial,
         })
@@ -68,17 +68,17 @@ impl ManagedPlayer {
 
     // Hears how polls of a kind are to be answered.
     fn hear(&self, kind: Kind, answers: Vec<Answer>) -> Result<String, AllocError> {
-        self.world.answers.append(kind, answers)?;
+        self.answers.append(kind, answers)?;
         String::from_str(self.alloc, "ok\n")
     }
 }
 
 impl Player for ManagedPlayer {
     fn open<R: RandomSource + AllocGlobal>(rt: &R, line: &'static str) -> Result<Self, Fail> {
-        let world = World::shared(rt.alloc())?;
-        let (builder, first_number) = builder_of(rt.alloc(), &world, line)?;
+        let answers = no_answers(rt.alloc())?;
+        let (builder, first_number) = builder_of(rt.alloc(), &answers, line)?;
         let trial = Trial::new(builder, PARTIES, first_number)?;
-        ManagedPlayer::new(rt, world, trial)
+        ManagedPlayer::new(rt, answers, trial)
     }
 
     fn open_short<R: RandomSource + AllocGlobal>(
@@ -87,13 +87,13 @@ impl Player for ManagedPlayer {
         hoard: &mut Hoard,
         left: usize,
     ) -> Result<Option<Self>, Fail> {
-        let world = World::shared(rt.alloc())?;
-        let (builder, first_number) = builder_of(rt.alloc(), &world, line)?;
+        let answers = no_answers(rt.alloc())?;
+        let (builder, first_number) = builder_of(rt.alloc(), &answers, line)?;
         hoard.take(left)?;
         let opened = Trial::new(builder, PARTIES, first_number);
         hoard.let_go();
         match opened {
-            Ok(trial) => Ok(Some(ManagedPlayer::new(rt, world, trial)?)),
+            Ok(trial) => Ok(Some(ManagedPlayer::new(rt, answers, trial)?)),
             Err(BuildError::OutOfMemory) => Ok(None),
             Err(_) => Err(Fail::new("no pool")),
         }
@@ -150,7 +150,7 @@ fn said_by(alloc: Global, line: &str) -> Result<ManagedLine, Fail> {
 // What a pool line says: a pool with a hook of each kind, and the number of its first object.
 fn builder_of(
     alloc: Global,
-    world: &SharedWorld,
+    answers: &SharedAnswers,
     line: &'static str,
 ) -> Result<(Builder, usize), Fail> {
     let Ok(PoolLine::Managed(pool)) = parse_pool(alloc, line.as_bytes()) else {
@@ -164,22 +164,16 @@ fn builder_of(
     let Settings::Known(config) = settings else {
         return Err(Fail::new("a configuration to be read"));
     };
-    let mut builder = told_builder(alloc, world)?.config(config);
+    let mut builder = told_builder(alloc, answers)?.config(config);
     if let Some(runtime) = runtime {
         builder = builder.runtime(runtime);
     }
     Ok((builder, first_number))
 }
 
-fn told_builder(alloc: Global, world: &SharedWorld) -> Result<Builder, Fail> {
-    let manager = Told {
-        world: world.clone()?,
-    };
-    let builder = PoolBuilder::new(alloc, manager, ());
-    let post_create = ToldHook::of(world, Kind::PostCreate)?;
-    let builder = added(builder.post_create(post_create))?;
-    let pre_recycle = ToldHook::of(world, Kind::PreRecycle)?;
-    let builder = added(builder.pre_recycle(pre_recycle))?;
-    let post_recycle = ToldHook::of(world, Kind::PostRecycle)?;
-    added(builder.post_recycle(post_recycle))
+fn told_builder(alloc: Global, answers: &SharedAnswers) -> Result<Builder, Fail> {
+    let builder = PoolBuilder::new(alloc, manager_of(answers)?, ());
+    let builder = added(builder.post_create(hook_of(answers, Kind::PostCreate)?))?;
+    let builder = added(builder.pre_recycle(hook_of(answers, Kind::PreRecycle)?))?;
+    added(builder.post_recycle(hook_of(answers, Kind::PostRecycle)?))
 }

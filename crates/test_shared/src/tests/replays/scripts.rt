@@ -16,7 +16,7 @@ const WITH_ADVANCES: &str =
 // The first object of a shared pool has the number 0.
 const OTHERWISE_NUMBERED: &str = "lifo-and-a-waiter numbers-exhausted greatest-floor";
 
-// They open pools in vain, which is no script of a pool.
+// Pools that are refused stand before the one of the script, or in its place. The player here opens one.
 const REFUSED: &str =
     "pool-after-a-refused-one replies-to-config json floors-that-are-no-numbers carry-past-the-end";
 

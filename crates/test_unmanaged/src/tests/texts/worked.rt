@@ -54,7 +54,7 @@ pub const LAST_HANDLES: &str = "granted-get-is-not-passed last-handle";
 /// An unmanaged pool has no weak handle.
 pub const UPGRADES: &str = "handles";
 
-/// A pool that finds no memory is none.
+/// Pools that are refused stand before the one of the script. The player of a shared pool opens one.
 pub const REFUSED: &str = "pool-after-a-refused-one";
 
 /// The same scripts without what is left out there.
