@@ -1,3 +1,4 @@
+pub mod PlacesGranted
 pub mod CoreQueue
 pub mod Reviewing
 pub mod StaysSettled

@@ -121,12 +121,12 @@ module _ {T R : Type 0} (asks : RetainerOf R T) where
   retains_forget d d' r r' given h = (h.0, reviews_forget (least_idle d.limit d) (length d.idle) 0 d.idle r h.0 given.0.removed given.1 r' h.1, h.2, h.3)
 
   -- no more are kept than were asked about
-  pub reviews_fewer : (least idle : ℕ) (slots : List (Slot T)) (r : R) (kept : List (Slot T)) (removed : List T) (r' : R) → Reviews asks least idle slots r kept removed r' → length kept ≤ length slots
-  reviews_fewer least idle [] r kept removed r' h = let none = ap length h.0 in omega (arith, none)
-  reviews_fewer least idle (slot ∷ slots) r kept removed r' (inl (next, others, stays, is, rest)) =
-      let fewer = reviews_fewer least idle slots next others removed r' rest in
+  pub reviews_fewer : (least idle at : ℕ) (slots : List (Slot T)) (r : R) (kept : List (Slot T)) (removed : List T) (noted : List Removal) (r' : R) → ReviewsFrom asks least idle at slots r kept removed noted r' → length kept ≤ length slots
+  reviews_fewer least idle at [] r kept removed noted r' h = let none = ap length h.0 in omega (arith, none)
+  reviews_fewer least idle at (slot ∷ slots) r kept removed noted r' (inl (next, others, stays, is, rest)) =
+      let fewer = reviews_fewer least idle (at + 1) slots next others removed noted r' rest in
       let longer = ap length is in
       omega (arith, fewer, longer)
-  reviews_fewer least idle (slot ∷ slots) r kept removed r' (inr (next, left, others, goes, is, rest)) =
-      let fewer = reviews_fewer least (idle - 1) slots next kept others r' rest in
+  reviews_fewer least idle at (slot ∷ slots) r kept removed noted r' (inr (next, left, others, notes, goes, is, is_noted, rest)) =
+      let fewer = reviews_fewer least (idle - 1) (at + 1) slots next kept others notes r' rest in
       omega (arith, fewer)

@@ -1,15 +1,16 @@
--- The state that the fields of a `PoolState` are, and what they keep.
+-- The state that the fields of a `Core` are, and what they keep.
 use Rattle.std.specs.Prelude.{◌+◌, ◌<◌, ◌≤◌, ◌^◌, not}
 use Rattle.deadpool_gate.specs.Gate.{granted_tickets, waiting_tickets, untold_tickets}
 use Rattle.deadpool_desk.specs.CoreState.{CoreState}
 use Rattle.deadpool_desk.specs.DeskState.{DeskState, places}
+use Rattle.deadpool_desk.specs.Settled.{IsSettled}
 use Rattle.deadpool_desk.specs.declared.slot.Slot.{Slot}
-use Rattle.deadpool_desk.specs.declared.state.PoolState.TheInside.{Inside}
+use Rattle.deadpool_desk.specs.declared.state.Core.TheInside.{Inside}
 
 module _ {T : Type 0} where
   abbrev pub desk_of : Inside T → DeskState (Slot T)
   desk_of c = record {
-    limit = c.limit;
+    limit = c.places.limit;
     is_open = not c.gate.is_closed;
     mode = c.mode;
     floor = c.min_idle;
@@ -19,9 +20,9 @@ module _ {T : Type 0} where
     idle = c.ring.items;
     granted = granted_tickets c.gate.waiters;
     waiting = waiting_tickets c.gate.waiters;
-    going = c.going;
-    creations = c.creations;
-    outside = c.outside;
+    going = c.places.going;
+    creations = c.places.creations;
+    outside = c.places.outside;
   }
 
   abbrev pub core_of : Inside T → CoreState T
@@ -32,9 +33,11 @@ module _ {T : Type 0} where
     next_ticket = c.gate.next_ticket;
   }
 
-  -- no count can wrap: each place that is held has room in the ring, and each creation under way has a number
+  -- No count can wrap: each place that is held has room in the ring, and each creation under way has a number. The state is
+  -- settled.
   pub record IsSound (c : Inside T) : Type 0 where
-    pub within : c.limit ≤ c.ring.capacity
+    pub within : c.places.limit ≤ c.ring.capacity
     pub small : c.ring.capacity < 2 ^ 63
     pub held : places (desk_of c) ≤ c.ring.capacity
-    pub numbered : c.next + c.creations < 2 ^ 64
+    pub numbered : c.next + c.places.creations < 2 ^ 64
+    pub settled : IsSettled (desk_of c)

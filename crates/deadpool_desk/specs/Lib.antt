@@ -18,6 +18,8 @@ pub mod Allowance
 pub mod Held
 -- A reply whose object is in a place of its own.
 pub mod Parts
--- How the fields of a core are seen as its state, and the machine as a desk. No contract of a user cites them.
+-- The places by queue and counts, how the fields of a core are seen as its state, and the machine as a desk. No contract
+-- of a user cites them.
+pub mod Places
 pub mod CoreFields
 pub mod CoreDesk

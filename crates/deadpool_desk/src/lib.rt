@@ -1,8 +1,7 @@
 //! The state of a managed pool on one thread, and its steps.
 //!
-//! A pool is asked for one step at a time, by a get or an object (`desk`) or by its owner (`owner_desk`). `settled` has
-//! `Core`, which is a desk to both: whole steps over `state`. Nothing here asks a manager or a hook; a retain asks its retainer
-//! (`retain`, `review`).
+//! A pool is asked for one step at a time, by a get or an object (`desk`) or by its owner (`owner_desk`). `state` has
+//! `Core`, which is a desk to both. Nothing here asks a manager or a hook; a retain asks its retainer (`retain`, `review`).
 #![tactic(auto)]
 
 mod counts;
@@ -12,7 +11,6 @@ mod object_id;
 mod owner_desk;
 mod retain;
 mod review;
-mod settled;
 mod slot;
 mod state;
 
@@ -28,5 +26,5 @@ pub use metrics::Metrics;
 pub use object_id::ObjectId;
 pub use owner_desk::OwnerDesk;
 pub use retain::{Removal, Removals, RetainResult, Retainer};
-pub use settled::Core;
 pub use slot::Slot;
+pub use state::Core;

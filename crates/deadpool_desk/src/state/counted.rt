@@ -1,25 +1,61 @@
-//! What a pool's state says of itself: its handles, its counts, and who in the queue has a place.
-ghost use Rattle.std.specs.Prelude.{◌≡◌, ◌==◌, nat_lt};
+//! What a core says of itself between two steps: its handles, its counts, its idle objects, and who in the queue has a place.
+ghost use Rattle.std.specs.Prelude.{◌≡◌, ◌≤◌, ◌&&◌, ◌==◌, not, nat_lt, nat_le, option_copied, slice_get};
 ghost use Rattle.deadpool_gate.specs.Numbers.{has_number};
 ghost use Rattle.deadpool_desk.specs.Counts.{counts_of};
+ghost use Rattle.deadpool_desk.specs.DeskState.{least_idle, places};
+ghost use Rattle.deadpool_desk.specs.DeskSteps.{surplus};
 
-use super::PoolState;
-use crate::Counts;
+use super::Core;
 use crate::gate::Ticket;
+use crate::{Counts, Slot};
 
-impl<T: Drop> PoolState<T> {
-    /// Whether a handle is left.
+impl<T: Drop> Core<T> {
+    /// Whether a pool handle is left.
     pub fn has_handle(&self) -> bool
         ensures { result ≡ nat_lt 0 self.now.desk.handles }
     {
         self.handles > 0
     }
 
-    /// Whether just one handle is left.
+    /// Whether just one pool handle is left, which takes the idle objects with it.
     pub fn is_last_handle(&self) -> bool
         ensures { result ≡ (self.now.desk.handles == 1) }
     {
         self.handles == 1
+    }
+
+    /// The idle object at this position, front to back.
+    pub fn idle_at(&self, at: usize) -> Option<&Slot<T>>
+        ensures { option_copied result ≡ slice_get self.now.desk.idle at }
+    {
+        self.ring.get(at)
+    }
+
+    /// How many idle objects a resize to this limit gives up: those at the front. It is 0 once the pool has closed.
+    pub fn surplus(&self, limit: usize) -> usize
+        ensures { result ≡ surplus limit self.now.desk }
+    {
+        if self.gate.is_closed() {
+            return 0;
+        }
+        let idle = self.ring.len();
+        let excess = (idle + self.places.outside).saturating_sub(limit);
+        excess.min(idle.saturating_sub(self.min_idle.min(limit)))
+    }
+
+    /// Whether the pool has closed.
+    pub fn is_closed(&self) -> bool
+        ensures { result ≡ not self.now.desk.is_open }
+    {
+        self.gate.is_closed()
+    }
+
+    /// Whether a get that enters now, and is willing to wait, has to join the queue: the pool is open, and no place is free.
+    pub fn would_queue(&self) -> bool
+        ensures { result
+            ≡ (self.now.desk.is_open && nat_le self.now.desk.limit (places self.now.desk)) }
+    {
+        !self.gate.is_closed() && self.places.room(&self.gate) == 0
     }
 
     /// What the pool counts.
@@ -28,23 +64,37 @@ impl<T: Drop> PoolState<T> {
     {
         let idle = self.ring.len();
         let granted = self.gate.granted();
-        let size = idle + self.outside;
-        let served = granted + self.going;
+        let size = idle + self.places.outside;
+        let served = granted + self.places.going;
         Counts {
-            limit: self.limit,
+            limit: self.places.limit,
             size,
-            places: served + self.creations + self.outside,
-            reach: size + self.creations + served.saturating_sub(idle),
+            places: served + self.places.creations + self.places.outside,
+            reach: size + self.places.creations + served.saturating_sub(idle),
             granted,
             waiting: self.gate.waiting(),
         }
     }
 
-    /// Whether the get in the queue with this ticket was granted a place.
+    /// Whether the get in the queue with this ticket was granted a place, which it has not taken yet. Nothing changes.
     pub fn is_granted(&mut self, ticket: Ticket) -> bool
         ensures granted { result ≡ has_number ticket self.old.desk.granted }
         ensures same { self.new ≡ self.old }
     {
         self.gate.has_place(ticket)
+    }
+
+    /// The number of the ticket that the next get in the queue has.
+    pub fn next_ticket(&self) -> usize
+        ensures { result ≡ self.now.next_ticket }
+    {
+        self.gate.next_number()
+    }
+
+    // How many objects stay idle, if as many are.
+    pub(super) fn least_idle(&self) -> usize
+        ensures { result ≡ least_idle self.now.desk.limit self.now.desk }
+    {
+        self.min_idle.min(self.places.limit)
     }
 }

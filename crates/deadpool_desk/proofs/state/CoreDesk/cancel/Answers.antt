@@ -1,0 +1,36 @@
+use Rattle.std.proofs.Common.{◌∙◌, ap, arith}
+use Rattle.deadpool_gate.specs.Gate.{untold_tickets}
+use Rattle.deadpool_gate.proofs.GateAnswers.{withdrawn-unknown, withdrawn-known}
+use Rattle.deadpool_desk.specs.DeskState.{settled}
+use Rattle.deadpool_desk.proofs.CoreQueue.{IsSound-same, IsSound-settled, desk_of-same, desk_of-settled, desk_of-unqueued, held-without, untold-without}
+use Rattle.deadpool_desk.proofs.state.CoreDesk.cancel.Goals as goal
+
+pub invariant_of-self : goal.invariant_of-self
+invariant_of-self g c =
+    let was = withdrawn-unknown _ c.in-Ticket.ticket _ c.withdraw.ensures.line c.in-Unknown.ensures.answer in
+    IsSound-same c.self.inside c.withdraw.new.self c.self.invariant (c.withdraw.ensures.waiters ∙ was.1) c.withdraw.ensures.closed
+
+pub returns-in-Unknown-clause-cancelled : goal.returns-in-Unknown-clause-cancelled
+returns-in-Unknown-clause-cancelled g c =
+    let was = withdrawn-unknown _ c.in-Ticket.ticket _ c.withdraw.ensures.line c.in-Unknown.ensures.answer in
+    let same = c.withdraw.ensures.waiters ∙ was.1 in
+    rw (c.in-Ticket.is, ← c.self.view_is) ((was.0, desk_of-same c.self.inside c.withdraw.new.self same c.withdraw.ensures.closed), ap untold_tickets same)
+
+pub settle-requires : goal.settle-requires
+settle-requires g c =
+    let held = held-without c.self.inside c.withdraw.new.self c.in-Ticket.ticket c.withdraw.ensures.line c.withdraw.ensures.waiters c.self.invariant in
+    omega (arith, held, c.self.invariant.small)
+
+pub invariant_of-self-in-Ticket : goal.invariant_of-self-in-Ticket
+invariant_of-self-in-Ticket g c =
+    let settle = c.settle.ensures in
+    IsSound-settled c.self.inside c.withdraw.new.self c.in-Ticket.ticket c.withdraw.ensures.line c.withdraw.ensures.waiters c.self.invariant c.settle.new.gate settle.held settle.queue settle.nobody_waits
+
+pub returns-in_default-clause-cancelled : goal.returns-in_default-clause-cancelled
+returns-in_default-clause-cancelled g c =
+    let settle = c.settle.ensures in
+    let was = withdrawn-known _ c.in-Ticket.ticket _ c.withdraw.ensures.line (rw c.withdraw.ensures.answer at c.in_default.not-Unknown) in
+    let left = desk_of-unqueued c.self.inside c.withdraw.new.self c.in-Ticket.ticket c.withdraw.ensures.line c.withdraw.ensures.waiters c.withdraw.ensures.closed in
+    let untold = untold-without c.self.inside c.withdraw.new.self c.in-Ticket.ticket c.withdraw.ensures.line c.withdraw.ensures.waiters in
+    let settled_is = desk_of-settled c.self.inside c.withdraw.new.self c.settle.new.gate settle.granted settle.waiting settle.closed in
+    rw (c.in-Ticket.is, ← c.self.view_is) ((was, settled_is ∙ ap settled left), settle.untold ∙ untold)
