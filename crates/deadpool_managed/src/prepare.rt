@@ -7,7 +7,7 @@ ghost use Rattle.deadpool_parts.specs.Program.{Gives};
 ghost use Rattle.deadpool_managed.specs.HookLists.{CanCall};
 ghost use Rattle.deadpool_managed.specs.Outside.{may, may_hook};
 ghost use Rattle.deadpool_managed.specs.Calls.{apply, pass, start};
-ghost use Rattle.deadpool_managed.specs.declared.prepare.Preparation.TheVariants.{PreRecycle};
+ghost use Rattle.deadpool_managed.specs.Stages.{PreRecycle};
 ghost use Rattle.deadpool_managed.specs.Prepare.{prepare, begin_recycling, poll_recycling, approve, check, with_value, IsReadyPreparation, IsReadyPrepared};
 ghost use Rattle.deadpool_managed.specs.Phases.{preparation_of, prepared_of, IsPlaced, PreparesIn, IsReadyIn, ChecksIn, IsReadyHeld};
 ghost use Rattle.deadpool_managed.specs.declared.work.Phase.{Phase};
@@ -47,38 +47,22 @@ pub enum Verdict<S, E> {
     Pending(Position<S>),
 }
 
-/// An object that was idle, under preparation. No code makes one: contracts see a get so.
-#[derive(Drop)]
-pub enum Preparation<T, R, S> {
-    /// The hooks before the recycling see it.
-    PreRecycle(Slot<T>, Position<S>),
-    /// It is being recycled, until a deadline if there is one.
-    Recycle(Slot<T>, R, Option<Moment>),
-    /// It was recycled, and the hooks after that see it.
-    PostRecycle(Slot<T>, Position<S>),
-}
-
-/// What came of a preparation. No code makes one either.
-#[derive(Drop)]
-pub enum Prepared<T, R, S> {
-    Accepted(Slot<T>),
-    /// It was refused, or its recycling ran out of time or had no runtime to tell it.
-    GivenUp(Slot<T>),
-    Pending(Preparation<T, R, S>),
-}
-
 /// How far the preparation of an idle object is, which stands beside it.
 #[derive(Drop)]
 pub enum Preparing<R, S> {
+    /// The hooks before the recycling see the object.
     PreRecycle(Position<S>),
+    /// It is being recycled, until a deadline if there is one.
     Recycle(R, Option<Moment>),
+    /// It was recycled, and the hooks after that see it.
     PostRecycle(Position<S>),
 }
 
-/// What came of one more step of it.
+/// What came of a preparation that went on.
 #[derive(Drop)]
 pub enum Outcome<R, S> {
     Accepted,
+    /// The object was refused, or its recycling ran out of time or had no runtime to tell it.
     GivenUp,
     Pending(Preparing<R, S>),
 }

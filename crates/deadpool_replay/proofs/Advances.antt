@@ -4,8 +4,7 @@ use Rattle.deadpool_replay.proofs.Words.{Poll, deadline_after, is_reached, lacks
 use Rattle.futures.specs.declared.task.Poll.TheVariants as poll
 use Rattle.deadpool_parts.specs.declared.errors.TimeoutType.TheVariants as phase
 use Rattle.deadpool_managed.specs.declared.prepare.Verdict.TheVariants as verdict
-use Rattle.deadpool_managed.specs.declared.prepare.Prepared.TheVariants as prepared
-use Rattle.deadpool_managed.specs.declared.get.Stage.TheVariants as stage
+use Rattle.deadpool_managed.specs.Stages as stage
 use Rattle.deadpool_managed.specs.declared.get.Turn.TheVariants as turn
 use Rattle.deadpool_parts.specs.declared.replies.StepReply.TheVariants as step
 use Rattle.deadpool_desk.specs.declared.desk.CreatedReply.TheVariants as numbered
@@ -184,15 +183,15 @@ module _ {V E C R S F A : Type 0} (may : May V E C R S F A) (fixed : Fixed F A) 
       → Gives may (reviewed n (party_at own (stage.Recycling preparation allowance)) allowance pool x)
       (reply_to t, image_of fixed core' (set gets n (get_at own s)) (given t out))
       × IsCounted core' (set gets n (get_at own s)) (given t out)
-  prepared_answered preparation allowance (prepared.Accepted slot) no_step s t h e a =
+  prepared_answered preparation allowance (Prepared.Accepted slot) no_step s t h e a =
       rw (a.0, a.1, e) (object_given (stage.Recycling preparation allowance) h (λ u. refl) refl refl refl refl slot)
-  prepared_answered preparation allowance (prepared.Pending left) no_step s t h e a =
+  prepared_answered preparation allowance (Prepared.Pending left) no_step s t h e a =
       rw (a.0, a.1, e)
       (object_rests (stage.Recycling preparation allowance) h (λ u. refl) refl refl refl refl (stage.Recycling left None) (λ u. refl) refl refl refl refl)
-  prepared_answered preparation allowance (prepared.GivenUp slot) (discarding step.Done) s t h e a =
+  prepared_answered preparation allowance (Prepared.GivenUp slot) (discarding step.Done) s t h e a =
       let all = object_discarded (stage.Recycling preparation allowance) h (λ u. refl) refl refl refl refl allowance in
       rw (a.1, a.2, e.1) ((a.0.0, (a.0.1, all.0)), all.1)
-  prepared_answered preparation allowance (prepared.GivenUp slot) (discarding step.Unknown) s t h e a =
+  prepared_answered preparation allowance (Prepared.GivenUp slot) (discarding step.Unknown) s t h e a =
       absurd (let one = one_object (stage.Recycling preparation allowance) h (λ u. refl) refl refl refl refl in omega (arith, one, e.0))
   prepared_answered preparation allowance _ _ s t h e a = absurd a
 

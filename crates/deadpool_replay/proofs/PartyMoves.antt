@@ -6,7 +6,7 @@ use Rattle.deadpool_replay.specs.declared.moves.Reply.TheVariants as reply
 use Rattle.futures.specs.declared.task.Poll.TheVariants as poll
 use Rattle.deadpool_parts.specs.declared.errors.TimeoutType.TheVariants as phase
 use Rattle.deadpool_managed.specs.declared.prepare.Verdict.TheVariants as verdict
-use Rattle.deadpool_managed.specs.declared.prepare.Prepared.TheVariants as prepared
+use Rattle.deadpool_managed.specs.Stages as prepared
 use Rattle.deadpool_replay.proofs.NumberLists.{has_number-push, has_number-last, without_number-once, IsOnce-left}
 use Rattle.deadpool_replay.proofs.NumberCounts.{held, held-served, has_number-held}
 use Rattle.deadpool_replay.proofs.PreparedNumbers.{IsNumber, prepare_number}

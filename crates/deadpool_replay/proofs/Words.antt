@@ -25,7 +25,7 @@ pub use Rattle.deadpool_managed.specs.Outside.{May, Asking, may, Reserve, Detach
 pub use Rattle.deadpool_managed.specs.Prepare.{create, prepare, check, with_value, object_of, approved, approve, recycled, poll_recycling, begin_recycling, reviewed as prepare_reviewed}
 pub use Rattle.deadpool_desk.specs.Retained.{Retained}
 pub use Rattle.deadpool_desk.specs.Retains.{Reviews, Retains}
-pub use Rattle.deadpool_managed.specs.Stages.{Getting}
+pub use Rattle.deadpool_managed.specs.Stages.{Getting, Stage, Preparation, PreRecycle, Recycle, PostRecycle, Prepared, Accepted, GivenUp, Pending}
 pub use Rattle.deadpool_desk.specs.declared.desk.AgainReply.{AgainReply}
 pub use Rattle.deadpool_desk.specs.declared.desk.AskReply.{AskReply}
 pub use Rattle.deadpool_desk.specs.declared.desk.BackReply.{BackReply}
@@ -33,16 +33,11 @@ pub use Rattle.deadpool_desk.specs.declared.desk.EnterReply.{EnterReply}
 pub use Rattle.deadpool_desk.specs.declared.desk.Held.{Held}
 pub use Rattle.deadpool_desk.specs.declared.desk.Serving.{Serving}
 pub use Rattle.deadpool_desk.specs.declared.desk.TakeReply.{TakeReply}
-pub use Rattle.deadpool_managed.specs.declared.get.Stage.{Stage}
 pub use Rattle.deadpool_managed.specs.declared.get.Turn.{Turn}
 pub use Rattle.deadpool_managed.specs.declared.hooks.AsyncHook.{Ghosts as AsyncHookOf}
 pub use Rattle.deadpool_managed.specs.declared.hooks.SyncHook.{Ghosts as SyncHookOf}
 pub use Rattle.deadpool_managed.specs.declared.manager.Manager.{Ghosts as ManagerOf}
 pub use Rattle.deadpool_managed.specs.declared.prepare.Position.{Position}
-pub use Rattle.deadpool_managed.specs.declared.prepare.Preparation.{Preparation}
-pub use Rattle.deadpool_managed.specs.declared.prepare.Preparation.TheVariants.{PreRecycle, Recycle, PostRecycle}
-pub use Rattle.deadpool_managed.specs.declared.prepare.Prepared.{Prepared}
-pub use Rattle.deadpool_managed.specs.declared.prepare.Prepared.TheVariants.{Accepted, GivenUp, Pending}
 pub use Rattle.deadpool_managed.specs.declared.prepare.Verdict.{Verdict}
 pub use Rattle.deadpool_desk.specs.declared.retain.Retainer.{Ghosts as RetainerOf}
 pub use Rattle.deadpool_desk.specs.declared.slot.Slot.{Slot}

@@ -17,8 +17,8 @@ use Rattle.deadpool_replay.specs.Steps.{to, unqueued, removed, fail, rest, go_on
 use Rattle.deadpool_desk.specs.declared.slot.Slot.{Slot}
 use Rattle.deadpool_managed.specs.declared.prepare.Verdict.{Verdict}
 use Rattle.deadpool_managed.specs.declared.prepare.Verdict.TheVariants as verdict
-use Rattle.deadpool_managed.specs.declared.prepare.Prepared.{Prepared}
-use Rattle.deadpool_managed.specs.declared.prepare.Prepared.TheVariants as prepared
+use Rattle.deadpool_managed.specs.Stages.{Prepared}
+use Rattle.deadpool_managed.specs.Stages as prepared
 use Rattle.deadpool_replay.specs.declared.moves.Reply.{Reply}
 use Rattle.deadpool_replay.specs.declared.moves.Reply.TheVariants.{Pending, Object, Cancelled}
 
