@@ -17,8 +17,8 @@ use Rattle.deadpool_managed.specs.Outside.{May}
 use Rattle.deadpool_managed.specs.Get.{Made, no_step, entering, asking, asking_again, discarding, creating, failing, refusing, cancelling, Makes, AfterServing, AfterCreation, AfterDiscard, AfterPrepared, AfterChecked, AdvancesCreation, AdvancesFrom, Advanced, Advances, PollsOver}
 use Rattle.deadpool_desk.specs.declared.slot.Slot.{Slot}
 use Rattle.deadpool_managed.specs.Stages.{Prepared, Stage, Unpolled, Queued, Going, Creating, Recycling, Checking, Finished}
-use Rattle.deadpool_managed.specs.declared.prepare.Verdict.{Verdict}
-use Rattle.deadpool_managed.specs.declared.prepare.Verdict.TheVariants as verdict
+use Rattle.deadpool_managed.specs.declared.calls.Verdict.{Verdict}
+use Rattle.deadpool_managed.specs.declared.calls.Verdict.TheVariants as verdict
 use Rattle.deadpool_managed.specs.declared.get.Turn.{Turn}
 use Rattle.deadpool_managed.specs.declared.get.Turn.TheVariants.{More}
 use Rattle.deadpool_desk.specs.declared.desk.Serving.{Serving}

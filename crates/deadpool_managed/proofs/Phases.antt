@@ -13,11 +13,11 @@ use Rattle.deadpool_managed.specs.Outside.{May}
 use Rattle.deadpool_managed.specs.Get.{ended_by, AdvancesFrom, CancelsFrom, no_step, discarding, refusing, cancelling}
 use Rattle.deadpool_managed.specs.Phases.{IsPlaced, recycling_at, stage_of, turn_of, came_by, preparation_of, PreparesIn, ChecksIn, GivesUpIn, DiscardsIn, RefusesIn}
 use Rattle.deadpool_desk.specs.declared.desk.Held.TheVariants as held
-use Rattle.deadpool_managed.specs.declared.prepare.Position.{Position}
+use Rattle.deadpool_managed.specs.declared.calls.Position.{Position}
 use Rattle.deadpool_managed.specs.declared.prepare.Preparing.{Preparing}
 use Rattle.deadpool_managed.specs.declared.prepare.Preparing.TheVariants as preparing
 use Rattle.deadpool_managed.specs.declared.prepare.Outcome.TheVariants as outcome
-use Rattle.deadpool_managed.specs.declared.prepare.Verdict.TheVariants as verdict
+use Rattle.deadpool_managed.specs.declared.calls.Verdict.TheVariants as verdict
 use Rattle.deadpool_managed.specs.declared.get.Turn.{Turn}
 use Rattle.deadpool_managed.specs.declared.get.Turn.TheVariants as turn
 use Rattle.deadpool_managed.specs.declared.work.Came.TheVariants as came

@@ -7,13 +7,13 @@ use Rattle.deadpool_parts.specs.declared.moment.Runtime.{Runtime}
 use Rattle.deadpool_managed.specs.HookLists.{HookLists}
 use Rattle.deadpool_managed.specs.Outside.{May}
 use Rattle.deadpool_managed.specs.Calls.{start}
-use Rattle.deadpool_managed.specs.Prepare.{prepare, check, with_value, IsReadyPreparation, IsReadyPrepared}
+use Rattle.deadpool_managed.specs.Prepare.{prepare, post_create, with_value, IsReadyPreparation, IsReadyPrepared}
 use Rattle.deadpool_parts.specs.declared.errors.PoolError.{PoolError}
 use Rattle.deadpool_parts.specs.declared.errors.PoolError.TheVariants.{Closed, PostCreateHook}
 use Rattle.deadpool_parts.specs.declared.errors.HookError.{HookError}
 use Rattle.deadpool_managed.specs.Get.{AfterDiscard, GivesUp, ended_by}
-use Rattle.deadpool_managed.specs.declared.prepare.Position.{Position}
-use Rattle.deadpool_managed.specs.declared.prepare.Verdict.{Verdict}
+use Rattle.deadpool_managed.specs.declared.calls.Position.{Position}
+use Rattle.deadpool_managed.specs.declared.calls.Verdict.{Verdict}
 use Rattle.deadpool_parts.specs.declared.replies.StepReply.{StepReply}
 use Rattle.deadpool_parts.specs.declared.replies.StepReply.TheVariants as step
 use Rattle.deadpool_desk.specs.declared.slot.Slot.{Slot}
@@ -101,7 +101,7 @@ module _ {V E C R S F A : Type 0} (may : May V E C R S F A) where
   PreparesIn now runtime timeout hooks preparing _ outcome _ = ⊥
 
   abbrev pub ChecksIn : HookLists F A → Position S → Option (Slot V) → Verdict S E → Option (Slot V) → Type 0
-  ChecksIn hooks at (Some slot) verdict (Some left) = Gives {A = Verdict S E × V} may (check {E = E} {C = C} {R = R} hooks slot at) (verdict, left.value) × (left ≡ with_value left.value slot)
+  ChecksIn hooks at (Some slot) verdict (Some left) = Gives {A = Verdict S E × V} may (post_create {E = E} {C = C} {R = R} hooks slot at) (verdict, left.value) × (left ≡ with_value left.value slot)
   ChecksIn hooks at _ verdict _ = ⊥
 
   -- an object that was given up, if there was one

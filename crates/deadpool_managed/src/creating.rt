@@ -10,7 +10,7 @@ ghost use Rattle.deadpool_managed.specs.Steps.{AdvancesAt, held_now, lent, stage
 ghost use Rattle.deadpool_managed.specs.Stages.{Creating};
 ghost use Rattle.deadpool_desk.specs.declared.desk.Holding.{Holding};
 
-use crate::prepare::Position;
+use crate::calls::Position;
 use crate::work::{Came, Phase, Work};
 use crate::{
     AsyncHook, Environment, Manager, Metrics, Moment, PoolError, Slot, StepReply, SyncHook,

@@ -13,8 +13,9 @@ ghost use Rattle.deadpool_parts.specs.declared.replies.StepReply.{StepReply};
 ghost use Rattle.deadpool_managed.specs.Phases.{IsPlaced, IsPending, GivesUpIn, turn_of};
 ghost use Rattle.deadpool_managed.specs.Steps.{AdvancesAt, PollsAt, CancelsAt, Leaves, lent, stage_at, turn_at};
 
+use crate::calls::Position;
 use crate::gate::Ticket;
-use crate::prepare::{Position, Preparing};
+use crate::prepare::Preparing;
 use crate::{
     AsyncHook, Environment, Manager, Moment, PoolError, Slot, StageKind, StepReply, SyncHook,
     Timeouts, Turn,
