@@ -16,12 +16,9 @@ use Rattle.deadpool_managed.specs.HookLists.{HookLists}
 use Rattle.deadpool_managed.specs.Outside.{May}
 use Rattle.deadpool_managed.specs.Get.{Made, no_step, entering, asking, asking_again, discarding, creating, failing, refusing, cancelling, Makes, AfterServing, AfterCreation, AfterDiscard, AfterPrepared, AfterChecked, AdvancesCreation, AdvancesFrom, Advanced, Advances, PollsOver}
 use Rattle.deadpool_desk.specs.declared.slot.Slot.{Slot}
-use Rattle.deadpool_managed.specs.declared.prepare.Prepared.{Prepared}
-use Rattle.deadpool_managed.specs.declared.prepare.Prepared.TheVariants as prepared
-use Rattle.deadpool_managed.specs.declared.prepare.Verdict.{Verdict}
-use Rattle.deadpool_managed.specs.declared.prepare.Verdict.TheVariants as verdict
-use Rattle.deadpool_managed.specs.declared.get.Stage.{Stage}
-use Rattle.deadpool_managed.specs.declared.get.Stage.TheVariants.{Unpolled, Queued, Going, Creating, Recycling, Checking, Finished}
+use Rattle.deadpool_managed.specs.Stages.{Prepared, Stage, Unpolled, Queued, Going, Creating, Recycling, Checking, Finished}
+use Rattle.deadpool_managed.specs.declared.calls.Verdict.{Verdict}
+use Rattle.deadpool_managed.specs.declared.calls.Verdict.TheVariants as verdict
 use Rattle.deadpool_managed.specs.declared.get.Turn.{Turn}
 use Rattle.deadpool_managed.specs.declared.get.Turn.TheVariants.{More}
 use Rattle.deadpool_desk.specs.declared.desk.Serving.{Serving}
@@ -82,9 +79,9 @@ module _ {V E C R S F A : Type 0} (may : May V E C R S F A) (runtime : Option Ru
   discarded_past value allowance step.Unknown after turn h = stands_past after _ h.0 tt
 
   prepared_past : (allowance : Option ℕ) (x : Prepared V R S) (made : Made V) (after : Stage V C R S) (turn : Turn V E) → AfterPrepared may allowance x made after turn → IsPast made × StandsPast after
-  prepared_past allowance (prepared.Accepted slot) no_step after turn h = (tt, stands_past after _ h.0 tt)
-  prepared_past allowance (prepared.Pending preparation) no_step after turn h = (tt, stands_past after _ h.0 tt)
-  prepared_past allowance (prepared.GivenUp slot) (discarding reply) after turn h = (tt, discarded_past slot.value allowance reply after turn h)
+  prepared_past allowance (Prepared.Accepted slot) no_step after turn h = (tt, stands_past after _ h.0 tt)
+  prepared_past allowance (Prepared.Pending preparation) no_step after turn h = (tt, stands_past after _ h.0 tt)
+  prepared_past allowance (Prepared.GivenUp slot) (discarding reply) after turn h = (tt, discarded_past slot.value allowance reply after turn h)
   prepared_past allowance _ _ after turn h = absurd h
 
   checked_past : (slot : Slot V) (x : Verdict S E × V) (made : Made V) (after : Stage V C R S) (turn : Turn V E) → AfterChecked may slot x made after turn → IsPast made × StandsPast after

@@ -13,24 +13,22 @@ use Rattle.deadpool_managed.specs.Outside.{May}
 use Rattle.deadpool_managed.specs.Get.{ended_by, AdvancesFrom, CancelsFrom, no_step, discarding, refusing, cancelling}
 use Rattle.deadpool_managed.specs.Phases.{IsPlaced, recycling_at, stage_of, turn_of, came_by, preparation_of, PreparesIn, ChecksIn, GivesUpIn, DiscardsIn, RefusesIn}
 use Rattle.deadpool_desk.specs.declared.desk.Held.TheVariants as held
-use Rattle.deadpool_managed.specs.declared.prepare.Position.{Position}
+use Rattle.deadpool_managed.specs.declared.calls.Position.{Position}
 use Rattle.deadpool_managed.specs.declared.prepare.Preparing.{Preparing}
 use Rattle.deadpool_managed.specs.declared.prepare.Preparing.TheVariants as preparing
-use Rattle.deadpool_managed.specs.declared.prepare.Prepared.TheVariants as prepared
 use Rattle.deadpool_managed.specs.declared.prepare.Outcome.TheVariants as outcome
-use Rattle.deadpool_managed.specs.declared.prepare.Verdict.TheVariants as verdict
+use Rattle.deadpool_managed.specs.declared.calls.Verdict.TheVariants as verdict
 use Rattle.deadpool_managed.specs.declared.get.Turn.{Turn}
 use Rattle.deadpool_managed.specs.declared.get.Turn.TheVariants as turn
 use Rattle.deadpool_managed.specs.declared.work.Came.TheVariants as came
 use Rattle.deadpool_desk.specs.declared.slot.Slot.{Slot}
-use Rattle.deadpool_managed.specs.declared.get.Stage.{Stage}
-use Rattle.deadpool_managed.specs.declared.get.Stage.TheVariants as stage
+use Rattle.deadpool_managed.specs.Stages.{Stage, Prepared}
 use Rattle.deadpool_managed.specs.declared.work.Phase.{Phase}
 use Rattle.deadpool_managed.specs.declared.work.Phase.TheVariants.{Unpolled, Served, Queued, Going, Creating, Recycling, Checking, Finished}
 use Rattle.deadpool_managed.specs.declared.work.Came.{Came}
 
 module _ {V C R S : Type 0} where
-  pub finished : (phase : Phase C R S) (slot : Option (Slot V)) → phase ≡ Finished → stage_of phase slot ≡ stage.Finished
+  pub finished : (phase : Phase C R S) (slot : Option (Slot V)) → phase ≡ Finished → stage_of phase slot ≡ Stage.Finished
   finished phase slot is = rw is refl
 
 module _ {V E : Type 0} where
@@ -60,7 +58,7 @@ module _ {V E C R S F A : Type 0} (may : May V E C R S F A) (runtime : Option Ru
   pub accepted_in : (preparing : Preparing R S) (allowance : Option ℕ) (place left : Option (Slot V)) (phase : Phase C R S) → phase ≡ Finished
       → PreparesIn may now runtime timeouts.recycle hooks preparing place outcome.Accepted left
       → AdvancesFrom may runtime hooks now timeouts (recycling_at {C = C} preparing allowance place) no_step (stage_of phase left) (turn_of came.Given left)
-  accepted_in preparing allowance (Some slot) (Some left) phase is given = (prepared.Accepted left, (given, (finished phase (Some left) is, refl)))
+  accepted_in preparing allowance (Some slot) (Some left) phase is given = (Prepared.Accepted left, (given, (finished phase (Some left) is, refl)))
   accepted_in preparing allowance (Some slot) None phase is given = absurd given
   accepted_in preparing allowance None (Some left) phase is given = absurd given
   accepted_in preparing allowance None None phase is given = absurd given
@@ -68,7 +66,7 @@ module _ {V E C R S F A : Type 0} (may : May V E C R S F A) (runtime : Option Ru
   pub pending_in : (preparing next : Preparing R S) (allowance : Option ℕ) (place left : Option (Slot V))
       → PreparesIn may now runtime timeouts.recycle hooks preparing place (outcome.Pending next) left
       → AdvancesFrom may runtime hooks now timeouts (recycling_at {C = C} preparing allowance place) no_step (recycling_at next None left) turn.Pending
-  pending_in preparing next allowance (Some slot) (Some left) given = (prepared.Pending (preparation_of left next), (given, (refl, refl)))
+  pending_in preparing next allowance (Some slot) (Some left) given = (Prepared.Pending (preparation_of left next), (given, (refl, refl)))
   pending_in preparing next allowance (Some slot) None given = absurd given
   pending_in preparing next allowance None (Some left) given = absurd given
   pending_in preparing next allowance None None given = absurd given
@@ -76,7 +74,7 @@ module _ {V E C R S F A : Type 0} (may : May V E C R S F A) (runtime : Option Ru
   pub given_up_in : (preparing : Preparing R S) (allowance : Option ℕ) (place left : Option (Slot V)) (reply : StepReply) (after : Stage V C R S) (turn : Turn V E)
       → PreparesIn may now runtime timeouts.recycle hooks preparing place outcome.GivenUp left → DiscardsIn may left allowance reply after turn
       → AdvancesFrom may runtime hooks now timeouts (recycling_at {C = C} preparing allowance place) (discarding reply) after turn
-  given_up_in preparing allowance (Some slot) (Some left) reply after turn given discards = (prepared.GivenUp left, (given, discards))
+  given_up_in preparing allowance (Some slot) (Some left) reply after turn given discards = (Prepared.GivenUp left, (given, discards))
   given_up_in preparing allowance (Some slot) None reply after turn given discards = absurd given
   given_up_in preparing allowance None (Some left) reply after turn given discards = absurd given
   given_up_in preparing allowance None None reply after turn given discards = absurd given
@@ -92,7 +90,7 @@ module _ {V E C R S F A : Type 0} (may : May V E C R S F A) (runtime : Option Ru
 
   pub checking_in : (at next : Position S) (place left : Option (Slot V)) → ChecksIn may hooks at place (verdict.Pending next) left
       → AdvancesFrom may runtime hooks now timeouts (stage_of (Checking at) place) no_step (stage_of (Checking next) left) turn.Pending
-  checking_in at next (Some slot) (Some left) given = ((verdict.Pending next, left.value), (given.0, (ap (λ (s : Slot V). stage.Checking s next) given.1, refl)))
+  checking_in at next (Some slot) (Some left) given = ((verdict.Pending next, left.value), (given.0, (ap (λ (s : Slot V). Stage.Checking s next) given.1, refl)))
   checking_in at next (Some slot) None given = absurd given
   checking_in at next None (Some left) given = absurd given
   checking_in at next None None given = absurd given

@@ -1,7 +1,6 @@
 -- What a get holds at its desk at each stage, and after each turn.
 use Rattle.std.specs.Prelude.{Bool, true, false, Ok}
-use Rattle.deadpool_managed.specs.declared.get.Stage.{Stage}
-use Rattle.deadpool_managed.specs.declared.get.Stage.TheVariants.{Unpolled, Queued, Going, Creating, Recycling, Checking, Finished}
+use Rattle.deadpool_managed.specs.Stages.{Stage, Unpolled, Queued, Going, Creating, Recycling, Checking, Finished}
 use Rattle.deadpool_managed.specs.declared.get.Turn.{Turn}
 use Rattle.deadpool_managed.specs.declared.get.Turn.TheVariants.{Done}
 use Rattle.deadpool_desk.specs.declared.desk.Holding.{Holding}

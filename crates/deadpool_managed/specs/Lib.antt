@@ -4,10 +4,12 @@
 pub mod Answers
 pub mod Outside
 pub mod HookLists
+-- How far a get is, and the object that it prepares.
+pub mod Stages
+-- What an object passes before it is handed out.
 pub mod Calls
 pub mod Prepare
--- A get: how far it is, what one advance and one poll make of it, and what it holds.
-pub mod Stages
+-- A get: what one advance and one poll make of it, and what it holds.
 pub mod Held
 pub mod Kinds
 pub mod Get

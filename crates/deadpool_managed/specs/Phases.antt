@@ -7,26 +7,21 @@ use Rattle.deadpool_parts.specs.declared.moment.Runtime.{Runtime}
 use Rattle.deadpool_managed.specs.HookLists.{HookLists}
 use Rattle.deadpool_managed.specs.Outside.{May}
 use Rattle.deadpool_managed.specs.Calls.{start}
-use Rattle.deadpool_managed.specs.Prepare.{prepare, check, with_value, IsReadyPreparation, IsReadyPrepared}
+use Rattle.deadpool_managed.specs.Prepare.{prepare, post_create, with_value, IsReadyPreparation, IsReadyPrepared}
 use Rattle.deadpool_parts.specs.declared.errors.PoolError.{PoolError}
 use Rattle.deadpool_parts.specs.declared.errors.PoolError.TheVariants.{Closed, PostCreateHook}
 use Rattle.deadpool_parts.specs.declared.errors.HookError.{HookError}
 use Rattle.deadpool_managed.specs.Get.{AfterDiscard, GivesUp, ended_by}
-use Rattle.deadpool_managed.specs.declared.prepare.Position.{Position}
-use Rattle.deadpool_managed.specs.declared.prepare.Verdict.{Verdict}
+use Rattle.deadpool_managed.specs.declared.calls.Position.{Position}
+use Rattle.deadpool_managed.specs.declared.calls.Verdict.{Verdict}
 use Rattle.deadpool_parts.specs.declared.replies.StepReply.{StepReply}
 use Rattle.deadpool_parts.specs.declared.replies.StepReply.TheVariants as step
 use Rattle.deadpool_desk.specs.declared.slot.Slot.{Slot}
-use Rattle.deadpool_managed.specs.declared.prepare.Preparation.{Preparation}
-use Rattle.deadpool_managed.specs.declared.prepare.Preparation.TheVariants.{PreRecycle, Recycle, PostRecycle}
-use Rattle.deadpool_managed.specs.declared.prepare.Prepared.{Prepared}
-use Rattle.deadpool_managed.specs.declared.prepare.Prepared.TheVariants.{Accepted, GivenUp, Pending}
+use Rattle.deadpool_managed.specs.Stages.{Preparation, PreRecycle, Recycle, PostRecycle, Prepared, Accepted, GivenUp, Pending, Stage}
 use Rattle.deadpool_managed.specs.declared.prepare.Preparing.{Preparing}
 use Rattle.deadpool_managed.specs.declared.prepare.Preparing.TheVariants as preparing
 use Rattle.deadpool_managed.specs.declared.prepare.Outcome.{Outcome}
 use Rattle.deadpool_managed.specs.declared.prepare.Outcome.TheVariants as outcome
-use Rattle.deadpool_managed.specs.declared.get.Stage.{Stage}
-use Rattle.deadpool_managed.specs.declared.get.Stage.TheVariants as stage
 use Rattle.deadpool_managed.specs.declared.work.Phase.{Phase}
 use Rattle.deadpool_managed.specs.declared.work.Phase.TheVariants as phase
 use Rattle.deadpool_managed.specs.declared.work.Came.{Came}
@@ -49,19 +44,19 @@ module _ {V R S : Type 0} where
 module _ {V C R S : Type 0} where
   -- an idle object under preparation, in its place
   abbrev pub recycling_at : Preparing R S → Option ℕ → Option (Slot V) → Stage V C R S
-  recycling_at preparing allowance (Some slot) = stage.Recycling (preparation_of slot preparing) allowance
-  recycling_at preparing allowance None = stage.Finished
+  recycling_at preparing allowance (Some slot) = Stage.Recycling (preparation_of slot preparing) allowance
+  recycling_at preparing allowance None = Stage.Finished
 
   abbrev pub stage_of : Phase C R S → Option (Slot V) → Stage V C R S
-  stage_of phase.Unpolled slot = stage.Unpolled
-  stage_of (phase.Queued ticket deadline) slot = stage.Queued ticket deadline
-  stage_of (phase.Going allowance) slot = stage.Going allowance
-  stage_of (phase.Creating begun deadline) slot = stage.Creating begun deadline
+  stage_of phase.Unpolled slot = Stage.Unpolled
+  stage_of (phase.Queued ticket deadline) slot = Stage.Queued ticket deadline
+  stage_of (phase.Going allowance) slot = Stage.Going allowance
+  stage_of (phase.Creating begun deadline) slot = Stage.Creating begun deadline
   stage_of (phase.Served left) slot = recycling_at (preparing.PreRecycle start) (Some left) slot
   stage_of (phase.Recycling preparing) slot = recycling_at preparing None slot
-  stage_of (phase.Checking at) (Some slot) = stage.Checking slot at
-  stage_of (phase.Checking at) None = stage.Finished
-  stage_of phase.Finished slot = stage.Finished
+  stage_of (phase.Checking at) (Some slot) = Stage.Checking slot at
+  stage_of (phase.Checking at) None = Stage.Finished
+  stage_of phase.Finished slot = Stage.Finished
 
   -- the object is there where it is prepared or checked, and ready where it has to be
   abbrev pub IsPlaced : (V → Type 0) → Phase C R S → Option (Slot V) → Type 0
@@ -106,7 +101,7 @@ module _ {V E C R S F A : Type 0} (may : May V E C R S F A) where
   PreparesIn now runtime timeout hooks preparing _ outcome _ = ⊥
 
   abbrev pub ChecksIn : HookLists F A → Position S → Option (Slot V) → Verdict S E → Option (Slot V) → Type 0
-  ChecksIn hooks at (Some slot) verdict (Some left) = Gives {A = Verdict S E × V} may (check {E = E} {C = C} {R = R} hooks slot at) (verdict, left.value) × (left ≡ with_value left.value slot)
+  ChecksIn hooks at (Some slot) verdict (Some left) = Gives {A = Verdict S E × V} may (post_create {E = E} {C = C} {R = R} hooks slot at) (verdict, left.value) × (left ≡ with_value left.value slot)
   ChecksIn hooks at _ verdict _ = ⊥
 
   -- an object that was given up, if there was one
@@ -119,7 +114,7 @@ module _ {V E C R S F A : Type 0} (may : May V E C R S F A) where
   DiscardsIn None allowance reply after came = ⊤
 
   abbrev pub RefusesIn : Option (Slot V) → HookError E → StepReply → Stage V C R S → Turn V E → Type 0
-  RefusesIn (Some slot) cause reply after came = GivesUp may slot.value reply × (after ≡ stage.Finished) × (came ≡ ended_by (PostCreateHook cause) reply)
+  RefusesIn (Some slot) cause reply after came = GivesUp may slot.value reply × (after ≡ Stage.Finished) × (came ≡ ended_by (PostCreateHook cause) reply)
   RefusesIn None cause reply after came = ⊤
 
 abbrev pub IsReadyHeld : {V : Type 0} → (V → Type 0) → Option (Slot V) → Type 0

@@ -8,7 +8,7 @@ use Rattle.deadpool_managed.specs.Outside.{May, may}
 use Rattle.deadpool_managed.specs.Get.{Made, Makes, AdvancesFrom, IfReadyObject, PollsOver, CancelsFrom}
 use Rattle.deadpool_managed.specs.Held.{held_after}
 use Rattle.deadpool_managed.specs.Phases.{IsPlaced, stage_of, turn_of}
-use Rattle.deadpool_managed.specs.declared.get.Stage.{Stage}
+use Rattle.deadpool_managed.specs.Stages.{Stage}
 use Rattle.deadpool_managed.specs.declared.get.Turn.{Turn}
 use Rattle.deadpool_managed.specs.declared.hooks.AsyncHook.{Ghosts as AsyncHookOf}
 use Rattle.deadpool_managed.specs.declared.hooks.SyncHook.{Ghosts as SyncHookOf}

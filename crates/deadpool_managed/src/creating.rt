@@ -7,10 +7,10 @@ ghost use Rattle.deadpool_managed.specs.Get.{Made, Makes, AfterCreation, AfterCr
 ghost use Rattle.deadpool_desk.specs.Held.{held_if_created};
 ghost use Rattle.deadpool_managed.specs.Phases.{IsPlaced, came_by};
 ghost use Rattle.deadpool_managed.specs.Steps.{AdvancesAt, held_now, lent, stage_at, turn_at};
-ghost use Rattle.deadpool_managed.specs.declared.get.Stage.TheVariants.{Creating};
+ghost use Rattle.deadpool_managed.specs.Stages.{Creating};
 ghost use Rattle.deadpool_desk.specs.declared.desk.Holding.{Holding};
 
-use crate::prepare::Position;
+use crate::calls::Position;
 use crate::work::{Came, Phase, Work};
 use crate::{
     AsyncHook, Environment, Manager, Metrics, Moment, PoolError, Slot, StepReply, SyncHook,

@@ -11,7 +11,7 @@ ghost use Rattle.deadpool_desk.specs.Held.{held_if_entered, held_if_asked, held_
 ghost use Rattle.deadpool_managed.specs.Phases.{IsPlaced};
 ghost use Rattle.deadpool_managed.specs.Steps.{AdvancesAt, held_now, lent, stage_at, turn_at};
 ghost use Rattle.deadpool_desk.specs.declared.desk.Holding.{Holding};
-ghost use Rattle.deadpool_managed.specs.declared.get.Stage.TheVariants.{Unpolled};
+ghost use Rattle.deadpool_managed.specs.Stages.{Unpolled};
 
 use crate::gate::Ticket;
 use crate::work::{Came, Phase, Work};

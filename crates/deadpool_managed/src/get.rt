@@ -10,10 +10,8 @@ ghost use Rattle.deadpool_managed.specs.Held.{is_going, held_at, held_after};
 ghost use Rattle.deadpool_managed.specs.Kinds.{kind_of};
 ghost use Rattle.deadpool_managed.specs.Steps.{AdvancesAt, PollsAt, CancelsAt, lent};
 ghost use Rattle.deadpool_desk.specs.declared.desk.Holding.{Holding};
-ghost use Rattle.deadpool_managed.specs.declared.get.Stage.TheVariants.{Unpolled};
+ghost use Rattle.deadpool_managed.specs.Stages.{Unpolled};
 
-use crate::gate::Ticket;
-use crate::prepare::{Position, Preparation};
 use crate::progress::Progress;
 use crate::{
     AsyncHook, Environment, Manager, Moment, PoolError, Slot, StageKind, SyncHook, Timeouts,
@@ -35,23 +33,6 @@ pub enum Turn<T, E> {
 
 // It is moved at each poll.
 const _: () = prove!(size_of::<Turn<u64, u64>>() <= 128);
-
-/// How far a get is.
-#[derive(Drop)]
-pub enum Stage<T, C, R, S> {
-    Unpolled,
-    /// In the queue, until a deadline if there is one.
-    Queued(Ticket, Option<Moment>),
-    /// With a place and nothing else. It may take so many idle objects; none set is as many as are idle.
-    Going(Option<usize>),
-    /// With a creation under way: its state, once begun, and its deadline.
-    Creating(Option<C>, Option<Moment>),
-    /// With an idle object, and as many more as it may take after that one.
-    Recycling(Preparation<T, R, S>, Option<usize>),
-    /// With a new object, which the hooks see.
-    Checking(Slot<T>, Position<S>),
-    Finished,
-}
 
 /// A get, as a state that its owner polls. Dropping it gives nothing back: `cancel` does.
 #[derive(Drop)]

@@ -1,227 +1,138 @@
-//! The calls that an object passes before it is handed out.
+//! What an object passes before it is handed out: an idle one its preparation, a new one its hooks.
 //!
 //! A call that is pending keeps its state until the next poll; the calls before it are not made again.
-ghost use Rattle.std.specs.Prelude.{◌≡◌, All, drop, Option};
+ghost use Rattle.std.specs.Prelude.{◌≡◌};
 ghost use Rattle.futures.specs.Task.{Keeps};
 ghost use Rattle.deadpool_parts.specs.Program.{Gives};
-ghost use Rattle.deadpool_managed.specs.HookLists.{CanCall};
-ghost use Rattle.deadpool_managed.specs.Outside.{may, may_hook};
-ghost use Rattle.deadpool_managed.specs.Calls.{apply, pass, start};
-ghost use Rattle.deadpool_managed.specs.declared.prepare.Preparation.TheVariants.{PreRecycle};
-ghost use Rattle.deadpool_managed.specs.Prepare.{prepare, begin_recycling, poll_recycling, approve, check, with_value, IsReadyPreparation, IsReadyPrepared};
+ghost use Rattle.deadpool_managed.specs.Outside.{may};
+ghost use Rattle.deadpool_managed.specs.Calls.{start};
+ghost use Rattle.deadpool_managed.specs.Prepare.{prepare, pre_recycle, begin_recycling, poll_recycling, post_recycle, post_create, with_value, IsReadyPreparation, IsReadyPrepared};
 ghost use Rattle.deadpool_managed.specs.Phases.{preparation_of, prepared_of, IsPlaced, PreparesIn, IsReadyIn, ChecksIn, IsReadyHeld};
 ghost use Rattle.deadpool_managed.specs.declared.work.Phase.{Phase};
 ghost use Rattle.deadpool_managed.specs.declared.prepare.Preparing.{Preparing};
 
-use crate::{
-    AsyncHook, Environment, Hook, HookError, HookResult, Manager, Metrics, Moment, Slot, SyncHook,
-};
+use crate::calls::{Position, Verdict, ask_hooks};
+use crate::{AsyncHook, Environment, Manager, Moment, Slot, SyncHook};
 use deadpool_parts::deadline::{deadline_after, is_reached, lacks_runtime};
 use futures::task::{Context, Poll};
 use std::time::Duration;
 
-/// How far an object has come in a list of hooks: how many have accepted it, and the state of the pending one.
-#[derive(Drop)]
-pub struct Position<S> {
-    pub accepted: usize,
-    pub begun: Option<S>,
-}
-
-impl<S> Position<S> {
-    /// Before the first hook.
-    pub fn start() -> Self
-        ensures { result ≡ record { accepted = 0; begun = Option.None } }
-    {
-        Position {
-            accepted: 0,
-            begun: None,
-        }
-    }
-}
-
-/// What came of a list of hooks.
-#[derive(Drop)]
-pub enum Verdict<S, E> {
-    Accepted,
-    Refused(HookError<E>),
-    Pending(Position<S>),
-}
-
-/// An object that was idle, under preparation. No code makes one: contracts see a get so.
-#[derive(Drop)]
-pub enum Preparation<T, R, S> {
-    /// The hooks before the recycling see it.
-    PreRecycle(Slot<T>, Position<S>),
-    /// It is being recycled, until a deadline if there is one.
-    Recycle(Slot<T>, R, Option<Moment>),
-    /// It was recycled, and the hooks after that see it.
-    PostRecycle(Slot<T>, Position<S>),
-}
-
-/// What came of a preparation. No code makes one either.
-#[derive(Drop)]
-pub enum Prepared<T, R, S> {
-    Accepted(Slot<T>),
-    /// It was refused, or its recycling ran out of time or had no runtime to tell it.
-    GivenUp(Slot<T>),
-    Pending(Preparation<T, R, S>),
-}
-
 /// How far the preparation of an idle object is, which stands beside it.
 #[derive(Drop)]
 pub enum Preparing<R, S> {
+    /// The hooks before the recycling see the object.
     PreRecycle(Position<S>),
+    /// It is being recycled, until a deadline if there is one.
     Recycle(R, Option<Moment>),
+    /// It was recycled, and the hooks after that see it.
     PostRecycle(Position<S>),
 }
 
-/// What came of one more step of it.
+/// What came of a preparation that went on.
 #[derive(Drop)]
 pub enum Outcome<R, S> {
     Accepted,
+    /// The object was refused, or its recycling ran out of time or had no runtime to tell it.
     GivenUp,
     Pending(Preparing<R, S>),
 }
 
-// A hook sees an object; one that was begun goes on. Gives its answer and the state that it left.
-fn apply<M: Manager, F: SyncHook<M>, A: AsyncHook<M>>(
-    hook: &Hook<F, A>,
-    begun: Option<A::State>,
-    value: &mut M::Type,
-    metrics: &Metrics,
-    cx: &mut Context<'_>,
-) -> (Poll<HookResult<M::Error>>, Option<A::State>)
-    requires { CanCall F.can_call hook.now }
-    ensures gives { Gives (may_hook F.SyncHook A.AsyncHook)
-        (apply hook.now begun value.old metrics.now) (result.0, result.1, value.new) }
-    ensures ready { M.is_ready value.old → M.is_ready value.new }
-    ensures kept { Keeps cx.old cx.new }
-{
-    match hook {
-        Hook::Fn(hook) => (Poll::Ready(hook.call(value, metrics)), None),
-        Hook::AsyncFn(hook) => match begun {
-            Some(mut state) => {
-                let answer = hook.poll(&mut state, value, metrics, cx);
-                (answer, Some(state))
-            }
-            None => {
-                let mut state = hook.begin(value, metrics);
-                let answer = hook.poll(&mut state, value, metrics, cx);
-                (answer, Some(state))
-            }
-        },
-    }
-}
-
-// The hooks see an object in turn, from the position on.
-fn pass<M: Manager, F: SyncHook<M>, A: AsyncHook<M>>(
-    hooks: &[Hook<F, A>],
-    position: Position<A::State>,
-    value: &mut M::Type,
-    metrics: &Metrics,
-    cx: &mut Context<'_>,
-) -> Verdict<A::State, M::Error>
-    requires { All (CanCall F.can_call) hooks.now }
-    ensures gives { Gives (may_hook F.SyncHook A.AsyncHook)
-        (pass position.accepted (drop position.accepted hooks.now) position.begun
-        value.old metrics.now) (result, value.new) }
-    ensures ready { M.is_ready value.old → M.is_ready value.new }
-    ensures kept { Keeps cx.old cx.new }
-{
-    let Position {
-        mut accepted,
-        mut begun,
-    } = position;
-    while accepted < hooks.len() {
-        let started = begun.take();
-        let (answer, state) = apply(&hooks[accepted], started, value, metrics, cx);
-        match answer {
-            Poll::Ready(Ok(())) => accepted += 1,
-            Poll::Ready(Err(cause)) => return Verdict::Refused(cause),
-            Poll::Pending => {
-                return Verdict::Pending(Position {
-                    accepted,
-                    begun: state,
-                });
-            }
-        }
-    }
-    Verdict::Accepted
-}
-
-// The hooks that see a new object, from the position on.
-fn check<M: Manager, F: SyncHook<M>, A: AsyncHook<M>>(
-    slot: &mut Slot<M::Type>,
-    position: Position<A::State>,
-    environment: &Environment<M, F, A>,
-    cx: &mut Context<'_>,
-) -> Verdict<A::State, M::Error>
-    ensures gives { Gives (may M.Manager F.SyncHook A.AsyncHook environment.now.manager)
-        (check environment.now.hooks slot.old position) (result, slot.new.value) }
-    ensures same { slot.new ≡ with_value slot.new.value slot.old }
-    ensures ready { M.is_ready slot.old.value → M.is_ready slot.new.value }
-    ensures kept { Keeps cx.old cx.new }
-{
-    pass(
-        environment.hooks.post_create(),
-        position,
-        &mut slot.value,
-        &slot.metrics,
-        cx,
-    )
-}
-
-// The hooks after the recycling see the object, from the position on.
-fn approve<M: Manager, F: SyncHook<M>, A: AsyncHook<M>>(
-    slot: &mut Slot<M::Type>,
-    position: Position<A::State>,
+// An object that was served now is prepared, in its place.
+pub(crate) fn pre_recycle_in<M: Manager, F: SyncHook<M>, A: AsyncHook<M>>(
+    place: &mut Option<Slot<M::Type>>,
+    timeout: Option<Duration>,
     environment: &Environment<M, F, A>,
     now: Moment,
     cx: &mut Context<'_>,
 ) -> Outcome<M::Recycling, A::State>
-    requires { M.is_ready slot.old.value }
+    requires { IsPlaced {C = M.Creating} {R = M.Recycling} {S = A.State} M.is_ready
+        (Phase.Served 0) place.old }
+    ensures gives { PreparesIn (may M.Manager F.SyncHook A.AsyncHook environment.now.manager)
+        now environment.now.runtime timeout environment.now.hooks (Preparing.PreRecycle start)
+        place.old result place.new }
+    ensures ready { IsReadyIn M.is_ready result place.new }
+    ensures kept { Keeps cx.old cx.new }
+{
+    match place {
+        Some(slot) => pre_recycle(slot, Position::start(), timeout, environment, now, cx),
+        None => Outcome::GivenUp,
+    }
+}
+
+// An object whose preparation was pending is prepared further, in its place.
+pub(crate) fn prepare_in<M: Manager, F: SyncHook<M>, A: AsyncHook<M>>(
+    place: &mut Option<Slot<M::Type>>,
+    preparing: Preparing<M::Recycling, A::State>,
+    timeout: Option<Duration>,
+    environment: &Environment<M, F, A>,
+    now: Moment,
+    cx: &mut Context<'_>,
+) -> Outcome<M::Recycling, A::State>
+    requires { IsPlaced {C = M.Creating} M.is_ready (Phase.Recycling preparing) place.old }
+    ensures gives { PreparesIn (may M.Manager F.SyncHook A.AsyncHook environment.now.manager)
+        now environment.now.runtime timeout environment.now.hooks preparing
+        place.old result place.new }
+    ensures ready { IsReadyIn M.is_ready result place.new }
+    ensures kept { Keeps cx.old cx.new }
+{
+    match place {
+        Some(slot) => prepare(slot, preparing, timeout, environment, now, cx),
+        None => Outcome::GivenUp,
+    }
+}
+
+// Prepares an object that was idle, from where it had come.
+fn prepare<M: Manager, F: SyncHook<M>, A: AsyncHook<M>>(
+    slot: &mut Slot<M::Type>,
+    preparing: Preparing<M::Recycling, A::State>,
+    timeout: Option<Duration>,
+    environment: &Environment<M, F, A>,
+    now: Moment,
+    cx: &mut Context<'_>,
+) -> Outcome<M::Recycling, A::State>
+    requires { IsReadyPreparation M.is_ready (preparation_of slot.old preparing) }
     ensures gives { Gives (may M.Manager F.SyncHook A.AsyncHook environment.now.manager)
-        (approve now environment.now.hooks slot.old position) (prepared_of slot.new result) }
+        (prepare now environment.now.runtime timeout environment.now.hooks
+        (preparation_of slot.old preparing)) (prepared_of slot.new result) }
     ensures ready { IsReadyPrepared M.is_ready (prepared_of slot.new result) }
     ensures kept { Keeps cx.old cx.new }
 {
-    let hooks = environment.hooks.post_recycle();
-    match pass(hooks, position, &mut slot.value, &slot.metrics, cx) {
-        Verdict::Accepted => {
-            slot.metrics = slot.metrics.recycled(now);
-            Outcome::Accepted
+    match preparing {
+        Preparing::PreRecycle(position) => pre_recycle(
+            slot,
+            position,
+            timeout,
+            environment,
+            now,
+            cx,
+        ),
+        Preparing::Recycle(recycling, deadline) => {
+            poll_recycling(slot, recycling, deadline, environment, now, cx)
         }
+        Preparing::PostRecycle(position) => post_recycle(slot, position, environment, now, cx),
+    }
+}
+
+// The hooks that see an object before its recycling are asked, from the position on.
+fn pre_recycle<M: Manager, F: SyncHook<M>, A: AsyncHook<M>>(
+    slot: &mut Slot<M::Type>,
+    position: Position<A::State>,
+    timeout: Option<Duration>,
+    environment: &Environment<M, F, A>,
+    now: Moment,
+    cx: &mut Context<'_>,
+) -> Outcome<M::Recycling, A::State>
+    ensures gives { Gives (may M.Manager F.SyncHook A.AsyncHook environment.now.manager)
+        (pre_recycle now environment.now.runtime timeout environment.now.hooks
+        slot.old position) (prepared_of slot.new result) }
+    ensures ready { IsReadyPrepared M.is_ready (prepared_of slot.new result) }
+    ensures kept { Keeps cx.old cx.new }
+{
+    let hooks = environment.hooks.pre_recycle();
+    match ask_hooks(hooks, position, &mut slot.value, &slot.metrics, cx) {
+        Verdict::Accepted => begin_recycling(slot, timeout, environment, now, cx),
         Verdict::Refused(_) => Outcome::GivenUp,
-        Verdict::Pending(position) => Outcome::Pending(Preparing::PostRecycle(position)),
-    }
-}
-
-// Goes on with a recycling. One that is pending at its deadline has expired.
-fn poll_recycling<M: Manager, F: SyncHook<M>, A: AsyncHook<M>>(
-    slot: &mut Slot<M::Type>,
-    mut recycling: M::Recycling,
-    deadline: Option<Moment>,
-    environment: &Environment<M, F, A>,
-    now: Moment,
-    cx: &mut Context<'_>,
-) -> Outcome<M::Recycling, A::State>
-    ensures gives { Gives (may M.Manager F.SyncHook A.AsyncHook environment.now.manager)
-        (poll_recycling now environment.now.hooks deadline recycling slot.old)
-        (prepared_of slot.new result) }
-    ensures ready { IsReadyPrepared M.is_ready (prepared_of slot.new result) }
-    ensures kept { Keeps cx.old cx.new }
-{
-    let manager = &environment.manager;
-    match manager.poll_recycle(&mut recycling, &mut slot.value, &slot.metrics, cx) {
-        Poll::Ready(Ok(())) => approve(slot, Position::start(), environment, now, cx),
-        Poll::Ready(Err(_)) => Outcome::GivenUp,
-        Poll::Pending => {
-            if is_reached(deadline, now) {
-                Outcome::GivenUp
-            } else {
-                Outcome::Pending(Preparing::Recycle(recycling, deadline))
-            }
-        }
+        Verdict::Pending(position) => Outcome::Pending(Preparing::PreRecycle(position)),
     }
 }
 
@@ -247,78 +158,62 @@ fn begin_recycling<M: Manager, F: SyncHook<M>, A: AsyncHook<M>>(
     poll_recycling(slot, recycling, deadline, environment, now, cx)
 }
 
-// Prepares an object that was idle, from where it had come.
-fn prepare<M: Manager, F: SyncHook<M>, A: AsyncHook<M>>(
+// Goes on with a recycling. One that is pending at its deadline has expired.
+fn poll_recycling<M: Manager, F: SyncHook<M>, A: AsyncHook<M>>(
     slot: &mut Slot<M::Type>,
-    preparing: Preparing<M::Recycling, A::State>,
-    timeout: Option<Duration>,
+    mut recycling: M::Recycling,
+    deadline: Option<Moment>,
     environment: &Environment<M, F, A>,
     now: Moment,
     cx: &mut Context<'_>,
 ) -> Outcome<M::Recycling, A::State>
-    requires { IsReadyPreparation M.is_ready (preparation_of slot.old preparing) }
     ensures gives { Gives (may M.Manager F.SyncHook A.AsyncHook environment.now.manager)
-        (prepare now environment.now.runtime timeout environment.now.hooks
-        (preparation_of slot.old preparing)) (prepared_of slot.new result) }
+        (poll_recycling now environment.now.hooks deadline recycling slot.old)
+        (prepared_of slot.new result) }
     ensures ready { IsReadyPrepared M.is_ready (prepared_of slot.new result) }
     ensures kept { Keeps cx.old cx.new }
 {
-    match preparing {
-        Preparing::PreRecycle(position) => review(slot, position, timeout, environment, now, cx),
-        Preparing::Recycle(recycling, deadline) => {
-            poll_recycling(slot, recycling, deadline, environment, now, cx)
+    let manager = &environment.manager;
+    match manager.poll_recycle(&mut recycling, &mut slot.value, &slot.metrics, cx) {
+        Poll::Ready(Ok(())) => post_recycle(slot, Position::start(), environment, now, cx),
+        Poll::Ready(Err(_)) => Outcome::GivenUp,
+        Poll::Pending => {
+            if is_reached(deadline, now) {
+                Outcome::GivenUp
+            } else {
+                Outcome::Pending(Preparing::Recycle(recycling, deadline))
+            }
         }
-        Preparing::PostRecycle(position) => approve(slot, position, environment, now, cx),
     }
 }
 
-// The hooks before the recycling see the object, from the position on.
-fn review<M: Manager, F: SyncHook<M>, A: AsyncHook<M>>(
+// The hooks that see an object after its recycling are asked, from the position on.
+fn post_recycle<M: Manager, F: SyncHook<M>, A: AsyncHook<M>>(
     slot: &mut Slot<M::Type>,
     position: Position<A::State>,
-    timeout: Option<Duration>,
     environment: &Environment<M, F, A>,
     now: Moment,
     cx: &mut Context<'_>,
 ) -> Outcome<M::Recycling, A::State>
+    requires { M.is_ready slot.old.value }
     ensures gives { Gives (may M.Manager F.SyncHook A.AsyncHook environment.now.manager)
-        (prepare now environment.now.runtime timeout environment.now.hooks
-        (PreRecycle slot.old position)) (prepared_of slot.new result) }
+        (post_recycle now environment.now.hooks slot.old position) (prepared_of slot.new result) }
     ensures ready { IsReadyPrepared M.is_ready (prepared_of slot.new result) }
     ensures kept { Keeps cx.old cx.new }
 {
-    let hooks = environment.hooks.pre_recycle();
-    match pass(hooks, position, &mut slot.value, &slot.metrics, cx) {
-        Verdict::Accepted => begin_recycling(slot, timeout, environment, now, cx),
+    let hooks = environment.hooks.post_recycle();
+    match ask_hooks(hooks, position, &mut slot.value, &slot.metrics, cx) {
+        Verdict::Accepted => {
+            slot.metrics = slot.metrics.recycled(now);
+            Outcome::Accepted
+        }
         Verdict::Refused(_) => Outcome::GivenUp,
-        Verdict::Pending(position) => Outcome::Pending(Preparing::PreRecycle(position)),
+        Verdict::Pending(position) => Outcome::Pending(Preparing::PostRecycle(position)),
     }
 }
 
-// The object in its place is prepared further.
-pub(crate) fn prepare_in<M: Manager, F: SyncHook<M>, A: AsyncHook<M>>(
-    place: &mut Option<Slot<M::Type>>,
-    preparing: Preparing<M::Recycling, A::State>,
-    timeout: Option<Duration>,
-    environment: &Environment<M, F, A>,
-    now: Moment,
-    cx: &mut Context<'_>,
-) -> Outcome<M::Recycling, A::State>
-    requires { IsPlaced {C = M.Creating} M.is_ready (Phase.Recycling preparing) place.old }
-    ensures gives { PreparesIn (may M.Manager F.SyncHook A.AsyncHook environment.now.manager)
-        now environment.now.runtime timeout environment.now.hooks preparing
-        place.old result place.new }
-    ensures ready { IsReadyIn M.is_ready result place.new }
-    ensures kept { Keeps cx.old cx.new }
-{
-    match place {
-        Some(slot) => prepare(slot, preparing, timeout, environment, now, cx),
-        None => Outcome::GivenUp,
-    }
-}
-
-// The hooks see the new object in its place, from the position on.
-pub(crate) fn check_in<M: Manager, F: SyncHook<M>, A: AsyncHook<M>>(
+// The hooks that see the new object in its place are asked, from the position on.
+pub(crate) fn post_create_in<M: Manager, F: SyncHook<M>, A: AsyncHook<M>>(
     place: &mut Option<Slot<M::Type>>,
     position: Position<A::State>,
     environment: &Environment<M, F, A>,
@@ -332,29 +227,29 @@ pub(crate) fn check_in<M: Manager, F: SyncHook<M>, A: AsyncHook<M>>(
     ensures kept { Keeps cx.old cx.new }
 {
     match place {
-        Some(slot) => check(slot, position, environment, cx),
+        Some(slot) => post_create(slot, position, environment, cx),
         None => Verdict::Accepted,
     }
 }
 
-// An object that was served now is prepared in its place.
-pub(crate) fn review_in<M: Manager, F: SyncHook<M>, A: AsyncHook<M>>(
-    place: &mut Option<Slot<M::Type>>,
-    timeout: Option<Duration>,
+// The hooks that see a new object are asked, from the position on.
+fn post_create<M: Manager, F: SyncHook<M>, A: AsyncHook<M>>(
+    slot: &mut Slot<M::Type>,
+    position: Position<A::State>,
     environment: &Environment<M, F, A>,
-    now: Moment,
     cx: &mut Context<'_>,
-) -> Outcome<M::Recycling, A::State>
-    requires { IsPlaced {C = M.Creating} {R = M.Recycling} {S = A.State} M.is_ready
-        (Phase.Served 0) place.old }
-    ensures gives { PreparesIn (may M.Manager F.SyncHook A.AsyncHook environment.now.manager)
-        now environment.now.runtime timeout environment.now.hooks (Preparing.PreRecycle start)
-        place.old result place.new }
-    ensures ready { IsReadyIn M.is_ready result place.new }
+) -> Verdict<A::State, M::Error>
+    ensures gives { Gives (may M.Manager F.SyncHook A.AsyncHook environment.now.manager)
+        (post_create environment.now.hooks slot.old position) (result, slot.new.value) }
+    ensures same { slot.new ≡ with_value slot.new.value slot.old }
+    ensures ready { M.is_ready slot.old.value → M.is_ready slot.new.value }
     ensures kept { Keeps cx.old cx.new }
 {
-    match place {
-        Some(slot) => review(slot, Position::start(), timeout, environment, now, cx),
-        None => Outcome::GivenUp,
-    }
+    ask_hooks(
+        environment.hooks.post_create(),
+        position,
+        &mut slot.value,
+        &slot.metrics,
+        cx,
+    )
 }

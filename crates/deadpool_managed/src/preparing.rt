@@ -7,7 +7,8 @@ ghost use Rattle.deadpool_managed.specs.Steps.{AdvancesAt, Leaves, held_now, len
 ghost use Rattle.deadpool_desk.specs.declared.desk.Holding.{Holding};
 ghost use Rattle.deadpool_parts.specs.declared.replies.StepReply.{StepReply};
 
-use crate::prepare::{Outcome, Position, Preparing, Verdict, check_in, prepare_in, review_in};
+use crate::calls::{Position, Verdict};
+use crate::prepare::{Outcome, Preparing, post_create_in, pre_recycle_in, prepare_in};
 use crate::work::{Came, Phase, Work};
 use crate::{
     AsyncHook, Environment, HookError, Manager, Moment, PoolError, StepReply, SyncHook, Timeouts,
@@ -38,7 +39,7 @@ impl<M: Manager, A: AsyncHook<M>> Work<M, A> {
         ensures kept { Keeps cx.old cx.new }
     {
         self.phase = Phase::Finished;
-        match review_in(&mut self.slot, timeouts.recycle, environment, now, cx) {
+        match pre_recycle_in(&mut self.slot, timeouts.recycle, environment, now, cx) {
             Outcome::Accepted => Came::Given,
             Outcome::Pending(preparing) => {
                 self.phase = Phase::Recycling(preparing);
@@ -139,7 +140,7 @@ impl<M: Manager, A: AsyncHook<M>> Work<M, A> {
         ensures falls { result ≢ Came.More }
         ensures kept { Keeps cx.old cx.new }
     {
-        match check_in(&mut self.slot, position, environment, cx) {
+        match post_create_in(&mut self.slot, position, environment, cx) {
             Verdict::Accepted => Came::Given,
             Verdict::Pending(position) => {
                 self.phase = Phase::Checking(position);

@@ -13,8 +13,9 @@ ghost use Rattle.deadpool_parts.specs.declared.replies.StepReply.{StepReply};
 ghost use Rattle.deadpool_managed.specs.Phases.{IsPlaced, IsPending, GivesUpIn, turn_of};
 ghost use Rattle.deadpool_managed.specs.Steps.{AdvancesAt, PollsAt, CancelsAt, Leaves, lent, stage_at, turn_at};
 
+use crate::calls::Position;
 use crate::gate::Ticket;
-use crate::prepare::{Position, Preparing};
+use crate::prepare::Preparing;
 use crate::{
     AsyncHook, Environment, Manager, Moment, PoolError, Slot, StageKind, StepReply, SyncHook,
     Timeouts, Turn,
@@ -24,17 +25,21 @@ use deadpool_parts::deadline::is_reached;
 use futures::task::Context;
 use std::mem;
 
-/// How far a get is, with its object beside it.
+/// How far a get is, with its object beside it. Contracts see both as one stage.
 #[derive(Drop)]
 pub enum Phase<C, R, S> {
     Unpolled,
     /// With an idle object that was served now, and as many more as it may take.
     Served(usize),
+    /// In the queue, until a deadline if there is one.
     Queued(Ticket, Option<Moment>),
+    /// With a place and nothing else. It may take so many idle objects; none set is as many as are idle.
     Going(Option<usize>),
+    /// With a creation under way: its state, once begun, and its deadline.
     Creating(Option<C>, Option<Moment>),
     /// With an idle object whose preparation was pending.
     Recycling(Preparing<R, S>),
+    /// With a new object, which the hooks see.
     Checking(Position<S>),
     Finished,
 }

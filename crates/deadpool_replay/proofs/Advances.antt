@@ -1,11 +1,10 @@
 -- Advances of a get with a creation under way, with an object, or that has ended.
 use Rattle.deadpool_replay.proofs.Basics.{◌≡◌, ℕ, ◌+◌, ◌-◌, ◌≤◌, List, false, set, refl, ap, ◌∙◌, arith, inl, inr, Option, Some, None, Result, Ok, Err, slice_get, cond-true, cond-false, Return, ◌>>=◌, Gives, Gives-bind, set-same, owned-set, length-with_numbered, length}
-use Rattle.deadpool_replay.proofs.Words.{Poll, deadline_after, is_reached, lacks_runtime, Moment, Timeouts, PoolError, Timeout, Backend, NoRuntimeSpecified, PostCreateHook, start, new_metrics, DeskState, settled, Fails, Getting, May, create, prepare, check, with_value, Made, no_step, discarding, by_creation as creating, failing, refusing, Makes, AfterCreation, AfterPrepared, AfterChecked, AdvancesCreation, ended_by, Pool, fail, rest, go_on, with_slot, slot_number, created, reviewed, checked, hand_out, advance_at, party_of, standing_of, IsCounted, has_ticket, queue_of, given, reply_to, Slot, Position, Verdict, Preparation, Prepared, Stage, Turn, StepReply, Reply, core_desk}
+use Rattle.deadpool_replay.proofs.Words.{Poll, deadline_after, is_reached, lacks_runtime, Moment, Timeouts, PoolError, Timeout, Backend, NoRuntimeSpecified, PostCreateHook, start, new_metrics, DeskState, settled, Fails, Getting, May, create, prepare, post_create, with_value, Made, no_step, discarding, by_creation as creating, failing, refusing, Makes, AfterCreation, AfterPrepared, AfterChecked, AdvancesCreation, ended_by, Pool, fail, rest, go_on, with_slot, slot_number, created, reviewed, checked, hand_out, advance_at, party_of, standing_of, IsCounted, has_ticket, queue_of, given, reply_to, Slot, Position, Verdict, Preparation, Prepared, Stage, Turn, StepReply, Reply, core_desk}
 use Rattle.futures.specs.declared.task.Poll.TheVariants as poll
 use Rattle.deadpool_parts.specs.declared.errors.TimeoutType.TheVariants as phase
-use Rattle.deadpool_managed.specs.declared.prepare.Verdict.TheVariants as verdict
-use Rattle.deadpool_managed.specs.declared.prepare.Prepared.TheVariants as prepared
-use Rattle.deadpool_managed.specs.declared.get.Stage.TheVariants as stage
+use Rattle.deadpool_managed.specs.declared.calls.Verdict.TheVariants as verdict
+use Rattle.deadpool_managed.specs.Stages as stage
 use Rattle.deadpool_managed.specs.declared.get.Turn.TheVariants as turn
 use Rattle.deadpool_parts.specs.declared.replies.StepReply.TheVariants as step
 use Rattle.deadpool_desk.specs.declared.desk.CreatedReply.TheVariants as numbered
@@ -184,15 +183,15 @@ module _ {V E C R S F A : Type 0} (may : May V E C R S F A) (fixed : Fixed F A) 
       → Gives may (reviewed n (party_at own (stage.Recycling preparation allowance)) allowance pool x)
       (reply_to t, image_of fixed core' (set gets n (get_at own s)) (given t out))
       × IsCounted core' (set gets n (get_at own s)) (given t out)
-  prepared_answered preparation allowance (prepared.Accepted slot) no_step s t h e a =
+  prepared_answered preparation allowance (Prepared.Accepted slot) no_step s t h e a =
       rw (a.0, a.1, e) (object_given (stage.Recycling preparation allowance) h (λ u. refl) refl refl refl refl slot)
-  prepared_answered preparation allowance (prepared.Pending left) no_step s t h e a =
+  prepared_answered preparation allowance (Prepared.Pending left) no_step s t h e a =
       rw (a.0, a.1, e)
       (object_rests (stage.Recycling preparation allowance) h (λ u. refl) refl refl refl refl (stage.Recycling left None) (λ u. refl) refl refl refl refl)
-  prepared_answered preparation allowance (prepared.GivenUp slot) (discarding step.Done) s t h e a =
+  prepared_answered preparation allowance (Prepared.GivenUp slot) (discarding step.Done) s t h e a =
       let all = object_discarded (stage.Recycling preparation allowance) h (λ u. refl) refl refl refl refl allowance in
       rw (a.1, a.2, e.1) ((a.0.0, (a.0.1, all.0)), all.1)
-  prepared_answered preparation allowance (prepared.GivenUp slot) (discarding step.Unknown) s t h e a =
+  prepared_answered preparation allowance (Prepared.GivenUp slot) (discarding step.Unknown) s t h e a =
       absurd (let one = one_object (stage.Recycling preparation allowance) h (λ u. refl) refl refl refl refl in omega (arith, one, e.0))
   prepared_answered preparation allowance _ _ s t h e a = absurd a
 
@@ -225,10 +224,10 @@ module _ {V E C R S F A : Type 0} (may : May V E C R S F A) (fixed : Fixed F A) 
 
   -- a get with a new object
   pub from_checking : (slot : Slot V) (at : Position S) (made : Made V) (s : Stage V C R S) (t : Turn V E) → slice_get gets n ≡ Some (get_at own (stage.Checking slot at))
-      → Makes core_desk core made core' → (x : Verdict S E × V) → Gives may (check fixed.hooks slot at) x → AfterChecked may slot x made s t → Goal (stage.Checking slot at) core' s t
+      → Makes core_desk core made core' → (x : Verdict S E × V) → Gives may (post_create fixed.hooks slot at) x → AfterChecked may slot x made s t → Goal (stage.Checking slot at) core' s t
   from_checking slot at made s t h e x g a =
       let all = checked_answered slot at x made s t h e a in
-      (Gives-bind may (check fixed.hooks slot at) (checked n (party_at own (stage.Checking slot at)) slot pool) x _ g all.0, all.1)
+      (Gives-bind may (post_create fixed.hooks slot at) (checked n (party_at own (stage.Checking slot at)) slot pool) x _ g all.0, all.1)
 
   pub from_finished : (s : Stage V C R S) (t : Turn V E) → slice_get gets n ≡ Some (get_at own stage.Finished) → core' ≡ core → s ≡ stage.Finished → t ≡ turn.Pending → Goal stage.Finished core' s t
   from_finished s t h e is_s is_t = rw (is_s, is_t, e, set-same gets n (get_at own stage.Finished) h) (refl, k)

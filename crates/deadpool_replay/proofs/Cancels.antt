@@ -1,7 +1,7 @@
 -- A get that is cancelled over the desk is a party that is cancelled in the pool.
 use Rattle.deadpool_replay.proofs.Basics.{◌≡◌, ℕ, ◌-◌, ◌≤◌, List, true, false, set, refl, sym, ap, ◌∙◌, subst, arith, Option, Some, None, eq-eqb, slice_get, Gives, owner, owned-set, owned-leaves}
 use Rattle.deadpool_replay.proofs.Words.{given, Moment, Timeouts, DeskState, settled, is_listed, desk_unqueued as unqueued, Fails, Refuses, DeskCancels, Getting, May, object_of, Made, no_step, cancelling, Makes, CancelsFrom, GivesUp, Pool, prepared_at, removed, cancel, NobodyWaits, standing_of, has_ticket, queue_of, IsCounted, Slot, Stage, StepReply, Held, core_desk}
-use Rattle.deadpool_managed.specs.declared.get.Stage.TheVariants as stage
+use Rattle.deadpool_managed.specs.Stages as stage
 use Rattle.deadpool_parts.specs.declared.replies.StepReply.TheVariants as step
 use Rattle.deadpool_desk.specs.declared.desk.Held.TheVariants as held
 use Rattle.deadpool_replay.specs.declared.moves.Reply.TheVariants as reply

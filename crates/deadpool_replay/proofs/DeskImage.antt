@@ -1,7 +1,7 @@
 -- The pool that a desk, its gets and the objects out stand for: as it settles, as one get changes, ends or starts, and its counts.
 use Rattle.deadpool_replay.proofs.Basics.{cond_both, ◌≡◌, ℕ, List, ◌∷◌, [], ◌++◌, false, eqb, Option, IsOwned, ◌+◌, length, map, take, drop, refl, ◌∙◌, arith, take-map, drop-map, map-append, length-map, owner, owned-granting, ◌≤◌, cond, set, sym, ap, inl, inr, Some, append-nil, is_some, slice_get, cases_lt, map-set, length-set, slice_get-map, Queue, absent, renamed-set, renamed-leaves, renamed-joins, one_if, count-set, held-set, ◌<◌, true, subst, None, has_number, without_number, Program, Gives, without_number-same, length-append, owned-push, renamed-push, count-push, held-push}
 use Rattle.deadpool_replay.proofs.Words.{may, Slot, DeskState, Getting, has_ticket, queue_of, desk_places as places, desk_grants as grants, settled, Pool, Party, is_going, is_creating, prepared_by, places as pool_places, grants as pool_grants, settle, party_of, IsCounted, is_listed, desk_unqueued as unqueued, unqueued as pool_unqueued, NobodyWaits, is_under_way, Timeouts, unpolled, desk_size as size, desk_pending as pending, desk_status_of as status_of, size as pool_size, pending as pool_pending, status_of as pool_status_of}
-use Rattle.deadpool_managed.specs.declared.get.Stage.TheVariants as stage
+use Rattle.deadpool_managed.specs.Stages as stage
 use Rattle.deadpool_replay.proofs.Fixed.{Fixed, image_of}
 
 module _ {V : Type 0} where

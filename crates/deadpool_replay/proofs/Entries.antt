@@ -2,7 +2,7 @@
 use Rattle.deadpool_replay.proofs.Basics.{◌+◌, cond-true, cond-false, ◌≡◌, ℕ, ◌-◌, ◌<◌, ◌≤◌, List, Bool, true, false, not, ◌&&◌, set, map, refl, sym, ap, ◌∙◌, subst, arith, Option, Some, None, Err, is_none, nat_lt, option_map, eq-eqb, lt-ltb, le-ltb, slice_get, slice_get-map, has_number, without_number, Gives, owner, set-same, owned-set, owned-joins, owned-leaves, granted-renamed, not-true, not-false}
 use Rattle.deadpool_replay.proofs.Words.{Standing, deadline_after, is_reached, is_positive, Moment, Timeouts, PoolError, Timeout, Closed, NoRuntimeSpecified, OutOfMemory, DeskState, desk_places as places, is_listed, desk_unqueued as unqueued, Enters, Asks, AsksAgain, Getting, May, Reserve, AfterEntered, AfterAsked, AfterAskedAgain, Pool, unpolled, queued, going, places as pool_places, unqueued as pool_unqueued, fail, advance_at, NobodyWaits, party_of, standing_of, has_ticket, queue_of, IsCounted, given, reply_to, Slot, Stage, Turn, EnterReply, AskReply, AgainReply, Reply}
 use Rattle.deadpool_parts.specs.declared.errors.TimeoutType.TheVariants as phase
-use Rattle.deadpool_managed.specs.declared.get.Stage.TheVariants as stage
+use Rattle.deadpool_managed.specs.Stages as stage
 use Rattle.deadpool_managed.specs.declared.get.Turn.TheVariants as turn
 use Rattle.deadpool_desk.specs.declared.desk.EnterReply.TheVariants as entered
 use Rattle.deadpool_desk.specs.declared.desk.AskReply.TheVariants as asked

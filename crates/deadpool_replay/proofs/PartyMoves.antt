@@ -1,12 +1,12 @@
 -- What an advance of a party has, and its cancelling: a lawful pool within the reach, the numbers of the objects, the object that
 -- the reply gives, and how near the party's end is.
 use Rattle.deadpool_replay.proofs.Basics.{one_if, get-set_same, length-with_numbered, count-with, count-cons_option, is_at, IsOnce-push, order_same, Always-bind, has_number, without_number, largest_usize, KeepsOrder, Return, Always, ◌≡◌, ℕ, ◌+◌, ◌-◌, ◌≤◌, List, true, false, set, refl, ap, ◌∙◌, arith, inl, inr, Option, Some, None, Result, Ok, Err, [], ◌∷◌, ◌++◌, ◌==◌, sym, eq-eqb, ◌<◌, Bool, not, length, nat_lt, ◌&&◌, is_none, unwrap_or, max, append_assoc, ◌⊎◌, cond_both, ltb-true, ltb-false, slice_get-get_or, slice_get}
-use Rattle.deadpool_replay.proofs.Words.{IsLawful, queue, waits_at, is_queued, created, reviewed, checked, hand_out, advance_at, enter, inquire, joined, go_on_creating, cancel_with, Pool, Party, prepared_at, is_going, is_creating, prepared_by, places, settle, unpolled, queued, going, Standing, creating, recycling, checking, finished, creating_count, goes, creates, reach, rank, rank_of, rank_at, IsOutIfGiven, prepared_in, fail, with_slot, slot_number, removed, serve_from, to, Move, Reply, other_idle-shorter, start, next_idle, other_idle, new_metrics, Asking, create, prepare, check, with_value, object_of, Position, Preparation, PreRecycle, Prepared, Verdict, Slot, deadline_after, is_reached, lacks_runtime, is_positive, QueueMode, Fifo, Lifo, Timeouts, PoolError, Timeout, Backend, NoRuntimeSpecified, PostCreateHook, Closed, OutOfMemory, NumbersExhausted, Moment, Poll}
+use Rattle.deadpool_replay.proofs.Words.{IsLawful, queue, waits_at, is_queued, created, reviewed, checked, hand_out, advance_at, enter, inquire, joined, go_on_creating, cancel_with, Pool, Party, prepared_at, is_going, is_creating, prepared_by, places, settle, unpolled, queued, going, Standing, creating, recycling, checking, finished, creating_count, goes, creates, reach, rank, rank_of, rank_at, IsOutIfGiven, prepared_in, fail, with_slot, slot_number, removed, serve_from, to, Move, Reply, other_idle-shorter, start, next_idle, other_idle, new_metrics, Asking, create, prepare, post_create, with_value, object_of, Position, Preparation, PreRecycle, Prepared, Verdict, Slot, deadline_after, is_reached, lacks_runtime, is_positive, QueueMode, Fifo, Lifo, Timeouts, PoolError, Timeout, Backend, NoRuntimeSpecified, PostCreateHook, Closed, OutOfMemory, NumbersExhausted, Moment, Poll}
 use Rattle.deadpool_replay.specs.declared.moves.Reply.TheVariants as reply
 use Rattle.futures.specs.declared.task.Poll.TheVariants as poll
 use Rattle.deadpool_parts.specs.declared.errors.TimeoutType.TheVariants as phase
-use Rattle.deadpool_managed.specs.declared.prepare.Verdict.TheVariants as verdict
-use Rattle.deadpool_managed.specs.declared.prepare.Prepared.TheVariants as prepared
+use Rattle.deadpool_managed.specs.declared.calls.Verdict.TheVariants as verdict
+use Rattle.deadpool_managed.specs.Stages as prepared
 use Rattle.deadpool_replay.proofs.NumberLists.{has_number-push, has_number-last, without_number-once, IsOnce-left}
 use Rattle.deadpool_replay.proofs.NumberCounts.{held, held-served, has_number-held}
 use Rattle.deadpool_replay.proofs.PreparedNumbers.{IsNumber, prepare_number}
@@ -269,5 +269,5 @@ module _ {V C R S F A : Type 0} (E : Type 0) (m : Move V) (n : ℕ) (timeouts : 
           (λ x. reviewed n (standing_at timeouts (recycling preparation allowance)) allowance p x) (prepare_number E C R S now p.hooks p.runtime timeouts.recycle preparation)
           (λ x same. reviewed_has preparation allowance x h same)
       advanced (checking slot at) h =
-          Always-bind (Advanced (checking slot at)) (check p.hooks slot at) (λ x. checked n (standing_at timeouts (checking slot at)) slot p x) (λ x. checked_has slot at x h)
+          Always-bind (Advanced (checking slot at)) (post_create p.hooks slot at) (λ x. checked n (standing_at timeouts (checking slot at)) slot p x) (λ x. checked_has slot at x h)
       advanced finished h = (Follows-self p l, passes_self false (Some n) [] p, tt, λ clash. cc)

@@ -1,8 +1,8 @@
 -- What is prepared keeps its number, whatever the manager and the hooks answer.
 use Rattle.deadpool_replay.proofs.Basics.{◌≡◌, ℕ, Option, Result, Ok, Err, refl, Duration, cond_both, Return, Always, Always-bind}
-use Rattle.deadpool_replay.proofs.Words.{Poll, deadline_after, is_reached, lacks_runtime, Moment, Runtime, RecycleError, HookLists, Asking, pass, start, approved, approve, recycled, poll_recycling, begin_recycling, prepare_reviewed as reviewed, prepare, object_of, with_value, Slot, Position, Verdict, Preparation, PreRecycle, Recycle, PostRecycle, Prepared, Accepted, GivenUp, Pending}
+use Rattle.deadpool_replay.proofs.Words.{Poll, deadline_after, is_reached, lacks_runtime, Moment, Runtime, RecycleError, HookLists, Asking, ask_hooks, start, post_recycled, post_recycle, recycled, poll_recycling, begin_recycling, pre_recycled, prepare, object_of, with_value, Slot, Position, Verdict, Preparation, PreRecycle, Recycle, PostRecycle, Prepared, Accepted, GivenUp, Pending}
 use Rattle.futures.specs.declared.task.Poll.TheVariants as poll
-use Rattle.deadpool_managed.specs.declared.prepare.Verdict.TheVariants as verdict
+use Rattle.deadpool_managed.specs.declared.calls.Verdict.TheVariants as verdict
 
 module _ {V R S : Type 0} where
   abbrev pub object_in : Prepared V R S → Slot V
@@ -14,18 +14,18 @@ module _ {V R S : Type 0} where
   IsNumber n x = (object_in x).number ≡ n
 
 module _ {V E S : Type 0} (R : Type 0) where
-  approved_number : (now : Moment) (slot : Slot V) (x : Verdict S E × V) → IsNumber slot.number (approved {R = R} now slot x)
-  approved_number now slot (verdict.Accepted, v) = refl
-  approved_number now slot (verdict.Refused e, v) = refl
-  approved_number now slot (verdict.Pending at, v) = refl
+  post_recycled_number : (now : Moment) (slot : Slot V) (x : Verdict S E × V) → IsNumber slot.number (post_recycled {R = R} now slot x)
+  post_recycled_number now slot (verdict.Accepted, v) = refl
+  post_recycled_number now slot (verdict.Refused e, v) = refl
+  post_recycled_number now slot (verdict.Pending at, v) = refl
 
 module _ {V F A : Type 0} (E C R S : Type 0) (now : Moment) (hooks : HookLists F A) where
-  approve_number : (slot : Slot V) (at : Position S) → Always (IsNumber slot.number) (approve {E = E} {C = C} {R = R} now hooks slot at)
-  approve_number slot at = Always-bind (IsNumber slot.number) (pass at.accepted _ at.begun slot.value slot.metrics) (λ x. Return (approved now slot x)) (λ x. approved_number R now slot x)
+  post_recycle_number : (slot : Slot V) (at : Position S) → Always (IsNumber slot.number) (post_recycle {E = E} {C = C} {R = R} now hooks slot at)
+  post_recycle_number slot at = Always-bind (IsNumber slot.number) (ask_hooks at.accepted _ at.begun slot.value slot.metrics) (λ x. Return (post_recycled now slot x)) (λ x. post_recycled_number R now slot x)
 
   recycled_number : (deadline : Option Moment) (slot : Slot V) (x : Poll (Result (Unit {0}) (RecycleError E)) × R × V)
       → Always (IsNumber slot.number) (recycled {C = C} {S = S} now hooks deadline slot x)
-  recycled_number deadline slot (poll.Ready (Ok u), r, v) = approve_number (with_value v slot) start
+  recycled_number deadline slot (poll.Ready (Ok u), r, v) = post_recycle_number (with_value v slot) start
   recycled_number deadline slot (poll.Ready (Err e), r, v) = refl
   recycled_number deadline slot (poll.Pending, r, v) = cond_both (is_reached deadline now) _ _ (IsNumber slot.number) (λ late. refl) (λ early. refl)
 
@@ -37,16 +37,16 @@ module _ {V F A : Type 0} (E C R S : Type 0) (now : Moment) (hooks : HookLists F
       let P : Asking V E C R S F A (Prepared V R S) → Type 0 = Always (IsNumber slot.number) in
       cond_both (lacks_runtime runtime timeout) _ _ P (λ lacks. refl) (λ serves b. poll_number (deadline_after now timeout) b.0 (with_value b.1 slot))
 
-  reviewed_number : (runtime : Option Runtime) (timeout : Option Duration) (slot : Slot V) (x : Verdict S E × V)
-      → Always (IsNumber slot.number) (reviewed {C = C} {R = R} now runtime timeout hooks slot x)
-  reviewed_number runtime timeout slot (verdict.Accepted, v) = begin_number runtime timeout (with_value v slot)
-  reviewed_number runtime timeout slot (verdict.Refused e, v) = refl
-  reviewed_number runtime timeout slot (verdict.Pending at, v) = refl
+  pre_recycled_number : (runtime : Option Runtime) (timeout : Option Duration) (slot : Slot V) (x : Verdict S E × V)
+      → Always (IsNumber slot.number) (pre_recycled {C = C} {R = R} now runtime timeout hooks slot x)
+  pre_recycled_number runtime timeout slot (verdict.Accepted, v) = begin_number runtime timeout (with_value v slot)
+  pre_recycled_number runtime timeout slot (verdict.Refused e, v) = refl
+  pre_recycled_number runtime timeout slot (verdict.Pending at, v) = refl
 
   -- an idle object's preparation
   pub prepare_number : (runtime : Option Runtime) (timeout : Option Duration) (preparation : Preparation V R S)
       → Always (IsNumber (object_of preparation).number) (prepare {E = E} {C = C} now runtime timeout hooks preparation)
   prepare_number runtime timeout (PreRecycle slot at) =
-      Always-bind (IsNumber slot.number) (pass at.accepted _ at.begun slot.value slot.metrics) (reviewed now runtime timeout hooks slot) (λ x. reviewed_number runtime timeout slot x)
+      Always-bind (IsNumber slot.number) (ask_hooks at.accepted _ at.begun slot.value slot.metrics) (pre_recycled now runtime timeout hooks slot) (λ x. pre_recycled_number runtime timeout slot x)
   prepare_number runtime timeout (Recycle slot r deadline) = poll_number deadline r slot
-  prepare_number runtime timeout (PostRecycle slot at) = approve_number slot at
+  prepare_number runtime timeout (PostRecycle slot at) = post_recycle_number slot at

@@ -5,8 +5,8 @@ use Rattle.deadpool_replay.proofs.Fixed.{Fixed, image_of, get_at}
 use Rattle.deadpool_replay.specs.Look.{look_of}
 use Rattle.deadpool_replay.specs.TrialFields.{look_as}
 use Rattle.deadpool_managed.specs.Kinds.{kind_of}
-use Rattle.deadpool_managed.specs.declared.get.Stage.{Stage}
-use Rattle.deadpool_managed.specs.declared.get.Stage.TheVariants as stage
+use Rattle.deadpool_managed.specs.Stages.{Stage}
+use Rattle.deadpool_managed.specs.Stages as stage
 
 module _ {V C R S F A : Type 0} (fixed : Fixed F A) (d : DeskState (Slot V)) (gets : List (Option (Getting V C R S))) (out : List (Slot V)) (k : IsCounted d gets out) (n : ℕ) (own : Timeouts) where
   -- of a get, by its stage

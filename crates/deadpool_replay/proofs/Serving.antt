@@ -1,7 +1,7 @@
 -- A get that holds a place is served at the desk as its party is in the pool.
 use Rattle.deadpool_replay.proofs.Basics.{cond-true, cond-false, ◌≡◌, ◌≢◌, ℕ, ◌+◌, ◌-◌, ◌<◌, ◌≤◌, List, [], ◌∷◌, length, set, refl, sym, ap, ◌∙◌, subst, arith, Option, Some, None, nat_lt, unwrap_or, lt-ltb, le-ltb, slice_get, slice_get-get_or, largest_usize}
 use Rattle.deadpool_replay.proofs.Words.{QueueMode, Fifo, Lifo, Timeouts, NumbersExhausted, start, DeskState, next_idle, other_idle, settled, Serves, Getting, AfterServing, Pool, Party, Standing, recycling, creating_count, settle, unqueued as pool_unqueued, go_on, serve_from, serve, party_of, IsCounted, given, reply_to, Slot, PreRecycle, Stage, Turn, Serving, Reply}
-use Rattle.deadpool_managed.specs.declared.get.Stage.TheVariants as stage
+use Rattle.deadpool_managed.specs.Stages as stage
 use Rattle.deadpool_desk.specs.declared.desk.Serving.TheVariants as serving
 use Rattle.deadpool_replay.specs.declared.moves.Reply.TheVariants as reply
 use Rattle.deadpool_replay.proofs.DeskImage.{Owns, NoTicket, settles, counted_settled, goes, creates, prepares, lasts, IsCounted-set, put}

@@ -1,7 +1,7 @@
 -- Each advance of a get over the desk is an advance of its party in the pool.
 use Rattle.deadpool_replay.proofs.Basics.{◌≡◌, ℕ, List, Bool, set, subst, Option, Some, slice_get, Gives}
 use Rattle.deadpool_replay.proofs.Words.{named, Moment, Timeouts, DeskState, Asks, AsksAgain, Getting, May, Reserve, Made, no_step, entering, asking, asking_again, Makes, AdvancesFrom, Pool, advance_at, NobodyWaits, standing_of, IsCounted, given, reply_to, Slot, Stage, Turn, core_desk}
-use Rattle.deadpool_managed.specs.declared.get.Stage.TheVariants as stage
+use Rattle.deadpool_managed.specs.Stages as stage
 use Rattle.deadpool_replay.proofs.Entries.{from_entered, from_unrun, from_going, from_queued}
 use Rattle.deadpool_replay.proofs.Advances.{from_creating, from_recycling, from_checking, from_finished}
 use Rattle.deadpool_replay.proofs.Fixed.{Fixed, image_of, get_at}

@@ -14,7 +14,7 @@ pub use Rattle.deadpool_replay.specs.declared.trial.Keeping.{Keeping}
 pub use Rattle.deadpool_managed.proofs.CoreDesk.{core_desk, own_desk, makes_at_desk}
 pub use Rattle.deadpool_managed.proofs.IdleLists.{other_idle-shorter}
 pub use Rattle.deadpool_managed.specs.Answers.{LeavesOrKeeps}
-pub use Rattle.deadpool_managed.specs.Calls.{start, pass}
+pub use Rattle.deadpool_managed.specs.Calls.{start, ask_hooks}
 pub use Rattle.deadpool_desk.specs.CoreState.{CoreState}
 pub use Rattle.deadpool_desk.specs.DeskState.{DeskState, settled, places as desk_places, grants as desk_grants, size as desk_size, pending as desk_pending, status_of as desk_status_of, next_idle, other_idle, least_idle as desk_least_idle}
 pub use Rattle.deadpool_desk.specs.DeskSteps.{Fails, is_listed, unqueued as desk_unqueued, Refuses, Cancels as DeskCancels, Enters, Asks, AsksAgain, TakesBack, given_up as desk_given_up, Takes, Resizes, Closes, Clones, DropsHandle, Upgrades, resized as desk_resized, Serves}
@@ -22,10 +22,10 @@ pub use Rattle.deadpool_managed.specs.Get.{Made, no_step, discarding, creating a
 pub use Rattle.deadpool_managed.specs.HookLists.{HookLists}
 pub use Rattle.deadpool_desk.specs.Metrics.{new_metrics}
 pub use Rattle.deadpool_managed.specs.Outside.{May, Asking, may, Reserve, Detach}
-pub use Rattle.deadpool_managed.specs.Prepare.{create, prepare, check, with_value, object_of, approved, approve, recycled, poll_recycling, begin_recycling, reviewed as prepare_reviewed}
+pub use Rattle.deadpool_managed.specs.Prepare.{create, prepare, pre_recycled, begin_recycling, poll_recycling, recycled, post_recycle, post_recycled, post_create, with_value, object_of}
 pub use Rattle.deadpool_desk.specs.Retained.{Retained}
 pub use Rattle.deadpool_desk.specs.Retains.{Reviews, Retains}
-pub use Rattle.deadpool_managed.specs.Stages.{Getting}
+pub use Rattle.deadpool_managed.specs.Stages.{Getting, Stage, Preparation, PreRecycle, Recycle, PostRecycle, Prepared, Accepted, GivenUp, Pending}
 pub use Rattle.deadpool_desk.specs.declared.desk.AgainReply.{AgainReply}
 pub use Rattle.deadpool_desk.specs.declared.desk.AskReply.{AskReply}
 pub use Rattle.deadpool_desk.specs.declared.desk.BackReply.{BackReply}
@@ -33,17 +33,12 @@ pub use Rattle.deadpool_desk.specs.declared.desk.EnterReply.{EnterReply}
 pub use Rattle.deadpool_desk.specs.declared.desk.Held.{Held}
 pub use Rattle.deadpool_desk.specs.declared.desk.Serving.{Serving}
 pub use Rattle.deadpool_desk.specs.declared.desk.TakeReply.{TakeReply}
-pub use Rattle.deadpool_managed.specs.declared.get.Stage.{Stage}
 pub use Rattle.deadpool_managed.specs.declared.get.Turn.{Turn}
 pub use Rattle.deadpool_managed.specs.declared.hooks.AsyncHook.{Ghosts as AsyncHookOf}
 pub use Rattle.deadpool_managed.specs.declared.hooks.SyncHook.{Ghosts as SyncHookOf}
 pub use Rattle.deadpool_managed.specs.declared.manager.Manager.{Ghosts as ManagerOf}
-pub use Rattle.deadpool_managed.specs.declared.prepare.Position.{Position}
-pub use Rattle.deadpool_managed.specs.declared.prepare.Preparation.{Preparation}
-pub use Rattle.deadpool_managed.specs.declared.prepare.Preparation.TheVariants.{PreRecycle, Recycle, PostRecycle}
-pub use Rattle.deadpool_managed.specs.declared.prepare.Prepared.{Prepared}
-pub use Rattle.deadpool_managed.specs.declared.prepare.Prepared.TheVariants.{Accepted, GivenUp, Pending}
-pub use Rattle.deadpool_managed.specs.declared.prepare.Verdict.{Verdict}
+pub use Rattle.deadpool_managed.specs.declared.calls.Position.{Position}
+pub use Rattle.deadpool_managed.specs.declared.calls.Verdict.{Verdict}
 pub use Rattle.deadpool_desk.specs.declared.retain.Retainer.{Ghosts as RetainerOf}
 pub use Rattle.deadpool_desk.specs.declared.slot.Slot.{Slot}
 pub use Rattle.deadpool_parts.specs.Moments.{deadline_after, is_reached, lacks_runtime, is_positive}

@@ -7,11 +7,10 @@ use Rattle.deadpool_parts.specs.declared.moment.Runtime.{Runtime}
 use Rattle.deadpool_parts.specs.declared.config.Timeouts.{Timeouts}
 use Rattle.deadpool_managed.specs.HookLists.{HookLists}
 use Rattle.deadpool_desk.specs.DeskState.{DeskState}
-use Rattle.deadpool_managed.specs.Stages.{Getting}
+use Rattle.deadpool_managed.specs.Stages.{Getting, Stage}
 use Rattle.deadpool_replay.specs.Pool.{Pool, Party, Standing, unpolled, queued, going, creating, recycling, checking, finished, is_going, is_creating, prepared_by}
 use Rattle.deadpool_desk.specs.declared.slot.Slot.{Slot}
-use Rattle.deadpool_managed.specs.declared.get.Stage.{Stage}
-use Rattle.deadpool_managed.specs.declared.get.Stage.TheVariants as stage
+use Rattle.deadpool_managed.specs.Stages as stage
 
 module _ {V : Type 0} where
   -- a desk's queue

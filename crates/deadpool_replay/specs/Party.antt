@@ -11,14 +11,14 @@ use Rattle.deadpool_parts.specs.declared.errors.TimeoutType.TheVariants as phase
 use Rattle.deadpool_managed.specs.Calls.{start}
 use Rattle.deadpool_desk.specs.Metrics.{new_metrics}
 use Rattle.deadpool_managed.specs.Outside.{Asking, Detach, Reserve}
-use Rattle.deadpool_managed.specs.Prepare.{create, prepare, check, with_value}
+use Rattle.deadpool_managed.specs.Prepare.{create, prepare, post_create, with_value}
 use Rattle.deadpool_replay.specs.Pool.{Pool, Party, Standing, unpolled, queued, going, creating, recycling, checking, finished, prepared_at, places}
 use Rattle.deadpool_replay.specs.Steps.{to, unqueued, removed, fail, rest, go_on, serve, with_slot}
 use Rattle.deadpool_desk.specs.declared.slot.Slot.{Slot}
-use Rattle.deadpool_managed.specs.declared.prepare.Verdict.{Verdict}
-use Rattle.deadpool_managed.specs.declared.prepare.Verdict.TheVariants as verdict
-use Rattle.deadpool_managed.specs.declared.prepare.Prepared.{Prepared}
-use Rattle.deadpool_managed.specs.declared.prepare.Prepared.TheVariants as prepared
+use Rattle.deadpool_managed.specs.declared.calls.Verdict.{Verdict}
+use Rattle.deadpool_managed.specs.declared.calls.Verdict.TheVariants as verdict
+use Rattle.deadpool_managed.specs.Stages.{Prepared}
+use Rattle.deadpool_managed.specs.Stages as prepared
 use Rattle.deadpool_replay.specs.declared.moves.Reply.{Reply}
 use Rattle.deadpool_replay.specs.declared.moves.Reply.TheVariants.{Pending, Object, Cancelled}
 
@@ -85,7 +85,7 @@ module _ {V E C R S F A : Type 0} where
   advance_at (creating begun deadline) n party now p = go_on_creating n party now begun deadline p
   advance_at (recycling preparation allowance) n party now p =
       prepare now p.runtime party.timeouts.recycle p.hooks preparation >>= λ x. reviewed n party allowance p x
-  advance_at (checking slot at) n party now p = check p.hooks slot at >>= λ x. checked n party slot p x
+  advance_at (checking slot at) n party now p = post_create p.hooks slot at >>= λ x. checked n party slot p x
   advance_at finished n party now p = Return (Pending, p)
 
   abbrev pub advance : ℕ → Moment → Party V C R S → Pool V C R S F A → Asking V E C R S F A (Reply V E × Pool V C R S F A)

@@ -10,8 +10,8 @@ use Rattle.deadpool_parts.specs.declared.status.Status.{Status}
 use Rattle.deadpool_managed.specs.HookLists.{HookLists}
 use Rattle.deadpool_managed.specs.Prepare.{object_of}
 use Rattle.deadpool_desk.specs.declared.slot.Slot.{Slot}
-use Rattle.deadpool_managed.specs.declared.prepare.Position.{Position}
-use Rattle.deadpool_managed.specs.declared.prepare.Preparation.{Preparation}
+use Rattle.deadpool_managed.specs.declared.calls.Position.{Position}
+use Rattle.deadpool_managed.specs.Stages.{Preparation}
 
 -- Where a party stands. V: the objects' values; C, R: the states of a creation and of a recycling; S: the state of a hook
 pub data Standing (V C R S : Type 0) : Type 0 where

@@ -8,7 +8,7 @@ use Rattle.deadpool_managed.specs.Calls.{start}
 use Rattle.deadpool_desk.specs.DeskState.{next_idle, other_idle}
 use Rattle.deadpool_replay.specs.Pool.{Pool, Party, Standing, going, creating, recycling, finished, creating_count, size, least_idle, settle}
 use Rattle.deadpool_desk.specs.declared.slot.Slot.{Slot}
-use Rattle.deadpool_managed.specs.declared.prepare.Preparation.TheVariants.{PreRecycle}
+use Rattle.deadpool_managed.specs.Stages.{PreRecycle}
 use Rattle.deadpool_replay.specs.declared.moves.Reply.{Reply}
 use Rattle.deadpool_replay.specs.declared.moves.Reply.TheVariants.{More, Pending, Failed}
 

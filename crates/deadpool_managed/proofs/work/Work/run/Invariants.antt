@@ -5,7 +5,7 @@ use Rattle.deadpool_managed.specs.Get.{PollsOver}
 use Rattle.deadpool_managed.specs.Held.{held_at}
 use Rattle.deadpool_managed.specs.Bounds.{until_allowance, lacks_allowance, weight}
 use Rattle.deadpool_managed.specs.Phases.{IsPlaced, stage_of}
-use Rattle.deadpool_managed.specs.declared.get.Stage.{Stage}
+use Rattle.deadpool_managed.specs.Stages.{Stage}
 use Rattle.deadpool_managed.specs.declared.get.Turn.{Turn}
 use Rattle.deadpool_managed.proofs.work.Work.run.Given as goal
 

@@ -1,0 +1,4 @@
+use Rattle.deadpool_managed.proofs.prepare.pre_recycle_in.Goals as goal
+
+pub returns-in-Some-clause-gives : goal.returns-in-Some-clause-gives
+returns-in-Some-clause-gives g c = rw c.in-Some.is (rw c.start.ensures at c.pre_recycle.ensures.gives)
