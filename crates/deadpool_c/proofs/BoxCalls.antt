@@ -3,56 +3,7 @@
 --     opens, opened      `into_raw_with_allocator`: a box is passed as its parts, and parts are returned
 --     closes, closed     `from_raw`: the parts are passed, and a box is returned
 --     lets_go            the `drop` of an S, as a call is handed it that may let an S go
-use mathlib.Core.Path.{◌≡◌, refl, sym, ap, subst, ◌∙◌}
-use mathlib.Core.List.{List, [], ◌∷◌}
-use seplogic.Ra.Ura.{Ura}
-use base.Fraction.{full_share}
-use base.Fml.{Fml, ftrue, fsep, flft}
-use base.Logic.{SProp, ent, sep, emp, via, id⊢}
-use contract.BorrowLft.{◌⊑◌, ⊑_static}
-use contract.Monad.{Fun, fact, fact_i, fm→mono}
-use contract.Running.{Running, tables}
-use denote.Builtin.{unit}
-use denote.Exit.{yes, Last, left}
-use denote.Param.{bounded}
-use denote.Param.Glue as Glue
-use denote.Param.Laws.{Laws}
-use denote.RattleType.{RattleType}
-use denote.RawPtr.{Ptr, RawPtr, block_ptr}
-use denote.Signature.{plain}
-use denote.Steps.{heard, nothing, only}
-use denote.Struct.Tuple.{Tuple}
-use denote.Triple.Call.{calls_at, calls_at_last}
-use denote.Triple.Carry.{grown, spared}
-use denote.Triple.Clauses.{Ended, Clauses, closing}
-use denote.Triple.Spec.{Back, Meets, triple_of}
-use denote.Triple.Statement.{Contract, Triple, FmF}
-use mir.Syntax.{Callee, Opd as Operand, Place, Body, Dict, a_type, dcons, dnil, seq, call}
-use mir.Val.{Val, vptr}
-use prog.Memory.{Memory}
-use prog.Model.{Model}
-use prog.Routine.{Routine}
-use prog.Wired.{Wired}
-use prog.Wp.{Env, Calls, Loops}
-use sound.WpLaws.{FmC}
-use types.Kit.{Goal, Seq, Step, step, Post, Item, ‵, raw, ◌⊛◌, some, later, runs, lands, settles, ◌$◌, ◌∵◌, !, qed, done, move, drop, use0, use1, split, split3, join, pick, fsplit, fjoin, frame, feq_i, show, await, updating, now, rewrite}
-use types.Logic.{Logic, sem}
-use types.Run.{Opds}
-use Rattle.std.specs.Box.Ownership.{box_owns}
-use Rattle.std_alloc.proofs.BoxSteps.Form.{R, P, args}
-use Rattle.std_alloc.proofs.boxed.Box.from_raw.Met as from_raw
-use Rattle.std_alloc.proofs.boxed.Box.from_raw.Symbol as from_raw_symbol
-use Rattle.std_alloc.proofs.boxed.Box.into_raw_with_allocator.Met as into_raw
-use Rattle.std_alloc.proofs.boxed.Box.into_raw_with_allocator.Symbol as into_raw_symbol
-use Rattle.std_alloc.specs.contracts.boxed.Box.from_raw as FromRaw
-use Rattle.std_alloc.specs.contracts.boxed.Box.into_raw_with_allocator as IntoRaw
-use Rattle.std_heap.proofs.GlobalAllocator.TheImpl.Met as allocator
-use Rattle.std_heap.proofs.GlobalAllocator.allocate.Symbol as allocate
-use Rattle.std_heap.proofs.GlobalAllocator.deallocate.Symbol as deallocate
-use Rattle.std_heap.proofs.GlobalAllocator.grow.Symbol as grow
-use Rattle.std_heap.proofs.GlobalAllocator.shrink.Symbol as shrink
-use Rattle.std_heap.specs.contracts.GlobalAllocator.TheImpl.{ghosts, dict}
-use Rattle.deadpool_c.proofs.Destruct++none.drop.Symbol as no_drop
+use Rattle.deadpool_c.proofs.Steps.{◌≡◌, refl, sym, ap, subst, ◌∙◌, List, [], ◌∷◌, Ura, full_share, Fml, ftrue, fsep, flft, SProp, ent, sep, emp, via, id⊢, ◌⊑◌, ⊑_static, Fun, fact, fact_i, fm→mono, Running, tables, unit, yes, Last, left, bounded, GlueMet, glue_signature, glue_spent, Laws, RattleType, Ptr, RawPtr, block_ptr, plain, heard, nothing, only, Tuple, calls_at, calls_at_last, grown, spared, Ended, Clauses, closing, Back, Meets, triple_of, Contract, Triple, FmF, Callee, Operand, Place, Body, Dict, a_type, dcons, dnil, seq, call, Val, vptr, Memory, Model, Routine, Wired, Env, Calls, Loops, FmC, Goal, Seq, Step, step, Post, Item, ‵, raw, ◌⊛◌, some, later, runs, lands, settles, ◌$◌, ◌∵◌, !, qed, done, move, drop, use0, use1, split, split3, join, pick, fsplit, fjoin, frame, feq_i, show, await, updating, now, rewrite, Logic, sem, Opds, box_owns, R, P, args, from_raw_met, from_raw_code, from_raw_name, into_raw_met, into_raw_code, into_raw_name, from_raw_signature, from_raw_spec, into_raw_signature, into_raw_spec, allocator_passed, allocate_code, deallocate_code, grow_code, shrink_code, ghosts, dict, no_drop_code, no_drop_glues}
 use Rattle.deadpool_c.proofs.Unboxed.{Handle, handle_laws, E, Boxed, owned, Boxlike, Unboxed, parts, Sound, parts_sound, Loose, boxed, unboxes, boxes}
 
 module _ (S : RattleType) (L : Laws S) where
@@ -68,13 +19,13 @@ module _ (S : RattleType) (L : Laws S) where
   -- of each call: what its contract says, and at which parts
   module _ {M : Type 1} {𝓤 : Ura M} (𝓛 : Logic 𝓤) (at_mem : Memory → SProp 𝓤) (run : Routine → Fun 𝓤) where
     abbrev pub Opens : Dict → Contract 𝓤
-    Opens dx = triple_of 𝓛 (IntoRaw.signature S Handle ghosts dict none dx) (IntoRaw.spec S Handle ghosts dict none dx 𝓛 at_mem run)
+    Opens dx = triple_of 𝓛 (into_raw_signature S Handle ghosts dict none dx) (into_raw_spec S Handle ghosts dict none dx 𝓛 at_mem run)
 
     abbrev pub opens_at : (dx : Dict) → Parts → (Opens dx).Ghost
     opens_at dx k = ((([], ([], tt)), (full_share, (full_share, tt)), tt, (boxed S L k, tt), (parts S L k ∷ [], tt)), tt)
 
     abbrev pub Closes : Contract 𝓤
-    Closes = triple_of 𝓛 (FromRaw.signature S Handle ghosts dict none) (FromRaw.spec S Handle ghosts dict none 𝓛 at_mem run)
+    Closes = triple_of 𝓛 (from_raw_signature S Handle ghosts dict none) (from_raw_spec S Handle ghosts dict none 𝓛 at_mem run)
 
     abbrev pub closes_at : Parts → (Closes).Ghost
     closes_at k = ((([], ([], tt)), (full_share, (full_share, tt)), tt, (k.alloc, (block_ptr k.block k.offset, tt)), (k.freeing ∷ [], (vptr k.block k.offset ∷ [], tt))), k.value)
@@ -127,17 +78,17 @@ module _ (S : RattleType) (L : Laws S) where
           next u (boxed S L j) (its ∙ same) (subst (Boxlike S L) (sym (ap only is)) (parts_sound S L j sound)))))))
 
   -- that each call meets its contract, from the code of the function that makes it: the methods that the call is handed
-  module _ {M : Type 1} (𝓤 : Ura M) (𝓛 : Logic 𝓤) (𝓜 : Model 𝓤 𝓛.H) (𝓡 : Running 𝓤 𝓛.H 𝓜) (al : Wired 𝓡.env allocate.code) (de : Wired 𝓡.env deallocate.code)
-      (gr : Wired 𝓡.env grow.code) (sh : Wired 𝓡.env shrink.code) (nd : Wired 𝓡.env no_drop.code) where
+  module _ {M : Type 1} (𝓤 : Ura M) (𝓛 : Logic 𝓤) (𝓜 : Model 𝓤 𝓛.H) (𝓡 : Running 𝓤 𝓛.H 𝓜) (al : Wired 𝓡.env allocate_code) (de : Wired 𝓡.env deallocate_code)
+      (gr : Wired 𝓡.env grow_code) (sh : Wired 𝓡.env shrink_code) (nd : Wired 𝓡.env no_drop_code) where
     abbrev table : Calls 𝓤 𝓛.H
     table = (tables 𝓤 𝓛.H 𝓜 𝓡 𝓡.env).C
 
-    pub opened : (dx : Dict) → Glue.Met 𝓛 𝓜 𝓡 𝓡.env S dx → Wired 𝓡.env into_raw_symbol.code
-        → Triple 𝓤 (table (into_raw_symbol.name (bounded (a_type ∷ a_type ∷ []) (S, (Handle, tt)) (dcons dict (dcons none (dcons dx dnil)))))) (Opens 𝓛 𝓜.mem 𝓡.returns dx)
-    opened dx glue w = into_raw.met 𝓤 𝓛 𝓜 𝓡 w S Handle L handle_laws ghosts dict none dx (allocator.passed 𝓡.env al de gr sh M 𝓤 𝓛 𝓜 𝓡) (no_drop.glues 𝓡.env nd Handle handle_laws M 𝓤 𝓛 𝓜 𝓡) glue
+    pub opened : (dx : Dict) → GlueMet 𝓛 𝓜 𝓡 𝓡.env S dx → Wired 𝓡.env into_raw_code
+        → Triple 𝓤 (table (into_raw_name (bounded (a_type ∷ a_type ∷ []) (S, (Handle, tt)) (dcons dict (dcons none (dcons dx dnil)))))) (Opens 𝓛 𝓜.mem 𝓡.returns dx)
+    opened dx glue w = into_raw_met 𝓤 𝓛 𝓜 𝓡 w S Handle L handle_laws ghosts dict none dx (allocator_passed 𝓡.env al de gr sh M 𝓤 𝓛 𝓜 𝓡) (no_drop_glues 𝓡.env nd Handle handle_laws M 𝓤 𝓛 𝓜 𝓡) glue
 
-    pub closed : Wired 𝓡.env from_raw_symbol.code → Triple 𝓤 (table (from_raw_symbol.name (args (E S L)))) (Closes 𝓛 𝓜.mem 𝓡.returns)
-    closed w = from_raw.met 𝓤 𝓛 𝓜 𝓡 w S Handle L handle_laws ghosts dict none (allocator.passed 𝓡.env al de gr sh M 𝓤 𝓛 𝓜 𝓡) (no_drop.glues 𝓡.env nd Handle handle_laws M 𝓤 𝓛 𝓜 𝓡)
+    pub closed : Wired 𝓡.env from_raw_code → Triple 𝓤 (table (from_raw_name (args (E S L)))) (Closes 𝓛 𝓜.mem 𝓡.returns)
+    closed w = from_raw_met 𝓤 𝓛 𝓜 𝓡 w S Handle L handle_laws ghosts dict none (allocator_passed 𝓡.env al de gr sh M 𝓤 𝓛 𝓜 𝓡) (no_drop_glues 𝓡.env nd Handle handle_laws M 𝓤 𝓛 𝓜 𝓡)
 
 -- A `drop` that asks nothing and promises nothing says more of an S at its end than a call asks: that is let go.
 module _ (S : RattleType) {M : Type 1} {𝓤 : Ura M} (𝓛 : Logic 𝓤) where
@@ -151,16 +102,16 @@ module _ (S : RattleType) {M : Type 1} {𝓤 : Ura M} (𝓛 : Logic 𝓤) where
   Drops = grown 𝓛 Dropping.signature 1 (S.lives, tt) (closing 𝓛 Dropping silent)
 
   abbrev Spends : Contract 𝓤
-  Spends = triple_of 𝓛 (Glue.signature S) (Glue.spent 𝓛 S)
+  Spends = triple_of 𝓛 (glue_signature S) (glue_spent 𝓛 S)
 
   spends : (y : (Spends).Ghost) (u : Val) → ent 𝓤 ((Drops).post y u) ((Spends).post y u)
   spends y u = qed 𝓛 (raw ((Drops).post y u) ∷ []) ∵ updating ! $
       use1 𝓛 (later (some (λ (r : Unit {0}). ((‵ (flft y.0.0.0 y.0.1.0) ⊛ ‵ ftrue) ⊛ ‵ ((unit).own_val r (u ∷ []))) ⊛
       some (λ (ws : Last (S.exit yes) y.0.3.0 × Unit {0}). ‵ (fsep (left (S.exit yes) y.0.3.0 ws.0) ftrue) ⊛ ‵ ftrue)))) (id⊢ 𝓤 _) $ await ! tt $
       pick ! (λ r. split ! $ move ! (1 ∷ []) $ drop ! $ now ! $
-      show ! (λ (r' : Unit {0}). sep 𝓤 (Back 𝓛 (Glue.signature S) y.0 u r') ((Glue.spent 𝓛 S y.0.0 y.0.3).ensures y.1 r')) r $ frame ! $
+      show ! (λ (r' : Unit {0}). sep 𝓤 (Back 𝓛 (glue_signature S) y.0 u r') ((glue_spent 𝓛 S y.0.0 y.0.3).ensures y.1 r')) r $ frame ! $
       show ! (λ (ws : Unit {0} × Unit {0}). sep 𝓤 (sem 𝓛 (fsep ftrue ftrue)) (emp 𝓤)) (tt, tt) $ nothing ! $ nothing ! $ nothing ! $ fjoin ! $ join ! $ done !)
 
-  pub lets_go : (run : Fun 𝓤) → FmF 𝓤 run → Meets 𝓛 Dropping.signature run (closing 𝓛 Dropping silent) → Meets 𝓛 (Glue.signature S) run (Glue.spent 𝓛 S)
+  pub lets_go : (run : Fun 𝓤) → FmF 𝓤 run → Meets 𝓛 Dropping.signature run (closing 𝓛 Dropping silent) → Meets 𝓛 (glue_signature S) run (glue_spent 𝓛 S)
   lets_go run fm met y = via 𝓤 (run ((Drops).args y) ((Drops).post y)) (spared 𝓛 Dropping.signature run fm 1 (S.lives, tt) (closing 𝓛 Dropping silent) met y)
       (fm→mono 𝓤 (run ((Drops).args y)) (fm ((Drops).args y)) ((Drops).post y) ((Spends).post y) (spends y))

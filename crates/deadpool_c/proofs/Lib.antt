@@ -6,5 +6,6 @@ pub mod BoxCalls
 -- The box and the block of each kind of pool.
 pub mod ManagedBox
 pub mod UnmanagedBox
--- Keys that are written one by one.
+-- Keys that are written one by one, and the names that their proofs cite.
 pub mod Writing
+pub mod Words

@@ -4,39 +4,14 @@
 --     Loose                what is owned of it: the value where the pointer leads, the right to free it, and the handle
 --     unboxes, boxes       what a box owns is `Loose`, and back. A block that is not null owns the same
 --     begins               a function that is passed a box begins with `Loose`
-use mathlib.Core.Path.{◌≡◌, refl}
-use mathlib.Core.List.{List, [], ◌∷◌, ◌++◌}
-use Prim.Native.Nat.{ℕ}
-use lib.Dec.{T}
-use seplogic.Ra.Ura.{Ura}
-use base.Fml.{Fml, fsep}
-use base.Logic.{SProp}
-use denote.Exit.{no}
-use denote.Param.{arg, layout}
-use denote.Param.Laws.{Laws, arg_laws}
-use denote.RattleType.{RattleType}
-use denote.RawPtr.{block_ptr}
-use mir.Raw.{raw}
-use mir.Syntax.{Fn, impl, tcons, tnil, dnil}
-use mir.Val.{Val, has_ty, WT}
-use prog.Wp.{Calls, Loops, WpFn}
-use types.Kit.{Goal, Seq, Step, step, Item, ‵, prop, ◌$◌, fsplit, fjoin, regoal}
-use types.Logic.{Logic}
-use Rattle.core.proofs.alloc.Calls.{Fits}
-use Rattle.std.specs.Box.Ownership.{box_owns}
-use Rattle.std_alloc.proofs.BoxSteps.Form.{Bx, D, R, B, box_ty, box_typed, word, handle}
-use Rattle.std_alloc.proofs.BoxSteps.Steps.{box_out, box_in}
-use Rattle.std_heap.proofs.Global.TheLaws as heap
-use Rattle.std_heap.specs.contracts.Global as Heap
-use Rattle.std_heap.specs.contracts.GlobalAllocator.TheImpl.{ghosts, dict}
-use Rattle.deadpool_c.proofs.Destruct++none.drop.Symbol as no_drop
+use Rattle.deadpool_c.proofs.Steps.{◌≡◌, refl, List, [], ◌∷◌, ◌++◌, ℕ, T, Ura, Fml, fsep, SProp, no, arg, layout, Laws, arg_laws, RattleType, block_ptr, raw_type as raw, Fn, impl, tcons, tnil, dnil, Val, has_ty, WT, Calls, Loops, WpFn, Goal, Seq, Step, step, Item, ‵, prop, ◌$◌, fsplit, fjoin, regoal, Logic, Fits, box_owns, Bx, D, R, B, box_ty, box_typed, word, handle, box_out, box_in, heap_laws, heap_row, ghosts, dict, no_drop_symbol}
 
 -- the handle, as a call is given it
 abbrev pub Handle : RattleType
-Handle = arg (raw (layout Heap.the_row)) no Heap.the_row
+Handle = arg (raw (layout heap_row)) no heap_row
 
 abbrev pub handle_laws : Laws Handle
-handle_laws = arg_laws (raw (layout Heap.the_row)) no Heap.the_row heap.the_row_laws refl
+handle_laws = arg_laws (raw (layout heap_row)) no heap_row heap_laws refl
 
 module _ (S : RattleType) (L : Laws S) where
   -- a box of an S, as the lemmas on boxes take it
@@ -44,7 +19,7 @@ module _ (S : RattleType) (L : Laws S) where
   E = record {
     row = S;
     laws = L;
-    al = record { row = Handle; laws = handle_laws; g = ghosts; d = dict; drops = impl (no_drop.symbol ∷ []) (tcons (layout Handle) tnil) dnil };
+    al = record { row = Handle; laws = handle_laws; g = ghosts; d = dict; drops = impl (no_drop_symbol ∷ []) (tcons (layout Handle) tnil) dnil };
   }
 
   abbrev pub Boxed : Type 0
@@ -58,7 +33,7 @@ module _ (S : RattleType) (L : Laws S) where
   Boxlike w = T (has_ty (box_ty E) w) × WT w
 
   pub record Unboxed : Type 0 where
-    pub alloc : Heap.the_row.Denot
+    pub alloc : heap_row.Denot
     pub value : S.Denot
     pub block : ℕ
     pub offset : ℕ

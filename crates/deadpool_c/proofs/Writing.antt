@@ -1,8 +1,5 @@
 -- Keys that are written one by one, from the front on.
-use Rattle.std.proofs.Common.{◌≡◌, ◌∙◌, sym, ap, ℕ, ◌+◌, ◌<◌, List, [], ◌∷◌, ◌++◌, length, take, drop, slice_get, slice_set, Some, arith}
-use Rattle.std.proofs.lemmas.List.{take_more_set, take_more, take-take, length-take, drop-drop, drop-set-lt}
-use Rattle.std.proofs.lemmas.Option.{slice_get_within, get_or_from_slice_get}
-use Rattle.deadpool_c.specs.Keys.{Writes, written_count}
+use Rattle.deadpool_c.proofs.Words.{◌≡◌, ◌∙◌, sym, ap, ℕ, ◌+◌, ◌<◌, List, [], ◌∷◌, ◌++◌, length, take, drop, slice_get, slice_set, Some, arith, take_more_set, take_more, take-take, length-take, drop-drop, drop-set-lt, slice_get_within, get_or_from_slice_get, Writes, written_count}
 
 -- one more stands at the front
 pub front_more : (given keys : List ℕ) (at key : ℕ) → at < length keys → slice_get given at ≡ Some key → take at keys ≡ take at given → take (at + 1) (slice_set keys at key) ≡ take (at + 1) given

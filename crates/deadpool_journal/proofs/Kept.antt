@@ -1,84 +1,60 @@
 -- A step that is noted keeps a journal true.
-use Rattle.std.proofs.Common.{◌≡◌, ℕ, ◌<◌, ◌≤◌, true, false, List, [], ◌∷◌, ◌++◌, length, refl, ◌∙◌, arith, inl, inr, Option, None, length-append}
-use Rattle.std.specs.Prelude.{nat_lt, Ok, Err}
-use Rattle.std.proofs.lemmas.Bool.{cases_Bool}
-use borrow.Author.Tests.{ltb-true, ltb-false}
-use Rattle.deadpool_parts.specs.declared.replies.StepReply.TheVariants as step
-use Rattle.deadpool_parts.specs.declared.replies.HandleReply.TheVariants as handle
-use Rattle.deadpool_desk.specs.CoreState.{CoreState}
-use Rattle.deadpool_desk.specs.DeskState.{DeskState}
-use Rattle.deadpool_desk.specs.DeskSteps.{Serves}
-use Rattle.deadpool_desk.specs.declared.desk.Serving.{Serving}
-use Rattle.deadpool_desk.specs.declared.desk.Serving.TheVariants as serving
-use Rattle.deadpool_desk.specs.declared.desk.EnterReply.TheVariants as enter
-use Rattle.deadpool_desk.specs.declared.desk.AskReply.TheVariants as ask
-use Rattle.deadpool_desk.specs.declared.desk.AgainReply.TheVariants as again
-use Rattle.deadpool_desk.specs.declared.desk.CreatedReply.TheVariants as created
-use Rattle.deadpool_desk.specs.declared.desk.BackReply.TheVariants as back
-use Rattle.deadpool_desk.specs.declared.desk.TakeReply.TheVariants as taking
-use Rattle.deadpool_desk.specs.declared.desk.Held.TheVariants as held
-use Rattle.deadpool_journal.specs.ByNumber.{numbered}
-use Rattle.deadpool_journal.specs.LogState.{noted}
-use Rattle.deadpool_journal.specs.Journaling.{Journaling, opening}
-use Rattle.deadpool_journal.specs.Kept.{IsKept}
-use Rattle.deadpool_journal.specs.Replay.{IsStep, after, after_serving, replayed, AreSteps}
-use Rattle.deadpool_journal.specs.declared.entry.Entry.{Entry}
-use Rattle.deadpool_journal.specs.declared.entry.Entry.TheVariants as entry
+use Rattle.deadpool_journal.proofs.Words.{◌≡◌, ℕ, ◌<◌, ◌≤◌, true, false, List, [], ◌∷◌, ◌++◌, length, refl, ◌∙◌, arith, inl, inr, Option, None, length-append, nat_lt, Ok, Err, cases_Bool, ltb-true, ltb-false, StepReply, HandleReply, CoreState, DeskState, Serves, Serving, EnterReply, AskReply, AgainReply, CreatedReply, BackReply, TakeReply, Held, numbered, noted, Journaling, opening, IsKept, IsStep, after, after_serving, replayed, AreSteps, Entry}
 
 serves_after : (d d' : DeskState ℕ) (allowance : Option ℕ) (by : Serving ℕ) → Serves d allowance by d' → d' ≡ after_serving d by
-serves_after d d' allowance (serving.Object number left) h = h.2
-serves_after d d' allowance serving.Going h = h.2
-serves_after d d' allowance serving.Create h = h.2
-serves_after d d' allowance serving.Exhausted h = h.2
+serves_after d d' allowance (Serving.Object number left) h = h.2
+serves_after d d' allowance Serving.Going h = h.2
+serves_after d d' allowance Serving.Create h = h.2
+serves_after d d' allowance Serving.Exhausted h = h.2
 
 -- the state that an entry leaves
 makes_after : (d d' : DeskState ℕ) (e : Entry) → IsStep d e d' → d' ≡ after d e
-makes_after d d' (entry.Enter wait enter.Closed) h = h.1
-makes_after d d' (entry.Enter wait (enter.Served by)) h = serves_after d d' None by h.2
-makes_after d d' (entry.Enter wait enter.Full) h = h.3
-makes_after d d' (entry.Enter wait (enter.Waiting ticket)) h = h.4
-makes_after d d' (entry.Enter wait enter.OutOfMemory) h = h.3
-makes_after d d' (entry.Ask ticket expired ask.Unknown) h = h.1
-makes_after d d' (entry.Ask ticket expired ask.Closed) h = h.2
-makes_after d d' (entry.Ask ticket expired (ask.Served by)) h = serves_after _ d' None by h.2
-makes_after d d' (entry.Ask ticket expired ask.Expired) h = h.4
-makes_after d d' (entry.Ask ticket expired ask.Waiting) h = h.4
-makes_after d d' (entry.Again allowance again.Unknown) h = h.1
-makes_after d d' (entry.Again allowance (again.Served by)) h = serves_after _ d' allowance by h.1
-makes_after d d' (entry.Discard step.Unknown) h = h.1
-makes_after d d' (entry.Discard step.Done) h = h.1
-makes_after d d' (entry.Created created.Unknown) h = h.1
-makes_after d d' (entry.Created (created.Created number)) h = h.2
-makes_after d d' (entry.Failed step.Unknown) h = h.1
-makes_after d d' (entry.Failed step.Done) h = h.1
-makes_after d d' (entry.Refused step.Unknown) h = h.1
-makes_after d d' (entry.Refused step.Done) h = h.1
-makes_after d d' (entry.Back number (back.Unknown given)) h = h.2
-makes_after d d' (entry.Back number (back.Dropped given)) h = h.3
-makes_after d d' (entry.Back number (back.Detach given)) h = h.4
-makes_after d d' (entry.Back number back.Kept) h = h.3
-makes_after d d' (entry.Cancel (held.Ticket ticket) step.Unknown) h = h.1
-makes_after d d' (entry.Cancel (held.Ticket ticket) step.Done) h = h.1
-makes_after d d' (entry.Cancel held.Place step.Unknown) h = h.1
-makes_after d d' (entry.Cancel held.Place step.Done) h = h.1
-makes_after d d' (entry.Cancel held.Creation step.Unknown) h = h.1
-makes_after d d' (entry.Cancel held.Creation step.Done) h = h.1
-makes_after d d' (entry.Cancel held.Object step.Unknown) h = h.1
-makes_after d d' (entry.Cancel held.Object step.Done) h = h.1
-makes_after d d' (entry.Status status) h = h.1
-makes_after d d' (entry.Take taking.Unknown) h = h.1
-makes_after d d' (entry.Take (taking.Taken detach)) h = h.2
-makes_after d d' (entry.Resize limit (Ok done)) h = h
-makes_after d d' (entry.Resize limit (Err refused)) h = h.2
-makes_after d d' (entry.Retain (Ok removed)) h = h.2
-makes_after d d' (entry.Retain (Err refused)) h = h.1
-makes_after d d' entry.Close h = h
-makes_after d d' (entry.CloneHandle handle.NoHandle) h = h.1
-makes_after d d' (entry.CloneHandle handle.Done) h = h.1
-makes_after d d' (entry.DropHandle handle.NoHandle) h = h.1
-makes_after d d' (entry.DropHandle handle.Done) h = h.1
-makes_after d d' (entry.Upgrade true) h = h.1
-makes_after d d' (entry.Upgrade false) h = h.1
+makes_after d d' (Entry.Enter wait EnterReply.Closed) h = h.1
+makes_after d d' (Entry.Enter wait (EnterReply.Served by)) h = serves_after d d' None by h.2
+makes_after d d' (Entry.Enter wait EnterReply.Full) h = h.3
+makes_after d d' (Entry.Enter wait (EnterReply.Waiting ticket)) h = h.4
+makes_after d d' (Entry.Enter wait EnterReply.OutOfMemory) h = h.3
+makes_after d d' (Entry.Ask ticket expired AskReply.Unknown) h = h.1
+makes_after d d' (Entry.Ask ticket expired AskReply.Closed) h = h.2
+makes_after d d' (Entry.Ask ticket expired (AskReply.Served by)) h = serves_after _ d' None by h.2
+makes_after d d' (Entry.Ask ticket expired AskReply.Expired) h = h.4
+makes_after d d' (Entry.Ask ticket expired AskReply.Waiting) h = h.4
+makes_after d d' (Entry.Again allowance AgainReply.Unknown) h = h.1
+makes_after d d' (Entry.Again allowance (AgainReply.Served by)) h = serves_after _ d' allowance by h.1
+makes_after d d' (Entry.Discard StepReply.Unknown) h = h.1
+makes_after d d' (Entry.Discard StepReply.Done) h = h.1
+makes_after d d' (Entry.Created CreatedReply.Unknown) h = h.1
+makes_after d d' (Entry.Created (CreatedReply.Created number)) h = h.2
+makes_after d d' (Entry.Failed StepReply.Unknown) h = h.1
+makes_after d d' (Entry.Failed StepReply.Done) h = h.1
+makes_after d d' (Entry.Refused StepReply.Unknown) h = h.1
+makes_after d d' (Entry.Refused StepReply.Done) h = h.1
+makes_after d d' (Entry.Back number (BackReply.Unknown given)) h = h.2
+makes_after d d' (Entry.Back number (BackReply.Dropped given)) h = h.3
+makes_after d d' (Entry.Back number (BackReply.Detach given)) h = h.4
+makes_after d d' (Entry.Back number BackReply.Kept) h = h.3
+makes_after d d' (Entry.Cancel (Held.Ticket ticket) StepReply.Unknown) h = h.1
+makes_after d d' (Entry.Cancel (Held.Ticket ticket) StepReply.Done) h = h.1
+makes_after d d' (Entry.Cancel Held.Place StepReply.Unknown) h = h.1
+makes_after d d' (Entry.Cancel Held.Place StepReply.Done) h = h.1
+makes_after d d' (Entry.Cancel Held.Creation StepReply.Unknown) h = h.1
+makes_after d d' (Entry.Cancel Held.Creation StepReply.Done) h = h.1
+makes_after d d' (Entry.Cancel Held.Object StepReply.Unknown) h = h.1
+makes_after d d' (Entry.Cancel Held.Object StepReply.Done) h = h.1
+makes_after d d' (Entry.Status status) h = h.1
+makes_after d d' (Entry.Take TakeReply.Unknown) h = h.1
+makes_after d d' (Entry.Take (TakeReply.Taken detach)) h = h.2
+makes_after d d' (Entry.Resize limit (Ok done)) h = h
+makes_after d d' (Entry.Resize limit (Err refused)) h = h.2
+makes_after d d' (Entry.Retain (Ok removed)) h = h.2
+makes_after d d' (Entry.Retain (Err refused)) h = h.1
+makes_after d d' Entry.Close h = h
+makes_after d d' (Entry.CloneHandle HandleReply.NoHandle) h = h.1
+makes_after d d' (Entry.CloneHandle HandleReply.Done) h = h.1
+makes_after d d' (Entry.DropHandle HandleReply.NoHandle) h = h.1
+makes_after d d' (Entry.DropHandle HandleReply.Done) h = h.1
+makes_after d d' (Entry.Upgrade true) h = h.1
+makes_after d d' (Entry.Upgrade false) h = h.1
 
 -- one entry more is one step more
 replayed-snoc : (d : DeskState ℕ) (es : List Entry) (e : Entry) → replayed d (es ++ e ∷ []) ≡ after (replayed d es) e

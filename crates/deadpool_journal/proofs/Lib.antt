@@ -1,3 +1,4 @@
 pub mod ByNumber
 pub mod Kept
 pub mod Retains
+pub mod Words

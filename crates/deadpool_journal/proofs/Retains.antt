@@ -1,27 +1,7 @@
 -- What a retain notes is what it removed.
-use Rattle.std.proofs.Common.{◌≡◌, ℕ, ◌+◌, ◌-◌, ◌≤◌, true, false, List, [], ◌∷◌, map, length, refl, ap, ◌∙◌, arith, inl, inr}
-use Rattle.std.specs.Prelude.{◌==◌, nat_lt, Result, Ok, Err}
-use borrow.Author.Tests.{ltb-false}
-use Rattle.std.specs.declared.alloc.AllocError.{AllocError}
-use Rattle.std.proofs.lemmas.Bool.{eq-eqb, ne_eqb}
-use Rattle.std.proofs.lemmas.List.{length-map}
-use Rattle.deadpool_desk.specs.CoreState.{CoreState}
+use Rattle.deadpool_journal.proofs.Words.{◌≡◌, ℕ, ◌+◌, ◌-◌, ◌≤◌, true, false, List, [], ◌∷◌, map, length, refl, ap, ◌∙◌, arith, inl, inr, ◌==◌, nat_lt, Result, Ok, Err, ltb-false, AllocError, eq-eqb, ne_eqb, length-map, CoreState, DeskState, least_idle, Retained, Reviews, ReviewsFrom, Retains, RetainsNoting, Removal, Ghosts as RetainerOf, Slot, number_of, numbered, Journaling, IsKept, remaining, StandIn, IsStep, NotesRetain, Entry}
+use Rattle.deadpool_journal.proofs.{ByNumber.some_numbered, Kept.step_full}
 use Rattle.deadpool_desk.specs.CoreSteps as core_steps
-use Rattle.deadpool_desk.specs.DeskState.{DeskState, least_idle}
-use Rattle.deadpool_desk.specs.Retained.{Retained}
-use Rattle.deadpool_desk.specs.Retains.{Reviews, ReviewsFrom, Retains, RetainsNoting}
-use Rattle.deadpool_desk.specs.declared.retain.Removal.{Removal}
-use Rattle.deadpool_desk.specs.declared.retain.Retainer.{Ghosts as RetainerOf}
-use Rattle.deadpool_desk.specs.declared.slot.Slot.{Slot}
-use Rattle.deadpool_journal.specs.ByNumber.{number_of, numbered}
-use Rattle.deadpool_journal.specs.Journaling.{Journaling}
-use Rattle.deadpool_journal.specs.Kept.{IsKept}
-use Rattle.deadpool_journal.specs.Removals.{remaining, StandIn}
-use Rattle.deadpool_journal.specs.Replay.{IsStep}
-use Rattle.deadpool_journal.specs.Steps.{NotesRetain}
-use Rattle.deadpool_journal.specs.declared.entry.Entry.TheVariants as entry
-use Rattle.deadpool_journal.proofs.ByNumber.{some_numbered}
-use Rattle.deadpool_journal.proofs.Kept.{step_full}
 
 -- if nothing is removed, all remains
 remaining-none : (at : ℕ) (xs : List ℕ) → remaining at [] xs ≡ xs
@@ -90,13 +70,13 @@ module _ {T R : Type 0} (asks : RetainerOf R T) where
       let all = reviews_noted (least_idle d.limit d) (length d.idle) 0 d.idle r h.0 given.removed r' h.1 in (all.0, (h.0, all.1, h.2, h.3))
 
   pub retain_numbered : (d d' : DeskState (Slot T)) (r r' : R) (given : Retained T × List Removal) → RetainsNoting asks d r (Ok given) d' r'
-      → IsStep (numbered d) (entry.Retain (Ok given.1)) (numbered d')
+      → IsStep (numbered d) (Entry.Retain (Ok given.1)) (numbered d')
   retain_numbered d d' r r' given h =
       let all = stands (least_idle d.limit d) (length d.idle) 0 d.idle r h.0 given.0.removed given.1 r' h.1 in
       let few = noted_few (least_idle d.limit d) (length d.idle) 0 d.idle r h.0 given.0.removed given.1 r' h.1 in
       (all.0, rw (length-map d.idle (number_of {T = T})) few, ap numbered h.3 ∙ ap (λ (i : List ℕ). record (numbered d) { idle = i }) all.1)
 
-  pub refused_retain_numbered : (d d' : DeskState (Slot T)) (r r' : R) (e : AllocError) → RetainsNoting asks d r (Err e) d' r' → IsStep (numbered d) (entry.Retain (Err e)) (numbered d')
+  pub refused_retain_numbered : (d d' : DeskState (Slot T)) (r r' : R) (e : AllocError) → RetainsNoting asks d r (Err e) d' r' → IsStep (numbered d) (Entry.Retain (Err e)) (numbered d')
   refused_retain_numbered d d' r r' e h = (some_numbered d.idle h.0, ap numbered h.1)
 
   -- If there is no room for the entry only the mark is set, and what the retain gave up could have been noted.
@@ -109,6 +89,6 @@ module _ {T R : Type 0} (asks : RetainerOf R T) where
       → nat_lt (length j.log.entries) j.log.most ≡ false → IsKept (record j { core = core; log = record j.log { is_full = true } })
   unnoted_kept j core r r' (Ok given) kept h none =
       let all = retain_noted j.core.desk core.desk r r' given h.0 in
-      step_full j core (entry.Retain (Ok all.0)) kept (retain_numbered j.core.desk core.desk r r' (given, all.0) all.1) (ltb-false (length j.log.entries) j.log.most none)
+      step_full j core (Entry.Retain (Ok all.0)) kept (retain_numbered j.core.desk core.desk r r' (given, all.0) all.1) (ltb-false (length j.log.entries) j.log.most none)
   unnoted_kept j core r r' (Err e) kept h none =
-      step_full j core (entry.Retain (Err e)) kept (refused_retain_numbered j.core.desk core.desk r r' e h.0) (ltb-false (length j.log.entries) j.log.most none)
+      step_full j core (Entry.Retain (Err e)) kept (refused_retain_numbered j.core.desk core.desk r r' e h.0) (ltb-false (length j.log.entries) j.log.most none)

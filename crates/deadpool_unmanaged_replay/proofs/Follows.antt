@@ -1,9 +1,7 @@
 -- A step of the core is a move of its pool, whether the pool settles then or stays as it is.
 use Rattle.deadpool_unmanaged_replay.proofs.Basics.{◌≡◌, ℕ, List, Bool, sym, ap, ◌∙◌, subst, Option, Runtime}
 use Rattle.deadpool_unmanaged_replay.proofs.Words.{image, IsCounted, IsWell, NobodyWaits, Gives, unsettled, moved, Pool, settle, State, settled, Item, Move, Reply, Visitor}
-use Rattle.deadpool_unmanaged_replay.proofs.Lawful.{moved_lawful}
-use Rattle.deadpool_unmanaged_replay.proofs.Settling.{settle-none, settles, counted-settled}
-use Rattle.deadpool_unmanaged_replay.proofs.Well.{moved_well}
+use Rattle.deadpool_unmanaged_replay.proofs.{Lawful.moved_lawful, Settling.settle-none, Settling.settles, Settling.counted-settled, Well.moved_well}
 
 -- what a trial keeps by a move, all but its capacities, and that it is one
 pub record Follows {V : Type 0} (m : Move V) (p : Pool V) (answer : Reply V) (d : State (Item V)) (visitors : List (Option (Visitor V))) (out : List (Item V)) (q : Pool V) : Type 0 where

@@ -1,14 +1,7 @@
 -- A poll of a get at a core is a poll of its party in the pool.
 use Rattle.deadpool_unmanaged_replay.proofs.Basics.{◌≡◌, ℕ, ◌+◌, ◌-◌, ◌<◌, List, [], Bool, true, false, not, length, set, map, refl, sym, ap, ◌∙◌, subst, arith, inl, inr, Option, Some, eq-eqb, nat_lt, Result, slice_get, Duration, cases_Bool, lt-ltb, le-ltb, not-true, Poll, deadline_after, is_reached, cannot_wait, has_number, Moment, Runtime, owner, Queue, is_listed, joined, set-same, renamed-set, granted-renamed}
-use Rattle.deadpool_unmanaged_replay.proofs.Words.{PollsGet, stage_entered, turn_entered, stage_asked, turn_asked, image, party_of, has_get, has_add, IsCounted, IsWell, NobodyWaits, unsettled, by_party, Pool, Party, new_get, queued_get, finished, free_objects, State, GetEnters, GetAsks, without_get, with_get, handed, ended, hand_out, with_item, poll, enter_get, inquire_get, got, given, reply_to, PoolError, Timeout, Closed, NoRuntimeSpecified, OutOfMemory, GetStage, Unpolled, Queued, Finished, Item, Reply, Visitor, GetAskReply, GetEnterReply}
-use Rattle.deadpool_unmanaged.specs.State.{free_objects as objects_left}
-use Rattle.deadpool_unmanaged_replay.specs.declared.moves.Move.TheVariants as move
-use Rattle.deadpool_unmanaged_replay.specs.declared.moves.Reply.TheVariants as reply
-use Rattle.deadpool_unmanaged_replay.specs.declared.trial.Visitor.TheVariants as visitor
-use Rattle.deadpool_unmanaged.specs.declared.steps.GetAskReply.TheVariants as asked
-use Rattle.deadpool_unmanaged.specs.declared.steps.GetEnterReply.TheVariants as entered
-use Rattle.deadpool_unmanaged_replay.proofs.Follows.{Follows, by_settling, by_resting}
-use Rattle.deadpool_unmanaged_replay.proofs.Visitors.{objects-image, hands_out, counted-handed, party-here, counted-set, image-set, left-none, nobody-set, counted-without_get, image-without_get, counted-joined_get, image-joined_get}
+use Rattle.deadpool_unmanaged_replay.proofs.Words.{PollsGet, stage_entered, turn_entered, stage_asked, turn_asked, image, party_of, has_get, has_add, IsCounted, IsWell, NobodyWaits, unsettled, by_party, Pool, Party, new_get, queued_get, finished, free_objects, State, GetEnters, GetAsks, without_get, with_get, handed, ended, hand_out, with_item, poll, enter_get, inquire_get, got, given, reply_to, PoolError, Timeout, Closed, NoRuntimeSpecified, OutOfMemory, GetStage, Unpolled, Queued, Finished, Item, Reply, Visitor, GetAskReply, GetEnterReply, objects_left, Move}
+use Rattle.deadpool_unmanaged_replay.proofs.{Follows.Follows, Follows.by_settling, Follows.by_resting, Visitors.objects-image, Visitors.hands_out, Visitors.counted-handed, Visitors.party-here, Visitors.counted-set, Visitors.image-set, Visitors.left-none, Visitors.nobody-set, Visitors.counted-without_get, Visitors.image-without_get, Visitors.counted-joined_get, Visitors.image-joined_get}
 
 module _ {V : Type 0} (runtime : Option Runtime) (most next : ℕ) (d : State (Item V)) (visitors : List (Option (Visitor V))) (out : List (Item V)) (k : IsCounted d visitors out)
     (well : IsWell (image runtime most next d visitors out)) (n : ℕ) (now : Moment) where
@@ -17,30 +10,30 @@ module _ {V : Type 0} (runtime : Option Runtime) (most next : ℕ) (d : State (I
 
   -- the party's poll is answered so, and its visitor and the core are these after it
   abbrev pub Polled : Reply V → State (Item V) → Option (Visitor V) → List (Item V) → Type 0
-  Polled answer d' after out' = Follows (move.Poll n now) pool answer d' (set visitors n after) out' (image runtime most next d' (set visitors n after) out')
+  Polled answer d' after out' = Follows (Move.Poll n now) pool answer d' (set visitors n after) out' (image runtime most next d' (set visitors n after) out')
 
   -- the party that is polled
   pub by_visitor : (old : Option (Visitor V)) (party : Party V) → slice_get visitors n ≡ Some old → party_of old ≡ Some party → (found : Bool)
-      → unsettled found (move.Poll n now) pool ≡ poll found n now party pool
+      → unsettled found (Move.Poll n now) pool ≡ poll found n now party pool
   by_visitor old party here is found = ap (λ o. by_party o (poll found n now) pool) (party-here runtime most next d visitors out k n old old here ∙ ap Some is)
 
   -- a poll that changes nothing
-  pub unchanged : (old : Option (Visitor V)) (party : Party V) (here : slice_get visitors n ≡ Some old) → party_of old ≡ Some party → poll true n now party pool ≡ (reply.Pending, pool)
-      → Polled reply.Pending d old out
+  pub unchanged : (old : Option (Visitor V)) (party : Party V) (here : slice_get visitors n ≡ Some old) → party_of old ≡ Some party → poll true n now party pool ≡ (Reply.Pending, pool)
+      → Polled Reply.Pending d old out
   unchanged old party here is rests =
       let same = set-same visitors n old here in
       let makes = by_visitor old party here is true ∙ rests in
-      let all = by_resting (move.Poll n now) pool well reply.Pending runtime most next d visitors out k true makes d refl well.lawful.nobody_waits in
+      let all = by_resting (Move.Poll n now) pool well Reply.Pending runtime most next d visitors out k true makes d refl well.lawful.nobody_waits in
       rw same all
 
   abbrev over : Option (Visitor V)
-  over = Some (visitor.Get Finished)
+  over = Some (Visitor.Get Finished)
 
   -- ---- a get that was not polled yet
 
-  module _ (wait : Option Duration) (here : slice_get visitors n ≡ Some (Some (visitor.Get (Unpolled wait)))) where
+  module _ (wait : Option Duration) (here : slice_get visitors n ≡ Some (Some (Visitor.Get (Unpolled wait)))) where
     abbrev new_visitor : Option (Visitor V)
-    new_visitor = Some (visitor.Get (Unpolled wait))
+    new_visitor = Some (Visitor.Get (Unpolled wait))
 
     -- the get ends at its first poll
     new_ended : image runtime most next d (set visitors n over) out ≡ ended n pool
@@ -53,57 +46,57 @@ module _ {V : Type 0} (runtime : Option Runtime) (most next : ℕ) (d : State (I
     new_counted = counted-set runtime most next d visitors out k n new_visitor over here (λ u. refl) (λ u. refl) (λ u. refl) (λ u. refl)
 
     -- it ends without an object, and the core is as it was
-    new_fails : (found : Bool) (cause : PoolError) (d' : State (Item V)) → d' ≡ d → enter_get found n wait now pool ≡ (reply.Failed cause, ended n pool) → Polled (reply.Failed cause) d' over out
+    new_fails : (found : Bool) (cause : PoolError) (d' : State (Item V)) → d' ≡ d → enter_get found n wait now pool ≡ (Reply.Failed cause, ended n pool) → Polled (Reply.Failed cause) d' over out
     new_fails found cause d' same fails =
-        let makes = by_visitor new_visitor (new_get wait) here refl found ∙ fails ∙ ap (λ (q : Pool V). (reply.Failed cause, q)) (sym new_ended) in
-        by_resting (move.Poll n now) pool well (reply.Failed cause) runtime most next d (set visitors n over) out new_counted found makes d' same
+        let makes = by_visitor new_visitor (new_get wait) here refl found ∙ fails ∙ ap (λ (q : Pool V). (Reply.Failed cause, q)) (sym new_ended) in
+        by_resting (Move.Poll n now) pool well (Reply.Failed cause) runtime most next d (set visitors n over) out new_counted found makes d' same
         (nobody-set runtime most next d visitors out k n new_visitor over here (λ u. refl) (λ u. refl) (λ u. refl) (λ u. refl) well.lawful.nobody_waits)
 
     none_free : objects_left d ≡ 0 → nat_lt 0 (free_objects pool) ≡ false
     none_free none = le-ltb 0 (free_objects pool) (omega (arith, none, objects-image runtime most next d visitors out))
 
     entered_so : (answer : GetEnterReply (Item V)) (d' : State (Item V)) → cannot_wait runtime wait ≡ false → GetEnters d (not (is_reached (deadline_after now wait) now)) answer d'
-        → Polled (reply_to (got (turn_entered answer))) d' (Some (visitor.Get (stage_entered (deadline_after now wait) answer))) (given (got (turn_entered answer)) out)
-    entered_so entered.Closed d' has e = new_fails true Closed d' e.1 (rw (has, e.0) refl)
-    entered_so entered.Full d' has e =
+        → Polled (reply_to (got (turn_entered answer))) d' (Some (Visitor.Get (stage_entered (deadline_after now wait) answer))) (given (got (turn_entered answer)) out)
+    entered_so GetEnterReply.Closed d' has e = new_fails true Closed d' e.1 (rw (has, e.0) refl)
+    entered_so GetEnterReply.Full d' has e =
         let late : is_reached (deadline_after now wait) now ≡ true = not_false _ e.2 in
         new_fails true Timeout d' e.3 (rw (has, e.0, none_free e.1, late) refl)
       where
         not_false : (b : Bool) → not b ≡ false → b ≡ true
         not_false true is = refl
         not_false false is = cc
-    entered_so entered.OutOfMemory d' has e =
+    entered_so GetEnterReply.OutOfMemory d' has e =
         let early = not-true (is_reached (deadline_after now wait) now) e.2 in
         new_fails false OutOfMemory d' e.3 (rw (has, e.0, none_free e.1, early) refl)
-    entered_so (entered.Object item) d' has e =
+    entered_so (GetEnterReply.Object item) d' has e =
         let free : nat_lt 0 (free_objects pool) ≡ true = lt-ltb 0 (free_objects pool) (omega (arith, e.1, objects-image runtime most next d visitors out)) in
         let takes : enter_get true n wait now pool ≡ hand_out (ended n pool) = rw (has, e.0, free) refl in
         let makes = by_visitor new_visitor (new_get wait) here refl true ∙ takes ∙ hands_out runtime most next d (set visitors n over) out item (ended n pool) new_ended e.2 in
-        by_settling (move.Poll n now) pool well (reply.Object item.number) runtime most next (handed d) (set visitors n over) (with_item item out)
+        by_settling (Move.Poll n now) pool well (Reply.Object item.number) runtime most next (handed d) (set visitors n over) (with_item item out)
         (counted-handed runtime most next d (set visitors n over) out item new_counted) true makes d' e.3
-    entered_so (entered.Waiting ticket) d' has e =
-        let waits : Option (Visitor V) = Some (visitor.Get (Queued ticket (deadline_after now wait))) in
+    entered_so (GetEnterReply.Waiting ticket) d' has e =
+        let waits : Option (Visitor V) = Some (Visitor.Get (Queued ticket (deadline_after now wait))) in
         let early = not-true (is_reached (deadline_after now wait) now) e.2 in
         let after = image-joined_get runtime most next d visitors out k n new_visitor waits here ticket e.3 (λ u. refl) (λ u. refl) (λ u. refl) (λ u. refl) in
-        let joins : enter_get true n wait now pool ≡ (reply.Pending, record pool { parties = set (map party_of visitors) n (Some (queued_get (deadline_after now wait))); gets = joined n pool.gets }) =
+        let joins : enter_get true n wait now pool ≡ (Reply.Pending, record pool { parties = set (map party_of visitors) n (Some (queued_get (deadline_after now wait))); gets = joined n pool.gets }) =
         rw (has, e.0, none_free e.1, early) refl in
-        let makes = by_visitor new_visitor (new_get wait) here refl true ∙ joins ∙ ap (λ (q : Pool V). (reply.Pending, q)) (sym after) in
+        let makes = by_visitor new_visitor (new_get wait) here refl true ∙ joins ∙ ap (λ (q : Pool V). (Reply.Pending, q)) (sym after) in
         let free = objects-image runtime most next d visitors out in
         let nobody = well.lawful.nobody_waits in
-        by_resting (move.Poll n now) pool well reply.Pending runtime most next (with_get ticket d) (set visitors n waits) out
+        by_resting (Move.Poll n now) pool well Reply.Pending runtime most next (with_get ticket d) (set visitors n waits) out
         (counted-joined_get runtime most next d visitors out k n new_visitor waits here ticket e.3 (λ u. refl) (λ u. refl) (λ u. refl) (λ u. refl)) true makes d' e.4
         (subst NobodyWaits (sym after) (record { objects = λ is some. absurd (omega (arith, some, free, e.1)); room = nobody.room }))
 
     new_polled : (turn : Poll (Result (Item V) PoolError)) (after : GetStage) (d' : State (Item V)) → PollsGet runtime now (Unpolled wait) d turn after d'
-        → Polled (reply_to (got turn)) d' (Some (visitor.Get after)) (given (got turn) out)
+        → Polled (reply_to (got turn)) d' (Some (Visitor.Get after)) (given (got turn) out)
     new_polled turn after d' (inl lacks) = rw (lacks.1, lacks.2) (new_fails true NoRuntimeSpecified d' lacks.3 (rw lacks.0 refl))
     new_polled turn after d' (inr has) = rw (has.1.1.1, has.1.1.2) (entered_so has.1.0 d' has.0 has.1.1.0)
 
   -- ---- a get in the queue
 
-  module _ (t : ℕ) (deadline : Option Moment) (here : slice_get visitors n ≡ Some (Some (visitor.Get (Queued t deadline)))) where
+  module _ (t : ℕ) (deadline : Option Moment) (here : slice_get visitors n ≡ Some (Some (Visitor.Get (Queued t deadline)))) where
     abbrev queued_visitor : Option (Visitor V)
-    queued_visitor = Some (visitor.Get (Queued t deadline))
+    queued_visitor = Some (Visitor.Get (Queued t deadline))
 
     mine : (is_listed t d.gets ≡ true) × (owner has_get visitors t ≡ n)
     mine = k.gets.listed n t queued_visitor here (eq-eqb t t refl)
@@ -120,40 +113,40 @@ module _ {V : Type 0} (runtime : Option Runtime) (most next : ℕ) (d : State (I
     granted_here = granted-renamed has_get d.gets visitors k.gets n queued_visitor over here t mine.1 (λ u. refl)
 
     asked_so : (answer : GetAskReply (Item V)) (d' : State (Item V)) → GetAsks d t (is_reached deadline now) answer d'
-        → Polled (reply_to (got (turn_asked answer))) d' (Some (visitor.Get (stage_asked t deadline answer))) (given (got (turn_asked answer)) out)
-    asked_so asked.Unknown d' e = absurd (let differ : true ≡ false = sym mine.0 ∙ e.0 in cc)
-    asked_so asked.Waiting d' e =
-        let waits : inquire_get n deadline now pool ≡ (reply.Pending, pool) = rw (e.0, granted_here ∙ e.1, e.3) refl in
-        subst (λ (c : State (Item V)). Polled reply.Pending c queued_visitor out) (sym e.4) (unchanged queued_visitor (queued_get deadline) here refl waits)
-    asked_so asked.Expired d' e =
-        let late : inquire_get n deadline now pool ≡ (reply.Failed Timeout, ended n pool) = rw (e.0, granted_here ∙ e.1, e.3) refl in
-        let makes = by_visitor queued_visitor (queued_get deadline) here refl true ∙ late ∙ ap (λ (q : Pool V). (reply.Failed Timeout, q)) (sym queued_ended) in
-        by_settling (move.Poll n now) pool well (reply.Failed Timeout) runtime most next (without_get t d) (set visitors n over) out queued_counted true makes d' e.4
-    asked_so (asked.Object item) d' e =
+        → Polled (reply_to (got (turn_asked answer))) d' (Some (Visitor.Get (stage_asked t deadline answer))) (given (got (turn_asked answer)) out)
+    asked_so GetAskReply.Unknown d' e = absurd (let differ : true ≡ false = sym mine.0 ∙ e.0 in cc)
+    asked_so GetAskReply.Waiting d' e =
+        let waits : inquire_get n deadline now pool ≡ (Reply.Pending, pool) = rw (e.0, granted_here ∙ e.1, e.3) refl in
+        subst (λ (c : State (Item V)). Polled Reply.Pending c queued_visitor out) (sym e.4) (unchanged queued_visitor (queued_get deadline) here refl waits)
+    asked_so GetAskReply.Expired d' e =
+        let late : inquire_get n deadline now pool ≡ (Reply.Failed Timeout, ended n pool) = rw (e.0, granted_here ∙ e.1, e.3) refl in
+        let makes = by_visitor queued_visitor (queued_get deadline) here refl true ∙ late ∙ ap (λ (q : Pool V). (Reply.Failed Timeout, q)) (sym queued_ended) in
+        by_settling (Move.Poll n now) pool well (Reply.Failed Timeout) runtime most next (without_get t d) (set visitors n over) out queued_counted true makes d' e.4
+    asked_so (GetAskReply.Object item) d' e =
         let takes : inquire_get n deadline now pool ≡ hand_out (ended n pool) = rw (e.0, granted_here ∙ e.1) refl in
         let makes = by_visitor queued_visitor (queued_get deadline) here refl true ∙ takes ∙ hands_out runtime most next (without_get t d) (set visitors n over) out item (ended n pool) queued_ended e.2 in
-        by_settling (move.Poll n now) pool well (reply.Object item.number) runtime most next (handed (without_get t d)) (set visitors n over) (with_item item out)
+        by_settling (Move.Poll n now) pool well (Reply.Object item.number) runtime most next (handed (without_get t d)) (set visitors n over) (with_item item out)
         (counted-handed runtime most next (without_get t d) (set visitors n over) out item queued_counted) true makes d' e.3
-    asked_so asked.Closed d' e =
-        let refused : inquire_get n deadline now pool ≡ (reply.Failed Closed, ended n pool) =
+    asked_so GetAskReply.Closed d' e =
+        let refused : inquire_get n deadline now pool ≡ (Reply.Failed Closed, ended n pool) =
         elim (cases_Bool d.is_open) [
           | inl is ↦ let nothing = e.1 is in rw (is, granted_here ∙ nothing.0, nothing.1) refl
           | inr shut ↦ rw shut refl
         ] in
-        let makes = by_visitor queued_visitor (queued_get deadline) here refl true ∙ refused ∙ ap (λ (q : Pool V). (reply.Failed Closed, q)) (sym queued_ended) in
+        let makes = by_visitor queued_visitor (queued_get deadline) here refl true ∙ refused ∙ ap (λ (q : Pool V). (Reply.Failed Closed, q)) (sym queued_ended) in
         let nobody = well.lawful.nobody_waits in
         let Waits : Queue → Type 0 = λ q. d.is_open ≡ true → 0 < d.limit - (length d.idle + length out) - length q.granted → q.waiting ≡ [] in
-        by_resting (move.Poll n now) pool well (reply.Failed Closed) runtime most next (without_get t d) (set visitors n over) out queued_counted true makes d' e.2
+        by_resting (Move.Poll n now) pool well (Reply.Failed Closed) runtime most next (without_get t d) (set visitors n over) out queued_counted true makes d' e.2
         (record {
           objects = λ is some. let nothing = e.1 is in absurd (let less = rw nothing.1 at some in omega (arith, less));
           room = subst Waits (sym (renamed-set has_add d.adds visitors k.adds n queued_visitor over here (λ u. refl) (λ u. refl))) nobody.room;
         })
 
   -- the poll of a get at any stage
-  pub get_polled : (stage : GetStage) → slice_get visitors n ≡ Some (Some (visitor.Get stage)) → (turn : Poll (Result (Item V) PoolError)) (after : GetStage) (d' : State (Item V))
-      → PollsGet runtime now stage d turn after d' → Polled (reply_to (got turn)) d' (Some (visitor.Get after)) (given (got turn) out)
+  pub get_polled : (stage : GetStage) → slice_get visitors n ≡ Some (Some (Visitor.Get stage)) → (turn : Poll (Result (Item V) PoolError)) (after : GetStage) (d' : State (Item V))
+      → PollsGet runtime now stage d turn after d' → Polled (reply_to (got turn)) d' (Some (Visitor.Get after)) (given (got turn) out)
   get_polled (Unpolled wait) here turn after d' polls = new_polled wait here turn after d' polls
   get_polled (Queued t deadline) here turn after d' polls = rw (polls.1.1, polls.1.2) (asked_so t deadline here polls.0 d' polls.1.0)
   get_polled Finished here turn after d' polls =
-      let rests = unchanged (Some (visitor.Get Finished)) finished here refl refl in
+      let rests = unchanged (Some (Visitor.Get Finished)) finished here refl refl in
       rw (polls.0, polls.1, polls.2) rests

@@ -1,9 +1,6 @@
 -- Each move keeps what is true of every state, and the limit.
 use Rattle.deadpool_unmanaged_replay.proofs.Basics.{◌≡◌, ℕ, ◌+◌, ◌-◌, ◌≤◌, nat_lt, if◌then◌else◌, ◌==◌, List, [], ◌∷◌, Bool, true, false, not, length, refl, ◌∙◌, arith, inl, inr, Option, Some, None, length-append, length-take, cases_Bool, cond_both, ltb-true, slice_get_within, Duration, slice_get, deadline_after, is_reached, cannot_wait, Runtime, has_number, largest_usize, most_handles, Moment, without_number-shorter, without_number-fewer}
-use Rattle.deadpool_unmanaged_replay.proofs.Words.{HasRoom, IsLawful, IsWithinLimit, unsettled, moved, by_party, by_newcomer, by_number, started, Pool, Party, new_get, queued_get, new_add, queued_add, finished, opened, size, free_objects, free_room, settle, status_of, last_idle, find_item, without_item, with_item, hand_out, store, ended, enter_get, inquire_get, enter_add, inquire_add, poll, cancelled, try_get, try_store, back, take_out, closed, cloned, handle_dropped, Item, Move, Reply, nobody_left, served_within}
-use Rattle.deadpool_unmanaged_replay.specs.Steps.{handed}
-use Rattle.deadpool_unmanaged_replay.specs.declared.moves.Move.TheVariants as move
-use Rattle.deadpool_unmanaged_replay.specs.declared.moves.Reply.TheVariants as reply
+use Rattle.deadpool_unmanaged_replay.proofs.Words.{HasRoom, IsLawful, IsWithinLimit, unsettled, moved, by_party, by_newcomer, by_number, started, Pool, Party, new_get, queued_get, new_add, queued_add, finished, opened, size, free_objects, free_room, settle, status_of, last_idle, find_item, without_item, with_item, hand_out, store, ended, enter_get, inquire_get, enter_add, inquire_add, poll, cancelled, try_get, try_store, back, take_out, closed, cloned, handle_dropped, Item, Move, Reply, nobody_left, served_within, pool_handed as handed}
 
 module _ {V : Type 0} where
   -- one more object in a list by number
@@ -130,18 +127,18 @@ module _ {V : Type 0} where
   closed_keeps p room = record { room = omega (arith, room); limit = refl }
 
   -- a step of one who needs a handle, of a new party, of an object that is handed in, or of a party that is there
-  by_handle_keeps : (p : Pool V) (x : Reply V × Pool V) → HasRoom p → Keeps p x.1 → Keeps p (if p.handles == 0 then (reply.NoHandle, p) else x).1
-  by_handle_keeps p x room kept = let P : Reply V × Pool V → Type 0 = λ y. Keeps p y.1 in cond_both (p.handles == 0) (reply.NoHandle, p) x P (λ _. same_keeps p room) (λ _. kept)
+  by_handle_keeps : (p : Pool V) (x : Reply V × Pool V) → HasRoom p → Keeps p x.1 → Keeps p (if p.handles == 0 then (Reply.NoHandle, p) else x).1
+  by_handle_keeps p x room kept = let P : Reply V × Pool V → Type 0 = λ y. Keeps p y.1 in cond_both (p.handles == 0) (Reply.NoHandle, p) x P (λ _. same_keeps p room) (λ _. kept)
 
-  by_newcomer_keeps : (p : Pool V) (x : Reply V × Pool V) → HasRoom p → Keeps p x.1 → Keeps p (if nat_lt (length p.parties) p.most_parties then x else (reply.NoRoom, p)).1
+  by_newcomer_keeps : (p : Pool V) (x : Reply V × Pool V) → HasRoom p → Keeps p x.1 → Keeps p (if nat_lt (length p.parties) p.most_parties then x else (Reply.NoRoom, p)).1
   by_newcomer_keeps p x room kept =
       let P : Reply V × Pool V → Type 0 = λ y. Keeps p y.1 in
-      cond_both (nat_lt (length p.parties) p.most_parties) x (reply.NoRoom, p) P (λ _. kept) (λ _. same_keeps p room)
+      cond_both (nat_lt (length p.parties) p.most_parties) x (Reply.NoRoom, p) P (λ _. kept) (λ _. same_keeps p room)
 
-  by_number_keeps : (v : V) (p : Pool V) (x : Reply V × Pool V) → HasRoom p → Keeps p x.1 → Keeps p (if p.next == largest_usize then (reply.Exhausted v, p) else x).1
+  by_number_keeps : (v : V) (p : Pool V) (x : Reply V × Pool V) → HasRoom p → Keeps p x.1 → Keeps p (if p.next == largest_usize then (Reply.Exhausted v, p) else x).1
   by_number_keeps v p x room kept =
       let P : Reply V × Pool V → Type 0 = λ y. Keeps p y.1 in
-      cond_both (p.next == largest_usize) (reply.Exhausted v, p) x P (λ _. same_keeps p room) (λ _. kept)
+      cond_both (p.next == largest_usize) (Reply.Exhausted v, p) x P (λ _. same_keeps p room) (λ _. kept)
 
   by_party_keeps : (o : Option (Option (Party V))) (step : Party V → Pool V → Reply V × Pool V) (p : Pool V) → HasRoom p
       → ((party : Party V) → Keeps p (step party p).1) → Keeps p (by_party o step p).1
@@ -150,34 +147,34 @@ module _ {V : Type 0} where
   by_party_keeps (Some (Some party)) step p room kept = kept party
 
   unsettled_keeps : (found : Bool) (m : Move V) (p : Pool V) → HasRoom p → Keeps p (unsettled found m p).1
-  unsettled_keeps found (move.Get wait) p room =
+  unsettled_keeps found (Move.Get wait) p room =
       let starts = started (new_get wait) p in
       by_handle_keeps p (by_newcomer (started (new_get wait)) p) room (by_newcomer_keeps p starts room (record { room = room; limit = refl }))
-  unsettled_keeps found (move.Add v) p room =
+  unsettled_keeps found (Move.Add v) p room =
       let start : Item V → Pool V → Reply V × Pool V = λ item. started (new_add item) in
       let numbered = record p { next = p.next + 1 } in
       by_handle_keeps p (by_newcomer (by_number start v) p) room
       (by_newcomer_keeps p (by_number start v p) room
       (by_number_keeps v p (start (record { number = p.next; value = v }) numbered) room (record { room = room; limit = refl })))
-  unsettled_keeps found (move.Poll n now) p room = by_party_keeps (slice_get p.parties n) (poll found n now) p room (λ party. poll_keeps found n now party p room)
-  unsettled_keeps found move.TryGet p room = by_handle_keeps p (try_get p) room (try_get_keeps p room)
-  unsettled_keeps found (move.TryAdd v) p room =
+  unsettled_keeps found (Move.Poll n now) p room = by_party_keeps (slice_get p.parties n) (poll found n now) p room (λ party. poll_keeps found n now party p room)
+  unsettled_keeps found Move.TryGet p room = by_handle_keeps p (try_get p) room (try_get_keeps p room)
+  unsettled_keeps found (Move.TryAdd v) p room =
       let numbered = record p { next = p.next + 1 } in
       let item : Item V = record { number = p.next; value = v } in
       let kept = try_store_keeps item numbered room in
       by_handle_keeps p (by_number try_store v p) room (by_number_keeps v p (try_store item numbered) room (record { room = kept.room; limit = kept.limit }))
-  unsettled_keeps found (move.Cancel n) p room =
+  unsettled_keeps found (Move.Cancel n) p room =
       let ends = ended_keeps n p room in
-      by_party_keeps (slice_get p.parties n) (λ party q. (reply.Cancelled, cancelled n q)) p room (λ party. record { room = ends.room; limit = refl })
-  unsettled_keeps found (move.Back n) p room = back_keeps (find_item n p.out) n p refl room
-  unsettled_keeps found (move.Take n) p room = take_out_keeps (find_item n p.out) n p refl room
-  unsettled_keeps found move.Close p room = by_handle_keeps p (reply.Done, closed p) room (closed_keeps p room)
-  unsettled_keeps found move.Status p room = by_handle_keeps p (reply.Stands (status_of p), p) room (same_keeps p room)
-  unsettled_keeps found move.Clone p room = by_handle_keeps p (reply.Done, cloned p) room (record { room = room; limit = refl })
-  unsettled_keeps found move.DropHandle p room = by_handle_keeps p (reply.Done, handle_dropped p) room (handle_dropped_keeps p room)
-  unsettled_keeps found move.Upgrade p room =
+      by_party_keeps (slice_get p.parties n) (λ party q. (Reply.Cancelled, cancelled n q)) p room (λ party. record { room = ends.room; limit = refl })
+  unsettled_keeps found (Move.Back n) p room = back_keeps (find_item n p.out) n p refl room
+  unsettled_keeps found (Move.Take n) p room = take_out_keeps (find_item n p.out) n p refl room
+  unsettled_keeps found Move.Close p room = by_handle_keeps p (Reply.Done, closed p) room (closed_keeps p room)
+  unsettled_keeps found Move.Status p room = by_handle_keeps p (Reply.Stands (status_of p), p) room (same_keeps p room)
+  unsettled_keeps found Move.Clone p room = by_handle_keeps p (Reply.Done, cloned p) room (record { room = room; limit = refl })
+  unsettled_keeps found Move.DropHandle p room = by_handle_keeps p (Reply.Done, handle_dropped p) room (handle_dropped_keeps p room)
+  unsettled_keeps found Move.Upgrade p room =
       let P : Reply V × Pool V → Type 0 = λ x. Keeps p x.1 in
-      cond_both (p.handles == 0) (reply.Upgraded false, p) (reply.Upgraded true, cloned p) P (λ _. same_keeps p room) (λ _. record { room = room; limit = refl })
+      cond_both (p.handles == 0) (Reply.Upgraded false, p) (Reply.Upgraded true, cloned p) P (λ _. same_keeps p room) (λ _. record { room = room; limit = refl })
 
   -- the settling grants what is free, and nobody waits then
   settle_lawful : (p : Pool V) → HasRoom p → IsLawful (settle p)

@@ -1,9 +1,7 @@
 -- What steps of gets and adds keep of numbers, promises and queues.
 use Rattle.deadpool_unmanaged_replay.proofs.Basics.{◌≡◌, ◌≢◌, ℕ, ◌+◌, ◌-◌, ◌<◌, ◌≤◌, nat_lt, List, [], ◌∷◌, Bool, true, false, not, length, set, refl, sym, ap, arith, ◌∙◌, inl, inr, Option, Some, None, length-append, length-take, slice_get, Duration, cond_both, ltb-true, deadline_after, is_reached, cannot_wait, has_number, Moment, without_number-shorter, without_number-fewer, get-set_same, get-set_other, count-cons_option, count-push, count-with, count-set_held}
-use Rattle.deadpool_unmanaged_replay.proofs.Words.{Pool, Party, new_get, queued_get, new_add, queued_add, finished, free_objects, free_room, IsWell, CountsOn, KeepsPromises, IsEmptyIfClosed, brings, brought_by, asks_for_object, asks_for_room, copies, so_many, brought_in, last_idle, other_idle, left, hand_out, store, ended, enter_get, inquire_get, enter_add, inquire_add, poll, cancelled, item_number, Item, Reply}
-use Rattle.deadpool_unmanaged_replay.specs.Steps.{handed}
-use Rattle.deadpool_unmanaged_replay.proofs.Copies.{so_many-last}
-use Rattle.deadpool_unmanaged_replay.proofs.Lined.{QueueMoves, set_others, set_quiet}
+use Rattle.deadpool_unmanaged_replay.proofs.Words.{Pool, Party, new_get, queued_get, new_add, queued_add, finished, free_objects, free_room, IsWell, CountsOn, KeepsPromises, IsEmptyIfClosed, brings, brought_by, asks_for_object, asks_for_room, copies, so_many, brought_in, last_idle, other_idle, left, hand_out, store, ended, enter_get, inquire_get, enter_add, inquire_add, poll, cancelled, item_number, Item, Reply, pool_handed as handed}
+use Rattle.deadpool_unmanaged_replay.proofs.{Copies.so_many-last, Lined.QueueMoves, Lined.set_others, Lined.set_quiet}
 
 module _ {V : Type 0} where
   -- but for the party that is named, each is as it was

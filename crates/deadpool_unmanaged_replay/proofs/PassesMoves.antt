@@ -1,11 +1,7 @@
 -- What each move keeps of numbers, promises and queues, before anybody is granted anything.
 use Rattle.deadpool_unmanaged_replay.proofs.Basics.{◌≡◌, ℕ, ◌+◌, ◌-◌, ◌<◌, ◌≤◌, eqb, nat_lt, if◌then◌else◌, ◌==◌, List, [], ◌∷◌, ◌++◌, Bool, true, false, not, length, refl, arith, inl, inr, Option, Some, None, length-append, slice_get, filter, Duration, cases_Bool, cond_both, ltb-true, nat_tests, largest_usize, most_handles, get-append, count-push, count-without, count-found, count-push_held}
 use Rattle.deadpool_unmanaged_replay.proofs.Words.{Pool, Party, new_get, new_add, free_objects, free_room, status_of, IsWell, CountsOn, brings, asks_for_object, asks_for_room, copies, brought_in, named, may_leave, find_item, without_item, store, poll, cancelled, try_get, try_store, back, take_out, closed, cloned, handle_dropped, item_number, Item, Reply, unsettled, by_newcomer, by_number, by_party, started, Move}
-use Rattle.deadpool_unmanaged_replay.specs.declared.moves.Reply.TheVariants as reply
-use Rattle.deadpool_unmanaged_replay.specs.declared.moves.Move.TheVariants as move
-use Rattle.deadpool_unmanaged_replay.proofs.Copies.{one}
-use Rattle.deadpool_unmanaged_replay.proofs.Lined.{push_quiet}
-use Rattle.deadpool_unmanaged_replay.proofs.Passes.{Passes, none_drawn, same_passes, cancelled_passes, hand_out_passes, poll_passes}
+use Rattle.deadpool_unmanaged_replay.proofs.{Copies.one, Lined.push_quiet, Passes.Passes, Passes.none_drawn, Passes.same_passes, Passes.cancelled_passes, Passes.hand_out_passes, Passes.poll_passes}
 
 -- one is left, if it is not none
 some_left : (n : ℕ) → eqb n 0 ≡ false → 0 < n
@@ -49,17 +45,17 @@ module _ {V : Type 0} where
 
     -- a step of one who needs a handle, of a new party, or of an object that is handed in
     by_handle_passes : (leaving : List (Item V)) (x : Reply V × Pool V) → ((p.handles == 0) ≡ false → Passes None leaving p x.1)
-        → Passes None leaving p (if p.handles == 0 then (reply.NoHandle, p) else x).1
+        → Passes None leaving p (if p.handles == 0 then (Reply.NoHandle, p) else x).1
     unfolding P
-    by_handle_passes leaving x step = cond_both (p.handles == 0) (reply.NoHandle, p) x (P leaving) (λ _. same_passes None leaving p well) step
+    by_handle_passes leaving x step = cond_both (p.handles == 0) (Reply.NoHandle, p) x (P leaving) (λ _. same_passes None leaving p well) step
 
-    by_newcomer_passes : (x : Reply V × Pool V) → Passes None [] p x.1 → Passes None [] p (if nat_lt (length p.parties) p.most_parties then x else (reply.NoRoom, p)).1
+    by_newcomer_passes : (x : Reply V × Pool V) → Passes None [] p x.1 → Passes None [] p (if nat_lt (length p.parties) p.most_parties then x else (Reply.NoRoom, p)).1
     unfolding P
-    by_newcomer_passes x step = cond_both (nat_lt (length p.parties) p.most_parties) x (reply.NoRoom, p) (P []) (λ _. step) (λ _. same_passes None [] p well)
+    by_newcomer_passes x step = cond_both (nat_lt (length p.parties) p.most_parties) x (Reply.NoRoom, p) (P []) (λ _. step) (λ _. same_passes None [] p well)
 
-    by_number_passes : (v : V) (x : Reply V × Pool V) → Passes None [] p x.1 → Passes None [] p (if p.next == largest_usize then (reply.Exhausted v, p) else x).1
+    by_number_passes : (v : V) (x : Reply V × Pool V) → Passes None [] p x.1 → Passes None [] p (if p.next == largest_usize then (Reply.Exhausted v, p) else x).1
     unfolding P
-    by_number_passes v x step = cond_both (p.next == largest_usize) (reply.Exhausted v, p) x (P []) (λ _. same_passes None [] p well) (λ _. step)
+    by_number_passes v x step = cond_both (p.next == largest_usize) (Reply.Exhausted v, p) x (P []) (λ _. same_passes None [] p well) (λ _. step)
 
     get_started_passes : (wait : Option Duration) → Passes None [] p (started (new_get wait) p).1
     get_started_passes wait = record {
@@ -233,18 +229,18 @@ module _ {V : Type 0} where
 
     pub unsettled_passes : (found : Bool) (m : Move V) → Passes (named m) (may_leave m p) p (unsettled found m p).1
     unfolding P
-    unsettled_passes found (move.Get wait) = by_handle_passes [] (by_newcomer (started (new_get wait)) p) (λ _. by_newcomer_passes (started (new_get wait) p) (get_started_passes wait))
-    unsettled_passes found (move.Add v) =
+    unsettled_passes found (Move.Get wait) = by_handle_passes [] (by_newcomer (started (new_get wait)) p) (λ _. by_newcomer_passes (started (new_get wait) p) (get_started_passes wait))
+    unsettled_passes found (Move.Add v) =
         let start : Item V → Pool V → Reply V × Pool V = λ item. started (new_add item) in
         by_handle_passes [] (by_newcomer (by_number start v) p) (λ _. by_newcomer_passes (by_number start v p) (by_number_passes v (start (drawn v) numbered) (add_started_passes v)))
-    unsettled_passes found (move.Poll n now) = by_party_passes n (slice_get p.parties n) (poll found n now) (λ party here. poll_passes found n now p well party here)
-    unsettled_passes found move.TryGet = by_handle_passes [] (try_get p) (λ _. try_get_passes)
-    unsettled_passes found (move.TryAdd v) = by_handle_passes [] (by_number try_store v p) (λ _. by_number_passes v (try_store (drawn v) numbered) (try_store_passes v))
-    unsettled_passes found (move.Cancel n) = by_party_passes n (slice_get p.parties n) (λ party q. (reply.Cancelled, cancelled n q)) (λ party here. cancelled_passes n party p well here)
-    unsettled_passes found (move.Back n) = back_passes (find_item n p.out) n refl
-    unsettled_passes found (move.Take n) = take_passes (find_item n p.out) n refl
-    unsettled_passes found move.Close = by_handle_passes p.idle (reply.Done, closed p) (λ _. closed_passes)
-    unsettled_passes found move.Status = by_handle_passes [] (reply.Stands (status_of p), p) (λ _. same_passes None [] p well)
-    unsettled_passes found move.Clone = by_handle_passes [] (reply.Done, cloned p) (λ some. cloned_passes some)
-    unsettled_passes found move.DropHandle = by_handle_passes taken_by_last (reply.Done, handle_dropped p) (λ some. dropped_passes some)
-    unsettled_passes found move.Upgrade = cond_both (p.handles == 0) (reply.Upgraded false, p) (reply.Upgraded true, cloned p) (P []) (λ _. same_passes None [] p well) (λ some. cloned_passes some)
+    unsettled_passes found (Move.Poll n now) = by_party_passes n (slice_get p.parties n) (poll found n now) (λ party here. poll_passes found n now p well party here)
+    unsettled_passes found Move.TryGet = by_handle_passes [] (try_get p) (λ _. try_get_passes)
+    unsettled_passes found (Move.TryAdd v) = by_handle_passes [] (by_number try_store v p) (λ _. by_number_passes v (try_store (drawn v) numbered) (try_store_passes v))
+    unsettled_passes found (Move.Cancel n) = by_party_passes n (slice_get p.parties n) (λ party q. (Reply.Cancelled, cancelled n q)) (λ party here. cancelled_passes n party p well here)
+    unsettled_passes found (Move.Back n) = back_passes (find_item n p.out) n refl
+    unsettled_passes found (Move.Take n) = take_passes (find_item n p.out) n refl
+    unsettled_passes found Move.Close = by_handle_passes p.idle (Reply.Done, closed p) (λ _. closed_passes)
+    unsettled_passes found Move.Status = by_handle_passes [] (Reply.Stands (status_of p), p) (λ _. same_passes None [] p well)
+    unsettled_passes found Move.Clone = by_handle_passes [] (Reply.Done, cloned p) (λ some. cloned_passes some)
+    unsettled_passes found Move.DropHandle = by_handle_passes taken_by_last (Reply.Done, handle_dropped p) (λ some. dropped_passes some)
+    unsettled_passes found Move.Upgrade = cond_both (p.handles == 0) (Reply.Upgraded false, p) (Reply.Upgraded true, cloned p) (P []) (λ _. same_passes None [] p well) (λ some. cloned_passes some)

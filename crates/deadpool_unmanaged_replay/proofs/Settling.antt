@@ -1,7 +1,6 @@
 -- A core settles as its pool does, and a pool in which nobody waits stays as it is.
 use Rattle.deadpool_unmanaged_replay.proofs.Basics.{◌≡◌, ℕ, ◌<◌, List, [], Bool, true, cond, length, map, take, min, refl, arith, inl, inr, Option, append-nil, cases_Bool, cases_lt, take-map, drop-map, map-append, length-map, Runtime, owner, Queue, renamed, served, owned-granting}
-use Rattle.deadpool_unmanaged_replay.proofs.Words.{image, has_get, has_add, IsCounted, NobodyWaits, Pool, settle, free_objects, free_room, State, settled, Item, Visitor}
-use Rattle.deadpool_unmanaged.specs.State.{free_objects as objects_left, free_room as room_left}
+use Rattle.deadpool_unmanaged_replay.proofs.Words.{image, has_get, has_add, IsCounted, NobodyWaits, Pool, settle, free_objects, free_room, State, settled, Item, Visitor, objects_left, room_left}
 
 -- the same are granted under other names
 pub renamed-served : (f : ℕ → ℕ) (is_open : Bool) (free : ℕ) (q : Queue) → renamed f (served is_open free q) ≡ served is_open free (renamed f q)

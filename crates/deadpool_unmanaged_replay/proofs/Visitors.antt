@@ -1,8 +1,6 @@
 -- What the change of one visitor makes of the pool.
 use Rattle.deadpool_unmanaged_replay.proofs.Basics.{◌≡◌, ℕ, List, false, set, map, refl, sym, ap, ◌∙◌, arith, Option, Some, slice_get, map-set, length-map, slice_get-map, Runtime, owner, renamed, is_listed, joined, NoTicket, OneTicket, owned-set, renamed-set, absent, owned-leaves, renamed-leaves, owned-joins, renamed-joins}
-use Rattle.deadpool_unmanaged_replay.proofs.Words.{image, party_of, has_get, has_add, IsCounted, NobodyWaits, Pool, free_objects, free_room, State, last_idle, without_get, without_add, with_get, with_add, handed, stored, left, hand_out, store, with_item, Item, Visitor}
-use Rattle.deadpool_unmanaged.specs.State.{free_objects as objects_left, free_room as room_left}
-use Rattle.deadpool_unmanaged_replay.specs.declared.moves.Reply.TheVariants as reply
+use Rattle.deadpool_unmanaged_replay.proofs.Words.{image, party_of, has_get, has_add, IsCounted, NobodyWaits, Pool, free_objects, free_room, State, last_idle, without_get, without_add, with_get, with_add, handed, stored, left, hand_out, store, with_item, Item, Visitor, objects_left, room_left, Reply}
 use Rattle.deadpool_unmanaged_replay.proofs.Lawful.{length-with_item}
 
 module _ {V : Type 0} (runtime : Option Runtime) (most next : ℕ) where
@@ -18,11 +16,11 @@ module _ {V : Type 0} (runtime : Option Runtime) (most next : ℕ) where
 
   -- an object goes out, or comes in
   pub hands_out : (d : State (Item V)) (visitors : List (Option (Visitor V))) (out : List (Item V)) (item : Item V) (q : Pool V) → image runtime most next d visitors out ≡ q → last_idle d.idle ≡ Some item
-      → hand_out q ≡ (reply.Object item.number, image runtime most next (handed d) visitors (with_item item out))
+      → hand_out q ≡ (Reply.Object item.number, image runtime most next (handed d) visitors (with_item item out))
   hands_out d visitors out item q same is = ap hand_out (sym same) ∙ (rw is refl)
 
   pub stores : (d : State (Item V)) (visitors : List (Option (Visitor V))) (out : List (Item V)) (item : Item V) (q : Pool V) → image runtime most next d visitors out ≡ q
-      → store item q ≡ (reply.Added item.number, image runtime most next (stored item d) visitors out)
+      → store item q ≡ (Reply.Added item.number, image runtime most next (stored item d) visitors out)
   stores d visitors out item q same = ap (store item) (sym same)
 
   pub counted-handed : (d : State (Item V)) (visitors : List (Option (Visitor V))) (out : List (Item V)) (item : Item V) → IsCounted d visitors out → IsCounted (handed d) visitors (with_item item out)

@@ -1,10 +1,7 @@
 -- Each move leads from a pool that is well to one, so the laws hold of every run.
 use Rattle.deadpool_unmanaged_replay.proofs.Basics.{◌≡◌, ℕ, ◌+◌, ◌-◌, ◌<◌, ◌≤◌, List, [], ◌∷◌, Bool, true, false, length, refl, sym, ap, ◌∙◌, subst, arith, inl, inr, Option, Some, None, slice_get, cases_Bool, eqb_tells, has_number, all_states, Neighbours, Later, Queue, members, served, IsOnce-append}
 use Rattle.deadpool_unmanaged_replay.proofs.Words.{unsettled, moved, Pool, Party, new_get, queued_get, new_add, queued_add, finished, IsWell, OpensWell, IsNumbered, CountsOn, IsLined, HasRoomForAll, IsListedOnce, Succeeds, EachState, EachStep, EachLater, EachMove, EndsWell, NoneReturns, copies, asks_for_object, asks_for_room, named, OthersStayInPool, OthersStayQueued, OthersStand, Move, Reply, served_within, members-served}
-use Rattle.deadpool_unmanaged_replay.proofs.Lawful.{opened_lawful, moved_lawful}
-use Rattle.deadpool_unmanaged_replay.proofs.Lined.{moves_lined, moves_stay}
-use Rattle.deadpool_unmanaged_replay.proofs.PassesMoves.{unsettled_passes}
-use Rattle.deadpool_unmanaged_replay.proofs.Runs.{runs_have, Each-more}
+use Rattle.deadpool_unmanaged_replay.proofs.{Lawful.opened_lawful, Lawful.moved_lawful, Lined.moves_lined, Lined.moves_stay, PassesMoves.unsettled_passes, Runs.runs_have, Runs.Each-more}
 
 module _ {V : Type 0} where
   -- who asks for an object does not ask for room

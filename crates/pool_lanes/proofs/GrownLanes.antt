@@ -1,13 +1,5 @@
 -- Lanes that get one column more.
-use Rattle.std.proofs.Common.{◌≡◌, ◌≢◌, ℕ, ◌+◌, ◌-◌, ◌<◌, ◌≤◌, List, [], ◌∷◌, ◌++◌, length, refl, sym, ◌∙◌, ap, subst, arith, zero, suc, inl, inr, get_or, set, get_or-set_same, get_or-set_other, length-append, append_assoc, append-nil, Option, Some, None}
-use Rattle.std.specs.Prelude.{slice_get}
-use Rattle.std.specs.List.{filter_map}
-use Rattle.std.proofs.lemmas.Bool.{cases_lt}
-use Rattle.std.proofs.lemmas.List.{get_or_past}
-use Rattle.std.proofs.lemmas.Option.{get_or_from_slice_get, slice_get_past}
-use Rattle.pool_lanes.specs.Marks.{columns, first_column, next_column}
-use Rattle.pool_lanes.specs.Frames.{Rows, lane_at, shown_at, Draws, EndAt, Extends, AllExtend, AllBegin}
-use Rattle.pool_lanes.specs.declared.mark.Mark.{Mark}
+use Rattle.pool_lanes.proofs.Words.{◌≡◌, ◌≢◌, ℕ, ◌+◌, ◌-◌, ◌<◌, ◌≤◌, List, [], ◌∷◌, ◌++◌, length, refl, sym, ◌∙◌, ap, subst, arith, zero, suc, inl, inr, get_or, set, get_or-set_same, get_or-set_other, length-append, Option, Some, None, slice_get, cases_lt, get_or_past, get_or_from_slice_get, slice_get_past, columns, first_column, next_column, lane_at, shown_at, Draws, EndAt, Extends, AllExtend, AllBegin, Mark}
 
 -- what stands at a position that is there
 got : {X : Type 0} (xs : List X) (k : ℕ) → k < length xs → (x : X) × (slice_get xs k ≡ Some x)

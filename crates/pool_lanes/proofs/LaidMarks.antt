@@ -1,13 +1,5 @@
 -- Marks that are laid one behind the other.
-use Rattle.std.proofs.Common.{◌≡◌, ℕ, ◌+◌, ◌-◌, ◌<◌, ◌≤◌, Bool, true, false, List, [], ◌∷◌, ◌++◌, length, refl, sym, ◌∙◌, ap, subst, append_assoc, arith, replicate}
-use Rattle.std.specs.Prelude.{nat_le, nat_lt, ◌&&◌, filter, slice_get, Some}
-use Rattle.std.proofs.lemmas.Grind.{replicate_next, common_steps}
-use Rattle.std.proofs.lemmas.Bool.{cases_lt, le-leb, lt-leb}
-use Rattle.std.proofs.lemmas.List.{get_or_append_left, get_or-replicate, length-replicate}
-use Rattle.std.proofs.lemmas.Option.{slice_get_read}
-use Rattle.std.proofs.Common.{zero, suc, inl, inr, length-append, zero-add, suc-add, append-nil, lt-ltb, le-ltb}
-use Rattle.pool_lanes.specs.Marks.{cells, columns, first_column, column_behind, next_column, AreLaid, AreBehind, AreApart, has_column, IsShownAt}
-use Rattle.pool_lanes.specs.declared.mark.Mark.{Mark}
+use Rattle.pool_lanes.proofs.Words.{◌≡◌, ℕ, ◌+◌, ◌-◌, ◌<◌, ◌≤◌, true, false, List, [], ◌∷◌, ◌++◌, length, refl, sym, ◌∙◌, ap, subst, append_assoc, arith, replicate, nat_le, nat_lt, filter, slice_get, Some, replicate_next, cases_lt, le-leb, lt-leb, get_or_append_left, get_or-replicate, length-replicate, slice_get_read, zero, suc, inl, inr, length-append, zero-add, suc-add, append-nil, lt-ltb, le-ltb, cells, columns, first_column, column_behind, next_column, AreLaid, AreBehind, AreApart, has_column, IsShownAt, Mark}
 
 get_replicated : {X : Type 0} (n : ℕ) (x : X) (ys : List X) (i : ℕ) → i < n → slice_get (replicate n x ++ ys) i ≡ Some x
 get_replicated n x ys i h =

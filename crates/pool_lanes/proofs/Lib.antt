@@ -1,2 +1,3 @@
 pub mod LaidMarks
 pub mod GrownLanes
+pub mod Words

@@ -1,5 +1,5 @@
 -- Lanes, one above the other, and the frames that they draw: a frame is what all lanes show in one column.
-use Rattle.std.specs.Prelude.{◌≡◌, ℕ, ◌+◌, ◌<◌, ◌≤◌, List, [], ◌∷◌, ◌++◌, length, slice_get, slice_index_or, Option, Some}
+use Rattle.std.specs.Prelude.{◌≡◌, ℕ, ◌+◌, ◌<◌, ◌≤◌, List, [], ◌∷◌, ◌++◌, length, slice_get, slice_index_or, Some}
 use Rattle.std.specs.List.{filter_map}
 use Rattle.pool_lanes.specs.Marks.{columns, first_column, next_column}
 use Rattle.pool_lanes.specs.declared.mark.Mark.{Mark}

@@ -1,5 +1,5 @@
 -- A lane as the list of its marks, and what it shows in each column.
-use Rattle.std.specs.Prelude.{◌≡◌, ℕ, ◌+◌, ◌-◌, ◌<◌, ◌≤◌, ⊤, Bool, ◌&&◌, nat_le, nat_lt, List, [], ◌∷◌, ◌++◌, replicate, filter, slice_get, Option, Some}
+use Rattle.std.specs.Prelude.{◌≡◌, ℕ, ◌-◌, ◌<◌, ◌≤◌, ⊤, Bool, ◌&&◌, nat_le, nat_lt, List, [], ◌∷◌, ◌++◌, replicate, filter, slice_get, Some}
 use Rattle.pool_lanes.specs.declared.mark.Mark.{Mark}
 
 module _ {T : Type 0} where

@@ -1,8 +1,5 @@
 -- The pool is resized as it was before its keys were read, and so many were written as it gives up.
-use Rattle.std.proofs.Common.{◌≡◌, ◌∙◌, ap, subst, take}
-use Rattle.deadpool_desk.specs.DeskSteps.{surplus}
-use Rattle.deadpool_c.specs.Keys.{written_count, idle_keys, surplus_keys}
-use Rattle.deadpool_c.specs.ManagedReplies.{ResizesRaw}
+use Rattle.deadpool_c.proofs.Words.{◌≡◌, ◌∙◌, ap, subst, take, surplus, written_count, idle_keys, surplus_keys, ResizesRaw}
 use Rattle.deadpool_c.proofs.managed_owner.deadpool_managed_resize.Goals as goal
 
 pub returns-clause-step : goal.returns-clause-step

@@ -1,7 +1,5 @@
 -- As many keys as there is room for are all that can be written.
-use Rattle.std.proofs.Common.{◌∙◌}
-use Rattle.deadpool_c.specs.Keys.{idle_keys}
-use Rattle.deadpool_c.proofs.Writing.{count_all, writes_all}
+use Rattle.deadpool_c.proofs.{Words.◌∙◌, Words.idle_keys, Writing.count_all, Writing.writes_all}
 use Rattle.deadpool_c.proofs.managed_owner.write_all_keys.Goals as goal
 
 pub returns-clause-written : goal.returns-clause-written

@@ -1,7 +1,5 @@
 -- One key more is written, and the pool is as it was.
-use Rattle.std.proofs.Common.{◌≡◌, ◌∙◌, sym, ap, ◌<◌, length, slice_get, Some, arith, length-set}
-use Rattle.std.proofs.lemmas.Option.{slice_get_within}
-use Rattle.deadpool_c.specs.Keys.{idle_keys}
+use Rattle.deadpool_c.proofs.Words.{◌≡◌, ◌∙◌, sym, ap, ◌<◌, length, slice_get, Some, arith, length-set, slice_get_within, idle_keys}
 use Rattle.deadpool_c.proofs.Writing.{front_more, rest_more}
 use Rattle.deadpool_c.proofs.managed_owner.write_keys.Goals as goal
 

@@ -1,6 +1,4 @@
-use Rattle.std.proofs.Common.{◌≡◌, ◌≤◌, length, take, drop}
-use denote.RawPtr.{InBlock}
-use Rattle.deadpool_c.specs.Keys.{idle_keys}
+use Rattle.deadpool_c.proofs.{Words.◌≡◌, Words.◌≤◌, Words.length, Words.take, Words.drop, Words.idle_keys, Steps.InBlock}
 use Rattle.deadpool_c.proofs.managed_owner.write_keys.Given as goal
 
 -- the keys so far stand at the front, and the pool is as it was

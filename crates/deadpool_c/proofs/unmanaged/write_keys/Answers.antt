@@ -1,6 +1,5 @@
 -- One key more is written, and the pool is as it was.
-use Rattle.std.proofs.Common.{◌≡◌, ◌∙◌, sym, ap, ◌<◌, length, slice_get, Some, arith, length-set}
-use Rattle.std.proofs.lemmas.Option.{slice_get_within}
+use Rattle.deadpool_c.proofs.Words.{◌≡◌, ◌∙◌, sym, ap, ◌<◌, length, slice_get, Some, arith, length-set, slice_get_within}
 use Rattle.deadpool_c.proofs.Writing.{front_more, rest_more}
 use Rattle.deadpool_c.proofs.unmanaged.write_keys.Goals as goal
 

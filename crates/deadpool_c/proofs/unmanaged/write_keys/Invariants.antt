@@ -1,5 +1,4 @@
-use Rattle.std.proofs.Common.{◌≡◌, ◌≤◌, length, take, drop}
-use denote.RawPtr.{InBlock}
+use Rattle.deadpool_c.proofs.{Words.◌≡◌, Words.◌≤◌, Words.length, Words.take, Words.drop, Steps.InBlock}
 use Rattle.deadpool_c.proofs.unmanaged.write_keys.Given as goal
 
 -- the keys so far stand at the front, and the pool is as it was

@@ -1,5 +1,4 @@
-use Rattle.deadpool_unmanaged_replay.proofs.Words.{IsEmptyIfClosed}
-use Rattle.deadpool_unmanaged_replay.proofs.Well.{each_state}
+use Rattle.deadpool_unmanaged_replay.proofs.{Words.IsEmptyIfClosed, Well.each_state}
 use Rattle.deadpool_unmanaged_replay.proofs.laws.closed_is_empty.Goals as goal
 
 pub returns : goal.returns

@@ -1,5 +1,4 @@
-use Rattle.deadpool_unmanaged_replay.proofs.Words.{KeepsPromises}
-use Rattle.deadpool_unmanaged_replay.proofs.Well.{each_state}
+use Rattle.deadpool_unmanaged_replay.proofs.{Words.KeepsPromises, Well.each_state}
 use Rattle.deadpool_unmanaged_replay.proofs.laws.granted_objects_are_idle.Goals as goal
 
 pub returns : goal.returns

@@ -1,5 +1,4 @@
-use Rattle.deadpool_unmanaged_replay.proofs.Words.{HasRoomForAll}
-use Rattle.deadpool_unmanaged_replay.proofs.Well.{each_state, room_for_all}
+use Rattle.deadpool_unmanaged_replay.proofs.{Words.HasRoomForAll, Well.each_state, Well.room_for_all}
 use Rattle.deadpool_unmanaged_replay.proofs.laws.granted_room_within_limit.Goals as goal
 
 pub returns : goal.returns

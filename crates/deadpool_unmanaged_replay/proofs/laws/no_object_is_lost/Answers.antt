@@ -1,5 +1,4 @@
-use Rattle.deadpool_unmanaged_replay.proofs.Words.{OthersStayInPool}
-use Rattle.deadpool_unmanaged_replay.proofs.Well.{each_move, moved_objects}
+use Rattle.deadpool_unmanaged_replay.proofs.{Words.OthersStayInPool, Well.each_move, Well.moved_objects}
 use Rattle.deadpool_unmanaged_replay.proofs.laws.no_object_is_lost.Goals as goal
 
 pub returns : goal.returns

@@ -1,5 +1,4 @@
-use Rattle.deadpool_unmanaged_replay.proofs.Words.{CountsOn}
-use Rattle.deadpool_unmanaged_replay.proofs.Well.{each_step, none_returns}
+use Rattle.deadpool_unmanaged_replay.proofs.{Words.CountsOn, Well.each_step, Well.none_returns}
 use Rattle.deadpool_unmanaged_replay.proofs.laws.numbers_are_drawn_in_turn.Goals as goal
 
 pub returns-clause-next : goal.returns-clause-next

@@ -1,5 +1,4 @@
-use Rattle.deadpool_unmanaged_replay.proofs.Words.{IsNumbered}
-use Rattle.deadpool_unmanaged_replay.proofs.Well.{each_state}
+use Rattle.deadpool_unmanaged_replay.proofs.{Words.IsNumbered, Well.each_state}
 use Rattle.deadpool_unmanaged_replay.proofs.laws.numbers_stand_once.Goals as goal
 
 pub returns : goal.returns

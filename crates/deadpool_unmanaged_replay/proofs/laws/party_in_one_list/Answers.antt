@@ -1,5 +1,4 @@
-use Rattle.deadpool_unmanaged_replay.proofs.Words.{IsListedOnce}
-use Rattle.deadpool_unmanaged_replay.proofs.Well.{each_state, listed_once}
+use Rattle.deadpool_unmanaged_replay.proofs.{Words.IsListedOnce, Well.each_state, Well.listed_once}
 use Rattle.deadpool_unmanaged_replay.proofs.laws.party_in_one_list.Goals as goal
 
 pub returns : goal.returns

@@ -1,5 +1,4 @@
-use Rattle.deadpool_unmanaged_replay.proofs.Words.{HasTheQueued}
-use Rattle.deadpool_unmanaged_replay.proofs.Well.{each_state}
+use Rattle.deadpool_unmanaged_replay.proofs.{Words.HasTheQueued, Well.each_state}
 use Rattle.deadpool_unmanaged_replay.proofs.laws.queues_have_the_queued.Goals as goal
 
 pub returns : goal.returns

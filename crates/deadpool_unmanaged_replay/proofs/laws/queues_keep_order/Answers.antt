@@ -1,5 +1,4 @@
-use Rattle.deadpool_unmanaged_replay.proofs.Words.{KeepsQueues}
-use Rattle.deadpool_unmanaged_replay.proofs.Well.{each_step}
+use Rattle.deadpool_unmanaged_replay.proofs.{Words.KeepsQueues, Well.each_step}
 use Rattle.deadpool_unmanaged_replay.proofs.laws.queues_keep_order.Goals as goal
 
 pub returns : goal.returns

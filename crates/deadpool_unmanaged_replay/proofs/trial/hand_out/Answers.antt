@@ -1,6 +1,4 @@
-use Rattle.deadpool_unmanaged_replay.proofs.Basics.{◌≡◌, ◌≤◌, length, vec_len, vec_capacity, arith, rules}
-use Rattle.deadpool_unmanaged_replay.proofs.Words.{with_item}
-use Rattle.deadpool_unmanaged_replay.proofs.Lawful.{length-with_item}
+use Rattle.deadpool_unmanaged_replay.proofs.{Basics.◌≡◌, Basics.◌≤◌, Basics.length, Basics.vec_len, Basics.vec_capacity, Basics.arith, Basics.rules, Words.with_item, Lawful.length-with_item}
 use Rattle.deadpool_unmanaged_replay.proofs.trial.hand_out.Goals as goal
 
 pub put_in-requires : goal.put_in-requires

@@ -1,8 +1,5 @@
-use Rattle.std.proofs.Common.{rules, arith, ◌≡◌, ℕ, ◌<◌, ◌≤◌, ◌+◌, ◌∙◌, [], sym, subst, length, length-set}
-use Rattle.std.proofs.lemmas.List.{get_or_default}
+use Rattle.pool_lanes.proofs.Words.{rules, arith, ◌≡◌, ◌∙◌, [], sym, subst, length-set, get_or_default, lane_at, Extends}
 use Rattle.pool_lanes.proofs.GrownLanes.{rest_more, done_more}
-use Rattle.pool_lanes.specs.Frames.{AllExtend, lane_at, Extends}
-use Rattle.pool_lanes.specs.Marks.{next_column, columns, first_column}
 use Rattle.pool_lanes.proofs.lanes.extend_all.Goals as goal
 
 pub loop-at-preserved : goal.loop-at-preserved

@@ -1,6 +1,4 @@
-use Rattle.std.proofs.Common.{◌≡◌, ℕ, ◌<◌, ◌≤◌, length, Some}
-use Rattle.std.specs.Prelude.{slice_get}
-use Rattle.pool_lanes.specs.Frames.{Extends, lane_at}
+use Rattle.pool_lanes.proofs.Words.{◌≡◌, ℕ, ◌<◌, ◌≤◌, length, Some, slice_get, Extends, lane_at}
 use Rattle.pool_lanes.proofs.lanes.extend_all.Given as goal
 
 abbrev pub invariant-loop-at : goal.invariant-loop-at

@@ -1,8 +1,4 @@
-use Rattle.deadpool_journal.specs.ByNumber.{numbered_ask}
-use Rattle.deadpool_journal.specs.JournaledFields.{journaling_of}
-use Rattle.deadpool_journal.specs.declared.entry.Entry.TheVariants as entry
-use Rattle.deadpool_journal.proofs.ByNumber.{ask_numbered}
-use Rattle.deadpool_journal.proofs.Kept.{step_kept}
+use Rattle.deadpool_journal.proofs.{Words.numbered_ask, Words.journaling_of, Words.Entry, ByNumber.ask_numbered, Kept.step_kept}
 use Rattle.deadpool_journal.proofs.journaled.JournaledDesk.ask_in.Goals as goal
 
 pub invariant_of-self : goal.invariant_of-self
@@ -12,4 +8,4 @@ invariant_of-self g c =
     let asked = c.ask_in-reply.ensures.asked in
     let made = ask_numbered core.desk left.desk c.args.ticket c.args.expired asked.0 asked.1.0.0 in
     let noted = c.add_ask.ensures asked.0 c.args.place.now asked.1.1 in
-    rw noted (step_kept (journaling_of c.self.inside) left (entry.Ask c.args.ticket c.args.expired (numbered_ask asked.0)) c.self.invariant made)
+    rw noted (step_kept (journaling_of c.self.inside) left (Entry.Ask c.args.ticket c.args.expired (numbered_ask asked.0)) c.self.invariant made)

@@ -1,10 +1,4 @@
-use Rattle.std.proofs.Common.{refl, sym, ◌∙◌}
-use Rattle.std.specs.Prelude.{Ok, Err}
-use Rattle.deadpool_desk.proofs.Reviewing.{retains_forget}
-use Rattle.deadpool_journal.specs.JournaledFields.{journaling_of}
-use Rattle.deadpool_journal.specs.declared.entry.Entry.TheVariants as entry
-use Rattle.deadpool_journal.proofs.Kept.{step_kept}
-use Rattle.deadpool_journal.proofs.Retains.{retain_numbered, refused_retain_numbered, unnoted_retain, unnoted_kept}
+use Rattle.deadpool_journal.proofs.{Words.refl, Words.sym, Words.◌∙◌, Words.Ok, Words.Err, Words.retains_forget, Words.journaling_of, Words.Entry, Kept.step_kept, Retains.retain_numbered, Retains.refused_retain_numbered, Retains.unnoted_retain, Retains.unnoted_kept}
 use Rattle.deadpool_journal.proofs.journaled.JournaledOwnerDesk.retain.Goals as goal
 
 pub invariant_of-self-in-Ok : goal.invariant_of-self-in-Ok
@@ -12,14 +6,14 @@ invariant_of-self-in-Ok g c =
     let core = c.self.inside.core in
     let left = c.retain_noting.new.self in
     let made = retain_numbered g.R.Retainer core.desk left.desk c.args.retainer.now c.retain_noting.new.retainer (c.in-Ok.result, c.in-Ok.noted) c.in-Ok.ensures.retained.0 in
-    rw c.add.ensures (step_kept (journaling_of c.self.inside) left (entry.Retain (Ok c.in-Ok.noted)) c.self.invariant made)
+    rw c.add.ensures (step_kept (journaling_of c.self.inside) left (Entry.Retain (Ok c.in-Ok.noted)) c.self.invariant made)
 
 pub invariant_of-self-in-Err : goal.invariant_of-self-in-Err
 invariant_of-self-in-Err g c =
     let core = c.self.inside.core in
     let left = c.retain_noting.new.self in
     let made = refused_retain_numbered g.R.Retainer core.desk left.desk c.args.retainer.now c.retain_noting.new.retainer c.in-Err.e c.in-Err.ensures.retained.0 in
-    rw c.add-in-Err.ensures (step_kept (journaling_of c.self.inside) left (entry.Retain (Err c.in-Err.e)) c.self.invariant made)
+    rw c.add-in-Err.ensures (step_kept (journaling_of c.self.inside) left (Entry.Retain (Err c.in-Err.e)) c.self.invariant made)
 
 pub returns-in-Ok-clause-retained : goal.returns-in-Ok-clause-retained
 returns-in-Ok-clause-retained g c =

@@ -1,7 +1,5 @@
 use Rattle.deadpool_unmanaged_replay.proofs.Basics.{◌≡◌, ◌∙◌, Some, None, length, vec_len, arith, rules, map, refl, ap, sym, slice_get, option_map, length-map, slice_get_read, slice_get_past, slice_get-map, set-same}
-use Rattle.deadpool_unmanaged_replay.proofs.Words.{party_of}
-use Rattle.deadpool_unmanaged_replay.specs.declared.moves.Move.TheVariants as move
-use Rattle.deadpool_unmanaged_replay.specs.declared.moves.Reply.TheVariants as reply
+use Rattle.deadpool_unmanaged_replay.proofs.Words.{party_of, Move, Reply}
 use Rattle.deadpool_unmanaged_replay.proofs.Parties.{stays, cancels}
 use Rattle.deadpool_unmanaged_replay.proofs.trial.Trial.cancel.Goals as goal
 
@@ -12,7 +10,7 @@ returns-then-party-len g c =
     let same = length-map f.visitors.items party_of in
     let past : slice_get (map party_of f.visitors.items) c.args.party ≡ None =
     slice_get_past (map party_of f.visitors.items) c.args.party (omega (arith, len, same, c.len.ensures, c.if-party-len.true)) in
-    let all = stays f.runtime f.most_parties f.next f.core.pool f.visitors.items f.out.items c.self.invariant.counted c.self.invariant.well (move.Cancel c.args.party) reply.NoSuch (rw past) in
+    let all = stays f.runtime f.most_parties f.next f.core.pool f.visitors.items f.out.items c.self.invariant.counted c.self.invariant.well (Move.Cancel c.args.party) Reply.NoSuch (rw past) in
     rw (← c.self.view_is) all.gives
 
 pub invariant_of-self : goal.invariant_of-self
@@ -32,7 +30,7 @@ returns-in-None g c =
     slice_get_read f.visitors.items (length f.visitors.items) c.args.party c.index_mut.result.now refl (omega (arith, len, c.len.ensures, c.if-party-len.false)) c.index_mut.ensures.value in
     let gone : slice_get f.visitors.items c.args.party ≡ Some None = here ∙ ap Some (sym c.take.ensures.value ∙ c.in-None.is) in
     let none : slice_get (map party_of f.visitors.items) c.args.party ≡ Some None = slice_get-map party_of f.visitors.items c.args.party ∙ ap (option_map party_of) gone in
-    let all = stays f.runtime f.most_parties f.next f.core.pool f.visitors.items f.out.items c.self.invariant.counted c.self.invariant.well (move.Cancel c.args.party) reply.NoSuch (rw none) in
+    let all = stays f.runtime f.most_parties f.next f.core.pool f.visitors.items f.out.items c.self.invariant.counted c.self.invariant.well (Move.Cancel c.args.party) Reply.NoSuch (rw none) in
     rw (← c.self.view_is, c.take.ensures.after, set-same f.visitors.items c.args.party None gone) all.gives
 
 pub invariant_of-self-in-Some : goal.invariant_of-self-in-Some

@@ -1,5 +1,4 @@
-use Rattle.deadpool_unmanaged_replay.proofs.Basics.{arith}
-use Rattle.deadpool_unmanaged_replay.proofs.OtherMoves.{clones}
+use Rattle.deadpool_unmanaged_replay.proofs.{Basics.arith, OtherMoves.clones}
 use Rattle.deadpool_unmanaged_replay.proofs.trial.Trial.clone_handle.Goals as goal
 
 pub invariant_of-self : goal.invariant_of-self

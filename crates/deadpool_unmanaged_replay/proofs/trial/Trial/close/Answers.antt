@@ -1,15 +1,11 @@
-use Rattle.deadpool_unmanaged_replay.proofs.Basics.{arith}
-use Rattle.deadpool_unmanaged_replay.specs.declared.moves.Move.TheVariants as move
-use Rattle.deadpool_unmanaged_replay.specs.declared.moves.Reply.TheVariants as reply
-use Rattle.deadpool_unmanaged_replay.proofs.OtherMoves.{closes}
-use Rattle.deadpool_unmanaged_replay.proofs.Parties.{no_handle, some_handle, stays}
+use Rattle.deadpool_unmanaged_replay.proofs.{Basics.arith, Words.Move, Words.Reply, OtherMoves.closes, Parties.no_handle, Parties.some_handle, Parties.stays}
 use Rattle.deadpool_unmanaged_replay.proofs.trial.Trial.close.Goals as goal
 
 pub returns-then-not-has_handle : goal.returns-then-not-has_handle
 returns-then-not-has_handle g c =
     let f = c.self.inside in
     let none = no_handle c.has_handle.result f.core.pool.handles c.has_handle.ensures c.if-not-has_handle.true in
-    let all = stays f.runtime f.most_parties f.next f.core.pool f.visitors.items f.out.items c.self.invariant.counted c.self.invariant.well move.Close reply.NoHandle (rw none) in
+    let all = stays f.runtime f.most_parties f.next f.core.pool f.visitors.items f.out.items c.self.invariant.counted c.self.invariant.well Move.Close Reply.NoHandle (rw none) in
     rw (← c.self.view_is) all.gives
 
 pub invariant_of-self : goal.invariant_of-self

@@ -1,5 +1,4 @@
-use Rattle.deadpool_unmanaged_replay.proofs.Basics.{arith}
-use Rattle.deadpool_unmanaged_replay.proofs.OtherMoves.{drops}
+use Rattle.deadpool_unmanaged_replay.proofs.{Basics.arith, OtherMoves.drops}
 use Rattle.deadpool_unmanaged_replay.proofs.trial.Trial.drop_handle.Goals as goal
 
 pub invariant_of-self : goal.invariant_of-self

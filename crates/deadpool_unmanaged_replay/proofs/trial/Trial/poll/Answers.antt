@@ -1,9 +1,6 @@
 use Rattle.deadpool_unmanaged_replay.proofs.Basics.{◌≡◌, ◌∙◌, Some, None, length, vec_len, arith, rules, map, refl, ap, slice_get, option_map, length-map, slice_get_read, slice_get_past, slice_get-map}
-use Rattle.deadpool_unmanaged_replay.proofs.Words.{party_of}
-use Rattle.deadpool_unmanaged_replay.specs.declared.moves.Move.TheVariants as move
-use Rattle.deadpool_unmanaged_replay.specs.declared.moves.Reply.TheVariants as reply
-use Rattle.deadpool_unmanaged_replay.proofs.Parties.{stays}
-use Rattle.deadpool_unmanaged_replay.proofs.Polls.{visitor_polled, not_polled}
+use Rattle.deadpool_unmanaged_replay.proofs.Words.{party_of, Move, Reply}
+use Rattle.deadpool_unmanaged_replay.proofs.{Parties.stays, Polls.visitor_polled, Polls.not_polled}
 use Rattle.deadpool_unmanaged_replay.proofs.trial.Trial.poll.Goals as goal
 
 pub returns-then-party-len : goal.returns-then-party-len
@@ -13,7 +10,7 @@ returns-then-party-len g c =
     let same = length-map f.visitors.items party_of in
     let past : slice_get (map party_of f.visitors.items) c.args.party ≡ None =
     slice_get_past (map party_of f.visitors.items) c.args.party (omega (arith, len, same, c.len.ensures, c.if-party-len.true)) in
-    let all = stays f.runtime f.most_parties f.next f.core.pool f.visitors.items f.out.items c.self.invariant.counted c.self.invariant.well (move.Poll c.args.party c.args.now) reply.NoSuch (rw past) in
+    let all = stays f.runtime f.most_parties f.next f.core.pool f.visitors.items f.out.items c.self.invariant.counted c.self.invariant.well (Move.Poll c.args.party c.args.now) Reply.NoSuch (rw past) in
     rw (← c.self.view_is) all.gives
 
 pub invariant_of-self : goal.invariant_of-self
@@ -33,7 +30,7 @@ returns-in-None g c =
     slice_get_read f.visitors.items (length f.visitors.items) c.args.party c.index_mut-visitor.result.now refl (omega (arith, len, c.len.ensures, c.if-party-len.false)) c.index_mut-visitor.ensures.value in
     let left = not_polled f.runtime f.most_parties f.next f.core.pool f.visitors.items f.out.items c.self.invariant.counted c.self.invariant.well c.args.party c.args.now c.index_mut-visitor.result.now c.poll_visitor.new.visitor c.poll_visitor.result c.poll_visitor.new.core.pool here c.in-None.is c.poll_visitor.ensures in
     let none : slice_get (map party_of f.visitors.items) c.args.party ≡ Some None = slice_get-map party_of f.visitors.items c.args.party ∙ ap (option_map party_of) left.0 in
-    let all = stays f.runtime f.most_parties f.next f.core.pool f.visitors.items f.out.items c.self.invariant.counted c.self.invariant.well (move.Poll c.args.party c.args.now) reply.NoSuch (rw none) in
+    let all = stays f.runtime f.most_parties f.next f.core.pool f.visitors.items f.out.items c.self.invariant.counted c.self.invariant.well (Move.Poll c.args.party c.args.now) Reply.NoSuch (rw none) in
     rw (← c.self.view_is, left.1, left.2) all.gives
 
 pub hand_out-requires : goal.hand_out-requires

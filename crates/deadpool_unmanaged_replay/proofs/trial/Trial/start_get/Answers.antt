@@ -1,7 +1,5 @@
 use Rattle.deadpool_unmanaged_replay.proofs.Basics.{◌≡◌, nat_lt, true, false, rules, length, vec_len, arith, map, lt-ltb, le-ltb, length-map}
-use Rattle.deadpool_unmanaged_replay.proofs.Words.{party_of}
-use Rattle.deadpool_unmanaged_replay.specs.declared.moves.Move.TheVariants as move
-use Rattle.deadpool_unmanaged_replay.specs.declared.moves.Reply.TheVariants as reply
+use Rattle.deadpool_unmanaged_replay.proofs.Words.{party_of, Move, Reply}
 use Rattle.deadpool_unmanaged_replay.proofs.Parties.{no_handle, some_handle, stays, get_started}
 use Rattle.deadpool_unmanaged_replay.proofs.trial.Trial.start_get.Goals as goal
 
@@ -9,7 +7,7 @@ pub returns-then-not-has_handle : goal.returns-then-not-has_handle
 returns-then-not-has_handle g c =
     let f = c.self.inside in
     let none = no_handle c.has_handle.result f.core.pool.handles c.has_handle.ensures c.if-not-has_handle.true in
-    let all = stays f.runtime f.most_parties f.next f.core.pool f.visitors.items f.out.items c.self.invariant.counted c.self.invariant.well (move.Get c.args.wait) reply.NoHandle (rw none) in
+    let all = stays f.runtime f.most_parties f.next f.core.pool f.visitors.items f.out.items c.self.invariant.counted c.self.invariant.well (Move.Get c.args.wait) Reply.NoHandle (rw none) in
     rw (← c.self.view_is) all.gives
 
 pub returns-then-party-self : goal.returns-then-party-self
@@ -19,7 +17,7 @@ returns-then-party-self g c =
     let len : vec_len f.visitors ≡ length f.visitors.items = search rules in
     let same = length-map f.visitors.items party_of in
     let full : nat_lt (length (map party_of f.visitors.items)) f.most_parties ≡ false = le-ltb _ _ (omega (arith, c.len-party.ensures, len, same, c.if-party-self.true)) in
-    let all = stays f.runtime f.most_parties f.next f.core.pool f.visitors.items f.out.items c.self.invariant.counted c.self.invariant.well (move.Get c.args.wait) reply.NoRoom (rw (some, full)) in
+    let all = stays f.runtime f.most_parties f.next f.core.pool f.visitors.items f.out.items c.self.invariant.counted c.self.invariant.well (Move.Get c.args.wait) Reply.NoRoom (rw (some, full)) in
     rw (← c.self.view_is) all.gives
 
 pub invariant_of-self : goal.invariant_of-self

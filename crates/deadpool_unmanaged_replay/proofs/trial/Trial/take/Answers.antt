@@ -1,9 +1,6 @@
 use Rattle.deadpool_unmanaged_replay.proofs.Basics.{◌≡◌, ◌∙◌, Some, None, sym, arith, none_there}
-use Rattle.deadpool_unmanaged_replay.proofs.Words.{find_item, item_number}
-use Rattle.deadpool_unmanaged_replay.specs.declared.moves.Move.TheVariants as move
-use Rattle.deadpool_unmanaged_replay.specs.declared.moves.Reply.TheVariants as reply
-use Rattle.deadpool_unmanaged_replay.proofs.OtherMoves.{take_known, taken}
-use Rattle.deadpool_unmanaged_replay.proofs.Parties.{stays}
+use Rattle.deadpool_unmanaged_replay.proofs.Words.{find_item, item_number, Move, Reply}
+use Rattle.deadpool_unmanaged_replay.proofs.{OtherMoves.take_known, OtherMoves.taken, Parties.stays}
 use Rattle.deadpool_unmanaged_replay.proofs.trial.Trial.take.Goals as goal
 
 pub invariant_of-self : goal.invariant_of-self
@@ -19,7 +16,7 @@ returns-in-None g c =
     let f = c.self.inside in
     let none : find_item c.args.number f.out.items ≡ None = sym c.take_out.ensures.item ∙ c.in-None.is in
     let same = c.take_out.ensures.items ∙ none_there item_number c.args.number f.out.items none in
-    let all = stays f.runtime f.most_parties f.next f.core.pool f.visitors.items f.out.items c.self.invariant.counted c.self.invariant.well (move.Take c.args.number) reply.NoSuch (rw none) in
+    let all = stays f.runtime f.most_parties f.next f.core.pool f.visitors.items f.out.items c.self.invariant.counted c.self.invariant.well (Move.Take c.args.number) Reply.NoSuch (rw none) in
     rw (← c.self.view_is, same) all.gives
 
 pub after_take-requires : goal.after_take-requires

@@ -1,15 +1,11 @@
-use Rattle.deadpool_unmanaged_replay.proofs.Basics.{arith, eq-eqb, largest_usize}
-use Rattle.deadpool_unmanaged_replay.specs.declared.moves.Move.TheVariants as move
-use Rattle.deadpool_unmanaged_replay.specs.declared.moves.Reply.TheVariants as reply
-use Rattle.deadpool_unmanaged_replay.proofs.OtherMoves.{at_once, tried_add}
-use Rattle.deadpool_unmanaged_replay.proofs.Parties.{no_handle, some_handle, differs, stays}
+use Rattle.deadpool_unmanaged_replay.proofs.{Basics.arith, Basics.eq-eqb, Basics.largest_usize, Words.Move, Words.Reply, OtherMoves.at_once, OtherMoves.tried_add, Parties.no_handle, Parties.some_handle, Parties.differs, Parties.stays}
 use Rattle.deadpool_unmanaged_replay.proofs.trial.Trial.try_add.Goals as goal
 
 pub returns-then-not-has_handle : goal.returns-then-not-has_handle
 returns-then-not-has_handle g c =
     let f = c.self.inside in
     let none = no_handle c.has_handle.result f.core.pool.handles c.has_handle.ensures c.if-not-has_handle.true in
-    let all = stays f.runtime f.most_parties f.next f.core.pool f.visitors.items f.out.items c.self.invariant.counted c.self.invariant.well (move.TryAdd c.args.value) reply.NoHandle (rw none) in
+    let all = stays f.runtime f.most_parties f.next f.core.pool f.visitors.items f.out.items c.self.invariant.counted c.self.invariant.well (Move.TryAdd c.args.value) Reply.NoHandle (rw none) in
     rw (← c.self.view_is) all.gives
 
 pub returns-in-Err : goal.returns-in-Err
@@ -17,7 +13,7 @@ returns-in-Err g c =
     let f = c.self.inside in
     let some = some_handle c.has_handle.result f.core.pool.handles c.has_handle.ensures c.if-not-has_handle.false in
     let full = eq-eqb f.next largest_usize c.in-Err.ensures.0 in
-    let all = stays f.runtime f.most_parties f.next f.core.pool f.visitors.items f.out.items c.self.invariant.counted c.self.invariant.well (move.TryAdd c.args.value) (reply.Exhausted c.args.value) (rw (some, full)) in
+    let all = stays f.runtime f.most_parties f.next f.core.pool f.visitors.items f.out.items c.self.invariant.counted c.self.invariant.well (Move.TryAdd c.args.value) (Reply.Exhausted c.args.value) (rw (some, full)) in
     rw (← c.self.view_is, c.in-Err.ensures.1, c.in-Err.ensures.2) all.gives
 
 pub after_try_add-requires : goal.after_try_add-requires

@@ -1,16 +1,11 @@
-use Rattle.deadpool_unmanaged_replay.proofs.Basics.{arith, rules, length, vec_len, ◌≡◌}
-use Rattle.deadpool_unmanaged_replay.proofs.Lawful.{length-with_item}
-use Rattle.deadpool_unmanaged_replay.specs.declared.moves.Move.TheVariants as move
-use Rattle.deadpool_unmanaged_replay.specs.declared.moves.Reply.TheVariants as reply
-use Rattle.deadpool_unmanaged_replay.proofs.OtherMoves.{try_get_object, try_get_closed, try_get_full}
-use Rattle.deadpool_unmanaged_replay.proofs.Parties.{no_handle, some_handle, stays}
+use Rattle.deadpool_unmanaged_replay.proofs.{Basics.arith, Basics.rules, Basics.length, Basics.vec_len, Basics.◌≡◌, Words.Move, Words.Reply, Lawful.length-with_item, OtherMoves.try_get_object, OtherMoves.try_get_closed, OtherMoves.try_get_full, Parties.no_handle, Parties.some_handle, Parties.stays}
 use Rattle.deadpool_unmanaged_replay.proofs.trial.Trial.try_get.Goals as goal
 
 pub returns-then-not-has_handle : goal.returns-then-not-has_handle
 returns-then-not-has_handle g c =
     let f = c.self.inside in
     let none = no_handle c.has_handle.result f.core.pool.handles c.has_handle.ensures c.if-not-has_handle.true in
-    let all = stays f.runtime f.most_parties f.next f.core.pool f.visitors.items f.out.items c.self.invariant.counted c.self.invariant.well (move.TryGet) reply.NoHandle (rw none) in
+    let all = stays f.runtime f.most_parties f.next f.core.pool f.visitors.items f.out.items c.self.invariant.counted c.self.invariant.well (Move.TryGet) Reply.NoHandle (rw none) in
     rw (← c.self.view_is) all.gives
 
 pub put_in-requires : goal.put_in-requires

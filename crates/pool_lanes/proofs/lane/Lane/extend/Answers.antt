@@ -1,5 +1,4 @@
-use Rattle.std.proofs.Common.{arith, rules, ◌≡◌, ◌+◌, ◌∙◌, ap, sym}
-use Rattle.pool_lanes.proofs.LaidMarks.{next_of, wide_laid, wide_columns, wide_first, more_columns, more_laid, next_last, next_mark}
+use Rattle.pool_lanes.proofs.{Words.arith, Words.rules, Words.◌+◌, Words.◌∙◌, Words.ap, Words.sym, LaidMarks.next_of, LaidMarks.wide_laid, LaidMarks.wide_columns, LaidMarks.wide_first, LaidMarks.more_columns, LaidMarks.more_laid, LaidMarks.next_last, LaidMarks.next_mark}
 use Rattle.pool_lanes.proofs.lane.Lane.extend.Goals as goal
 
 pub overflow_add-self : goal.overflow_add-self

@@ -1,6 +1,4 @@
-use Rattle.std.proofs.Common.{subst}
-use Rattle.pool_lanes.specs.Marks.{AreApart}
-use Rattle.pool_lanes.proofs.LaidMarks.{laid_apart, all_shown}
+use Rattle.pool_lanes.proofs.{Words.subst, Words.AreApart, LaidMarks.laid_apart, LaidMarks.all_shown}
 use Rattle.pool_lanes.proofs.lane.Lane.laws.Goals as goal
 
 pub returns-clause-apart : goal.returns-clause-apart

@@ -1,6 +1,4 @@
-use Rattle.std.proofs.Common.{◌≤◌, length, subst, sym}
-use Rattle.pool_lanes.specs.Frames.{Draws, Rows}
-use Rattle.pool_lanes.proofs.GrownLanes.{all_end, all_drawn}
+use Rattle.pool_lanes.proofs.{Words.◌≤◌, Words.length, Words.subst, Words.sym, Words.Draws, Words.Rows, GrownLanes.all_end, GrownLanes.all_drawn}
 use Rattle.pool_lanes.proofs.lanes.Lanes.with_column.Goals as goal
 
 pub invariant_of-result : goal.invariant_of-result
