@@ -113,30 +113,21 @@ impl<T: Drop> Core<T> {
         self.gate.is_wake_due()
     }
 
-    // Serves a get. Its place is one of those going, if `counted` is 1, or in no count yet, if it is 0. Its object goes
-    // into `place`.
+    // Serves a get whose place is one of those going. Its object goes into `place`.
     #[inline(always)]
-    fn serve_in(
-        &mut self,
-        counted: usize,
-        allowance: Option<usize>,
-        place: &mut Option<Slot<T>>,
-    ) -> Serving<()>
-        requires one { counted ≤ 1 }
-        requires going { counted ≤ self.old.desk.going }
-        requires room { places self.old.desk + 1 ≤ self.old.desk.reserve + counted }
+    fn serve_in(&mut self, allowance: Option<usize>, place: &mut Option<Slot<T>>) -> Serving<()>
+        requires { 1 ≤ self.old.desk.going }
         ensures served { (whole : Serving (Slot T))
-            × (Serves (record self.old.desk { going = self.old.desk.going - counted })
+            × (Serves (record self.old.desk { going = self.old.desk.going - 1 })
             allowance whole self.new.desk
             × IsPartedServing whole result place.old place.new) }
         ensures untold { self.new.untold ≡ self.old.untold }
     {
-        self.places.going -= counted;
         let allowed = allowance.unwrap_or(self.ring.len());
         if allowed == 0 && !self.ring.is_empty() {
-            self.places.going += 1;
             return Serving::Going;
         }
+        self.places.going -= 1;
         match take_idle(&mut self.ring, self.mode) {
             Some(slot) => {
                 *place = Some(slot);
@@ -176,15 +167,19 @@ impl<T: Drop> Desk<T> for Core<T> {
 
     ghost takes = { Takes };
 
-    // It is served, joins the queue, or is refused.
+    // It is served, joins the queue, or is refused. The place that it is given is one of those going until it is served.
     #[inline(always)]
     fn enter_in(&mut self, wait: bool, place: &mut Option<Slot<T>>) -> EnterReply<()> {
         let room = self.places.room(&self.gate);
         if room > 0 && !self.gate.is_closed() {
-            return EnterReply::Served(self.serve_in(0, None, place));
+            self.places.going += 1;
+            return EnterReply::Served(self.serve_in(None, place));
         }
         match self.gate.enter(room, wait) {
-            Entry::Granted => EnterReply::Served(self.serve_in(0, None, place)),
+            Entry::Granted => {
+                self.places.going += 1;
+                EnterReply::Served(self.serve_in(None, place))
+            }
             Entry::Closed => EnterReply::Closed,
             Entry::Full => EnterReply::Full,
             Entry::Waiting(ticket) => EnterReply::Waiting(ticket),
@@ -202,7 +197,7 @@ impl<T: Drop> Desk<T> for Core<T> {
         match self.gate.ask(ticket) {
             Ask::Granted => {
                 self.places.going += 1;
-                AskReply::Served(self.serve_in(1, None, place))
+                AskReply::Served(self.serve_in(None, place))
             }
             Ask::Closed => AskReply::Closed,
             Ask::Unknown => AskReply::Unknown,
@@ -226,7 +221,7 @@ impl<T: Drop> Desk<T> for Core<T> {
         if self.places.going == 0 {
             return AgainReply::Unknown;
         }
-        AgainReply::Served(self.serve_in(1, allowance, place))
+        AgainReply::Served(self.serve_in(allowance, place))
     }
 
     // The place of the object is one of those going again.

@@ -1,4 +1,4 @@
-use Rattle.std.proofs.Common.{◌∙◌, None, not, refl, subst, ap, arith}
+use Rattle.std.proofs.Common.{◌∙◌, None, not, refl, subst, ap}
 use Rattle.deadpool_gate.specs.Gate.{without_waiter, untold_tickets}
 use Rattle.deadpool_gate.proofs.GateAnswers.{asked-granted, asked-waiting, asked-closed, asked-unknown}
 use Rattle.deadpool_desk.specs.DeskSteps.{Serves}
@@ -11,13 +11,6 @@ invariant_of-self g c =
     let line = c.ask.ensures.line in
     let was = asked-granted _ c.args.ticket _ line c.in-Granted.ensures.answer in
     IsSound-going c.self.inside c.ask.new.self c.args.ticket line (c.ask.ensures.waiters ∙ was.2) c.self.invariant c.ask.ensures.closed was.1
-
-pub serve_in-requires-clause-room : goal.serve_in-requires-clause-room
-serve_in-requires-clause-room g c =
-    let line = c.ask.ensures.line in
-    let was = asked-granted _ c.args.ticket _ line c.in-Granted.ensures.answer in
-    let sound = IsSound-going c.self.inside c.ask.new.self c.args.ticket line (c.ask.ensures.waiters ∙ was.2) c.self.invariant c.ask.ensures.closed was.1 in
-    omega (arith, sound.held)
 
 pub returns-in-Granted-clause-asked : goal.returns-in-Granted-clause-asked
 returns-in-Granted-clause-asked g c =

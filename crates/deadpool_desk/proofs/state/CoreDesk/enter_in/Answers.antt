@@ -1,7 +1,8 @@
-use Rattle.std.proofs.Common.{◌≡◌, ◌-◌, ◌<◌, ◌≤◌, None, true, not, ap, refl, arith, rules, subst}
+use Rattle.std.proofs.Common.{◌≡◌, ◌+◌, ◌-◌, ◌<◌, ◌≤◌, None, not, ap, refl, arith, rules, subst}
 use Rattle.deadpool_gate.specs.Gate.{untold_tickets}
 use Rattle.deadpool_gate.proofs.GateAnswers.{entered-waiting, entered-without_memory, unlisted}
 use Rattle.deadpool_desk.specs.DeskSteps.{Serves}
+use Rattle.deadpool_desk.specs.CoreFields.{desk_of}
 use Rattle.deadpool_desk.specs.Places.{held_at}
 use Rattle.deadpool_desk.specs.declared.desk.EnterReply.TheVariants.{Served, Waiting, OutOfMemory}
 use Rattle.deadpool_desk.proofs.CoreQueue.{IsSound-joined, desk_of-arrived, desk_of-same, untold-arrived, no_room}
@@ -47,9 +48,7 @@ returns-in-OutOfMemory-clause-entered g c =
 pub returns-then-not-is_closed-clause-entered : goal.returns-then-not-is_closed-clause-entered
 returns-then-not-is_closed-clause-entered g c =
     let served = c.serve_in.ensures.served in
-    let d = c.args.self.now.desk in
-    let none_less : d.going - 0 ≡ d.going = omega arith in
-    let serves = subst (λ n. Serves (record d { going = n }) None served.0 c.serve_in.new.self.desk) none_less served.1.0 in
-    let is_open : d.is_open ≡ true = rw (← c.self.view_is) (search rules) in
+    let was : c.self.inside.places.going + 1 - 1 ≡ c.self.inside.places.going = omega arith in
+    let serves = subst (λ n. Serves (record (desk_of c.self.inside) { going = n }) None served.0 c.serve_in.new.self.desk) was served.1.0 in
     let free : held_at c.self.inside.gate c.self.inside.places < c.self.inside.places.limit = omega (arith, c.if-room-gt0.true, c.room-room.ensures) in
-    (Served served.0, (((is_open, rw (← c.self.view_is) free, serves), c.serve_in.ensures.untold), (served.0, (served.1.1, refl))))
+    rw (← c.self.view_is) (Served served.0, (((search rules, free, serves), c.serve_in.ensures.untold), (served.0, (served.1.1, refl))))
