@@ -1,8 +1,7 @@
 -- How many elements of a list pass a test, as one of them is set, added or taken.
-use Rattle.std.proofs.Common.{◌≡◌, ℕ, ◌+◌, zero, suc, ◌≤◌, List, [], ◌∷◌, ◌++◌, Bool, true, false, cond, length, set, ap, ◌∙◌, arith, Option, Some, None, length-append}
+use Rattle.std.proofs.Common.{◌≡◌, ℕ, ◌+◌, zero, suc, List, [], ◌∷◌, ◌++◌, Bool, true, false, cond, length, set, ap, ◌∙◌, arith, Option, Some, None, length-append}
 use Rattle.std.specs.List.{cons_option}
 use Rattle.std.specs.Prelude.{slice_get, filter, filter_map, is_some}
-use Rattle.std.proofs.lemmas.Bool.{cond_both}
 use Rattle.std.proofs.lemmas.List.Elements.{filter-append, filter_map-append}
 
 -- 1 if the test holds
@@ -53,8 +52,3 @@ module _ {X : Type 0} where
   held-push f xs x =
       ap length (filter_map-append f xs (x ∷ [])) ∙ length-append (filter_map f xs) (filter_map f (x ∷ []))
       ∙ ap (λ k. length (filter_map f xs) + k) (length-cons_option (f x) [] ∙ omega arith)
-
-  -- what passes a test is no more than what there was
-  pub filter-shorter : (f : X → Bool) (xs : List X) → length (filter f xs) ≤ length xs
-  filter-shorter f [] = omega arith
-  filter-shorter f (x ∷ xs) = let rest = filter-shorter f xs in cond_both (f x) _ _ (λ ys. length ys ≤ length (x ∷ xs)) (λ y. omega (arith, rest)) (λ n. omega (arith, rest))

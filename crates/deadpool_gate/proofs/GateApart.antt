@@ -47,11 +47,6 @@ pub IsApart-back : (xs ys : List Waiter) → IsApart (xs ++ ys) → IsApart ys
 IsApart-back [] ys apart = apart
 IsApart-back (x ∷ xs) ys apart = IsApart-back xs ys apart.1
 
--- one between leaves
-pub IsApart-without : (xs : List Waiter) (w : Waiter) (ys : List Waiter) → IsApart (xs ++ w ∷ ys) → IsApart (xs ++ ys)
-IsApart-without [] w ys apart = apart.1
-IsApart-without (x ∷ xs) w ys apart = (unlisted-without x.ticket xs w ys apart.0, IsApart-without xs w ys apart.1)
-
 -- nobody before a waiter has its ticket
 pub unlisted-before : (xs : List Waiter) (w : Waiter) (ys : List Waiter) → IsApart (xs ++ w ∷ ys) → find_waiter w.ticket xs ≡ None
 unlisted-before [] w ys apart = refl

@@ -135,7 +135,7 @@ last_ticket-replaced : (xs : List Waiter) (v w : Waiter) (ys : List Waiter) → 
 last_ticket-replaced xs v w ys ticket =
     rw (last_ticket-append xs (w ∷ ys) None, last_ticket-append xs (v ∷ ys) None, ticket) refl
 
--- the fields keep all but the mark, the count of accesses, the capacity, and whether the gate is closed
+-- the fields keep all but the count of accesses, that of before, the capacity, and whether the gate is closed
 pub record KeepsLinks (g h : Inside) : Type 0 where
   pub slots : h.store.nodes.slots ≡ g.store.nodes.slots
   pub first : h.first ≡ g.first

@@ -23,7 +23,7 @@ pub record Line : Type 0 where
   pub capacity : ℕ
   pub next_ticket : ℕ
   pub accesses : ℕ
-  pub mark : ℕ
+  pub accesses_before : ℕ
 
 -- who has just come holds a ticket and nothing else
 abbrev pub arrived : ℕ → Waiter
@@ -128,7 +128,7 @@ RisesAtMost most old new = (old ≤ new) × (new ≤ old + most)
 
 -- how many accesses the last call made
 abbrev pub touched : Line → ℕ
-touched line = line.accesses - line.mark
+touched line = line.accesses - line.accesses_before
 
 -- each waiter has a ticket of its own
 abbrev pub IsApart : List Waiter → Type 0

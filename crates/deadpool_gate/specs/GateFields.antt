@@ -14,7 +14,7 @@ line_of gate = record {
   capacity = min gate.store.nodes.capacity (2 ^ 63 - 1);
   next_ticket = gate.store.nodes.vacant_key;
   accesses = gate.store.accesses;
-  mark = gate.mark;
+  accesses_before = gate.accesses_before;
 }
 
 -- the fields are those of this line

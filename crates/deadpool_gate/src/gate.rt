@@ -96,7 +96,7 @@ pub enum Withdrawn {
 pub struct Gate {
     store: NodeStore,
     // The accesses that the store had counted when the last call on `&mut self` began.
-    mark: u128,
+    accesses_before: u128,
     first: Option<usize>,
     last: Option<usize>,
     first_waiting: Option<usize>,
@@ -148,7 +148,7 @@ impl Gate {
     {
         Gate {
             store: NodeStore::new(alloc),
-            mark: 0,
+            accesses_before: 0,
             first: None,
             last: None,
             first_waiting: None,
@@ -174,9 +174,9 @@ impl Gate {
             → result ≡ Entry.Waiting ticket → ticket ≡ self.old.next_ticket }
         ensures closed { self.new.is_closed ≡ self.old.is_closed }
         ensures accesses { RisesAtMost 2 self.old.accesses self.new.accesses }
-        ensures mark { self.new.mark ≡ self.old.accesses }
+        ensures before { self.new.accesses_before ≡ self.old.accesses }
     {
-        self.mark = self.store.accesses();
+        self.accesses_before = self.store.accesses();
         if self.is_closed {
             return Entry::Closed;
         }
@@ -216,7 +216,7 @@ impl Gate {
         ensures waiters { self.new.waiters ≡ grant_next self.old.waiters }
         ensures closed { self.new.is_closed ≡ self.old.is_closed }
         ensures accesses { RisesAtMost 2 self.old.accesses self.new.accesses }
-        ensures mark { self.new.mark ≡ self.old.mark }
+        ensures before { self.new.accesses_before ≡ self.old.accesses_before }
     {
         let Some(key) = self.first_waiting else {
             return;
@@ -242,9 +242,9 @@ impl Gate {
         ensures untold { untold_tickets self.new.waiters ≡ untold_tickets self.old.waiters }
         ensures closed { self.new.is_closed ≡ self.old.is_closed }
         ensures accesses { RisesAtMost (2 * result) self.old.accesses self.new.accesses }
-        ensures mark { self.new.mark ≡ self.old.accesses }
+        ensures before { self.new.accesses_before ≡ self.old.accesses }
     {
-        self.mark = self.store.accesses();
+        self.accesses_before = self.store.accesses();
         let count = if self.is_closed {
             0
         } else {
@@ -263,7 +263,7 @@ impl Gate {
         ensures closed { self.new.is_closed ≡ self.old.is_closed }
         ensures line { IsLine self.old.is_closed self.old.waiters }
         ensures accesses { RisesAtMost 3 self.old.accesses self.new.accesses }
-        ensures mark { self.new.mark ≡ self.old.mark }
+        ensures before { self.new.accesses_before ≡ self.old.accesses_before }
     {
         let node = self.store.take(key)?;
         link(&mut self.store, node.previous, Change::Next(node.next));
@@ -282,8 +282,10 @@ impl Gate {
         ensures value { result ≡ option_map (λ w. w.granted) (find_waiter key self.old.waiters) }
         ensures waiters { self.new.waiters ≡ self.old.waiters }
         ensures closed { self.new.is_closed ≡ self.old.is_closed }
+        ensures capacity { self.new.capacity ≡ self.old.capacity }
+        ensures next { self.new.next_ticket ≡ self.old.next_ticket }
         ensures accesses { RisesAtMost 1 self.old.accesses self.new.accesses }
-        ensures mark { self.new.mark ≡ self.old.mark }
+        ensures before { self.new.accesses_before ≡ self.old.accesses_before }
     {
         let node = self.store.read(key)?;
         Some(node.granted)
@@ -297,13 +299,10 @@ impl Gate {
         ensures capacity { self.new.capacity ≡ self.old.capacity }
         ensures next { self.new.next_ticket ≡ self.old.next_ticket }
         ensures accesses { RisesAtMost 1 self.old.accesses self.new.accesses }
-        ensures mark { self.new.mark ≡ self.old.accesses }
+        ensures before { self.new.accesses_before ≡ self.old.accesses }
     {
-        self.mark = self.store.accesses();
-        match self.store.read(ticket.number) {
-            Some(node) => node.granted,
-            None => false,
-        }
+        self.accesses_before = self.store.accesses();
+        self.is_granted(ticket.number).unwrap_or(false)
     }
 
     /// Says how a waiter stands. After `Closed` or `Granted` it has left the list, and its ticket is void. After
@@ -315,9 +314,9 @@ impl Gate {
         ensures closed { self.new.is_closed ≡ self.old.is_closed }
         ensures line { IsLine self.old.is_closed self.old.waiters }
         ensures accesses { RisesAtMost 4 self.old.accesses self.new.accesses }
-        ensures mark { self.new.mark ≡ self.old.accesses }
+        ensures before { self.new.accesses_before ≡ self.old.accesses }
     {
-        self.mark = self.store.accesses();
+        self.accesses_before = self.store.accesses();
         if self.is_closed {
             return match self.remove(ticket.number) {
                 Some(_) => Ask::Closed,
@@ -342,9 +341,9 @@ impl Gate {
         ensures closed { self.new.is_closed ≡ self.old.is_closed }
         ensures line { IsLine self.old.is_closed self.old.waiters }
         ensures accesses { RisesAtMost 3 self.old.accesses self.new.accesses }
-        ensures mark { self.new.mark ≡ self.old.accesses }
+        ensures before { self.new.accesses_before ≡ self.old.accesses }
     {
-        self.mark = self.store.accesses();
+        self.accesses_before = self.store.accesses();
         match self.remove(ticket.number) {
             Some(true) => Withdrawn::Granted,
             Some(false) => Withdrawn::Waiting,
@@ -358,9 +357,9 @@ impl Gate {
         ensures waiters { self.new.waiters ≡ self.old.waiters }
         ensures closed { self.new.is_closed ≡ true }
         ensures accesses { self.new.accesses ≡ self.old.accesses }
-        ensures mark { self.new.mark ≡ self.old.accesses }
+        ensures before { self.new.accesses_before ≡ self.old.accesses }
     {
-        self.mark = self.store.accesses();
+        self.accesses_before = self.store.accesses();
         self.is_closed = true;
     }
 
@@ -377,9 +376,9 @@ impl Gate {
             ≡ still_untold result (untold_tickets self.old.waiters) }
         ensures closed { self.new.is_closed ≡ self.old.is_closed }
         ensures accesses { RisesAtMost 2 self.old.accesses self.new.accesses }
-        ensures mark { self.new.mark ≡ self.old.accesses }
+        ensures before { self.new.accesses_before ≡ self.old.accesses }
     {
-        self.mark = self.store.accesses();
+        self.accesses_before = self.store.accesses();
         let key = self.first_untold?;
         if !self.is_closed && self.first_waiting == Some(key) {
             return None;
@@ -432,6 +431,6 @@ impl Gate {
     pub fn touched(&self) -> u128
         ensures { result ≡ touched self.now }
     {
-        self.store.accesses().saturating_sub(self.mark)
+        self.store.accesses().saturating_sub(self.accesses_before)
     }
 }

@@ -6,7 +6,7 @@ use Rattle.deadpool_gate.proofs.gate.Gate.close.Goals as goal
 pub invariant_of-self : goal.invariant_of-self
 invariant_of-self c =
     let shows = Shows-seen _ _ c.self.view_is c.self.invariant in
-    let closed = record c.self.inside { mark = c.accesses-self-inside.result; is_closed = true } in
+    let closed = record c.self.inside { accesses_before = c.accesses-self-inside.result; is_closed = true } in
     let keeps : KeepsLinks c.self.inside closed = record {
       slots = refl;
       first = refl;

@@ -16,7 +16,7 @@ no_answer (Some answer) P holds = tt
 
 -- the fields when no memory was found
 abbrev refused : goal.In_default → Inside
-refused c = record c.self.inside { store = c.put.new.self; mark = c.accesses-self-inside.result }
+refused c = record c.self.inside { store = c.put.new.self; accesses_before = c.accesses-self-inside.result }
 
 shows_refused : (c : goal.In_default) → Shows (refused c) c.args.self.now.waiters
 shows_refused c =
@@ -42,7 +42,7 @@ returns-in_default-clause-joins c = no_answer _ _ (Shows-is (refused c) _ (shows
 abbrev after : goal.After-self-4-1 → Inside
 after c = record c.self.inside {
   store = c.link.new.store;
-  mark = c.accesses-self-inside.result;
+  accesses_before = c.accesses-self-inside.result;
   first = Some c.unwrap_or.result;
   last = Some c.in-Ok.key;
   first_waiting = Some c.unwrap_or-2.result;

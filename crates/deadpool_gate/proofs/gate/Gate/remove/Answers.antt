@@ -48,7 +48,7 @@ overflow_sub-self-2 c =
 abbrev after : goal.After-self-6-1 → Inside
 after c = record {
   store = c.link-2.new.store;
-  mark = c.self.inside.mark;
+  accesses_before = c.self.inside.accesses_before;
   first = c.move_on-self-inside.result;
   last = c.move_on-self-inside-2.result;
   first_waiting = c.move_on-self-inside-3.result;

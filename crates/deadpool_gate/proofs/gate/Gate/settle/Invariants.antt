@@ -8,5 +8,5 @@ invariant-loop-given l = record {
   waiters : l.self.waiters ≡ grant l._given l.initial.self.waiters;
   closed : l.self.is_closed ≡ l.initial.self.is_closed;
   accesses : RisesAtMost (2 * l._given) l.initial.self.accesses l.self.accesses;
-  mark : l.self.mark ≡ l.initial.self.mark;
+  before : l.self.accesses_before ≡ l.initial.self.accesses_before;
 }

@@ -66,7 +66,7 @@ returns-in_err-node-clause-waiters c = absurd (has_node c)
 abbrev after : goal.After-self-2-1 → Inside
 after c = record c.self.inside {
   store = c.write.new.self;
-  mark = c.accesses-self-inside.result;
+  accesses_before = c.accesses-self-inside.result;
   first_untold = c.in_ok-node.node.next;
 }
 
