@@ -3,3 +3,4 @@ pub mod NumberedCounts
 pub mod Places
 pub mod Programs
 pub mod ReadsBack
+pub mod Words

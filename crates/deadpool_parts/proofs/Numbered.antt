@@ -1,9 +1,5 @@
 -- What has a number, by its number and by its place in a list.
-use Rattle.std.proofs.Common.{◌≡◌, ℕ, ◌+◌, ◌<◌, List, [], ◌∷◌, ◌==◌, nat_lt, length, refl, ap, arith, inl, inr, Some, None}
-use Rattle.std.specs.List.{position, position_or_len, insert, remove}
-use Rattle.std.proofs.Math.Numerals.{one-add}
-use Rattle.std.proofs.lemmas.Bool.{cases_Bool}
-use Rattle.deadpool_parts.specs.Numbered.{with_numbered, find_numbered, without_numbered}
+use Rattle.deadpool_parts.proofs.Words.{◌≡◌, ℕ, ◌+◌, ◌<◌, List, [], ◌∷◌, ◌==◌, nat_lt, length, refl, ap, arith, inl, inr, Some, None, position, position_or_len, insert, remove, one-add, cases_Bool, with_numbered, find_numbered, without_numbered}
 use Rattle.deadpool_parts.proofs.Places.{place_is}
 
 module _ {A : Type 0} (number : A → ℕ) where

@@ -1,9 +1,5 @@
 -- How many of a list have a number, as one comes, goes or changes hands.
-use Rattle.std.proofs.Common.{◌≡◌, ℕ, ◌+◌, ◌≤◌, zero, suc, List, [], ◌∷◌, ◌++◌, Bool, true, false, cond, ◌==◌, nat_lt, length, set, ap, ◌∙◌, arith, inl, inr, Option, Some, None, length-append}
-use Rattle.std.specs.List.{slice_get, filter, filter_map, cons_option}
-use Rattle.std.proofs.lemmas.Bool.{cases_Bool}
-use Rattle.std.proofs.lemmas.List.Elements.{filter-append, filter_map-append}
-use Rattle.deadpool_parts.specs.Numbered.{with_numbered, find_numbered, without_numbered, count_numbered}
+use Rattle.deadpool_parts.proofs.Words.{◌≡◌, ℕ, ◌+◌, ◌≤◌, zero, suc, List, [], ◌∷◌, ◌++◌, Bool, false, cond, ◌==◌, nat_lt, length, set, ap, ◌∙◌, arith, inl, inr, Option, Some, None, length-append, slice_get, filter, filter_map, cons_option, cases_Bool, filter-append, filter_map-append, with_numbered, find_numbered, without_numbered, count_numbered}
 
 module _ {A : Type 0} (number : A → ℕ) (n : ℕ) where
   -- by the first and the others

@@ -1,10 +1,5 @@
 -- The place of the first element of a list that passes a test.
-use Rattle.std.proofs.Common.{◌≡◌, ℕ, ◌<◌, ◌≤◌, List, Bool, not, nat_lt, length, refl, ap, ◌∙◌, arith, inl, inr, Some, None, unwrap_or, get_or}
-use Rattle.std.specs.List.{find, position, position_or_len, slice_get}
-use Rattle.std.proofs.lemmas.Bool.{cases_Bool, ltb-true, ltb-false}
-use Rattle.std.proofs.lemmas.List.Folds.{find_at}
-use Rattle.std.proofs.lemmas.List.Sums.{prefix_len-le-length}
-use Rattle.std.proofs.lemmas.Option.{slice_get_past, slice_get_read}
+use Rattle.deadpool_parts.proofs.Words.{◌≡◌, ℕ, ◌<◌, ◌≤◌, List, Bool, not, nat_lt, length, refl, ap, ◌∙◌, arith, inl, inr, Some, None, unwrap_or, get_or, find, position, position_or_len, slice_get, cases_Bool, ltb-true, ltb-false, find_at, prefix_len-le-length, slice_get_past, slice_get_read}
 
 module _ {X : Type 0} (test : X → Bool) where
   -- a place is the length of what stands before it

@@ -1,6 +1,5 @@
 -- How facts of computations are put together and taken apart.
-use Rattle.std.proofs.Common.{subst, sym}
-use Rattle.deadpool_parts.specs.Program.{Program, Return, Ask, ◌>>=◌, Gives, Always}
+use Rattle.deadpool_parts.proofs.Words.{subst, sym, Program, Return, Ask, ◌>>=◌, Gives, Always}
 
 module _ {Q : Type 0} {Answer : Q → Type 0} where
   -- what one computation gives, and the next gives from there

@@ -1,10 +1,7 @@
 -- What was written is read as the same.
-use Rattle.std.proofs.Common.{ℕ, ◌≡◌, ◌<◌, ◌^◌, Option, Some, None, Ok, IfSome, refl, rules}
+use Rattle.deadpool_parts.proofs.Words.{ℕ, ◌≡◌, ◌<◌, ◌^◌, Option, Some, None, Ok, IfSome, refl, rules, QueueMode, Fifo, Lifo}
 use Rattle.std.specs.Duration.{FitsDuration}
-use Rattle.deadpool_parts.specs.declared.config.QueueMode.{QueueMode}
-use Rattle.deadpool_parts.specs.declared.config.QueueMode.TheVariants.{Fifo, Lifo}
-use Rattle.deadpool_parts.specs.PoolConfig.{ReadsWritten, mode_name, read_min_idle, read_queue_mode, read_size}
-use Rattle.deadpool_parts.specs.Timeouts.{Durations, FitsTimeouts, read_duration, read_timeouts, read_timeout, written_duration, written_timeouts, written_timeout}
+use Rattle.deadpool_parts.specs.{PoolConfig.ReadsWritten, PoolConfig.mode_name, PoolConfig.read_min_idle, PoolConfig.read_queue_mode, PoolConfig.read_size, Timeouts.Durations, Timeouts.FitsTimeouts, Timeouts.read_duration, Timeouts.read_timeouts, Timeouts.read_timeout, Timeouts.written_duration, Timeouts.written_timeouts, Timeouts.written_timeout}
 use Rattle.serde_json.specs.Data.{number, string, unsigned}
 
 pub read_duration-written_duration : (n : ℕ) → FitsDuration n → read_duration (written_duration n) ≡ Some n

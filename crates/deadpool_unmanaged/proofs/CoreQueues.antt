@@ -1,18 +1,5 @@
 -- What the steps of a gate do to the queue that its waiters are.
-use Rattle.std.proofs.Common.{◌≡◌, ℕ, ◌+◌, ◌<◌, ◌≤◌, Bool, not, List, [], ◌∷◌, ◌++◌, length, min, cond, take, drop, refl, ◌∙◌, arith, true, false, Option, None, zero, suc, ◌-◌, length-append}
-use Rattle.std.specs.List.{slice_get}
-use Rattle.std.proofs.lemmas.List.{append-nil}
-use Rattle.deadpool_gate.specs.Gate.{Waiter, Line, arrived, without_waiter, granted_tickets, waiting_tickets, untold_tickets, grant_count, IsApart}
-use Rattle.deadpool_gate.specs.Numbers.{has_number}
-use Rattle.deadpool_gate.specs.Queue.{Queue, joined, without, served}
-use Rattle.deadpool_gate.specs.Waking.{still_untold}
-use Rattle.deadpool_gate.proofs.GateAnswers.{grant_count-length}
-use Rattle.deadpool_gate.proofs.GateTickets.{granted_tickets-arrived, waiting_tickets-arrived, untold_tickets-arrived, granted_tickets-without_waiter, waiting_tickets-without_waiter, untold_tickets-without_waiter, length-both_tickets}
-use Rattle.deadpool_gate.proofs.Numbers.{without_number-shorter, without_number-fewer}
-use Rattle.deadpool_unmanaged.specs.CoreFields.{queue_of, state_of, IsSound}
-use Rattle.deadpool_unmanaged.specs.State.{IsFull, free_objects, free_room, settled, last_idle}
-use Rattle.deadpool_unmanaged.specs.StateSteps.{without_get, without_add, with_get, with_add}
-use Rattle.deadpool_unmanaged.specs.declared.state.PoolState.TheInside.{Inside}
+use Rattle.deadpool_unmanaged.proofs.Words.{◌≡◌, ℕ, ◌+◌, ◌<◌, ◌≤◌, Bool, not, List, [], ◌∷◌, ◌++◌, length, min, cond, take, drop, refl, ◌∙◌, arith, true, false, Option, None, zero, suc, ◌-◌, length-append, slice_get, append-nil, Waiter, Line, arrived, without_waiter, granted_tickets, waiting_tickets, untold_tickets, grant_count, IsApart, has_number, Queue, joined, without, served, still_untold, grant_count-length, granted_tickets-arrived, waiting_tickets-arrived, untold_tickets-arrived, granted_tickets-without_waiter, waiting_tickets-without_waiter, untold_tickets-without_waiter, length-both_tickets, without_number-shorter, without_number-fewer, queue_of, state_of, IsSound, IsFull, free_objects, free_room, settled, last_idle, without_get, without_add, with_get, with_add, Inside}
 
 -- the queue when a waiter leaves
 pub queue-without : (t : ℕ) (ws : List Waiter) → IsApart ws → queue_of (without_waiter t ws) ≡ without t (queue_of ws)

@@ -1,22 +1,5 @@
 -- The steps of gets and adds keep what is true between steps.
-use Rattle.std.proofs.Common.{◌≡◌, ◌∙◌, ℕ, ◌+◌, ◌-◌, ◌<◌, ◌≤◌, List, [], ◌∷◌, Bool, true, false, length, sym, subst, arith, Some, length-append, length-take}
-use Rattle.deadpool_parts.specs.declared.replies.StepReply.{StepReply}
-use Rattle.deadpool_parts.specs.declared.replies.StepReply.TheVariants as step
-use Rattle.deadpool_gate.specs.Orders.{IsOnce}
-use Rattle.deadpool_gate.specs.Queue.{Queue, members, is_listed, joined, without}
-use Rattle.deadpool_gate.proofs.Numbers.{has_number-append, without_number-shorter, without_number-fewer}
-use Rattle.deadpool_gate.proofs.Orders.{IsOnce-without, IsOnce-push}
-use Rattle.deadpool_unmanaged.specs.Kept.{IsKept}
-use Rattle.deadpool_unmanaged.specs.State.{State, size, free_room, settled, last_idle}
-use Rattle.deadpool_unmanaged.specs.StateSteps.{GetEnters, GetAsks, GetCancels, AddEnters, AddAsks, AddCancels, handed, stored, without_get, without_add}
-use Rattle.deadpool_unmanaged.specs.declared.steps.GetEnterReply.{GetEnterReply}
-use Rattle.deadpool_unmanaged.specs.declared.steps.GetEnterReply.TheVariants as get
-use Rattle.deadpool_unmanaged.specs.declared.steps.GetAskReply.{GetAskReply}
-use Rattle.deadpool_unmanaged.specs.declared.steps.GetAskReply.TheVariants as get_ask
-use Rattle.deadpool_unmanaged.specs.declared.steps.AddEnterReply.{AddEnterReply}
-use Rattle.deadpool_unmanaged.specs.declared.steps.AddEnterReply.TheVariants as add
-use Rattle.deadpool_unmanaged.specs.declared.steps.AddAskReply.{AddAskReply}
-use Rattle.deadpool_unmanaged.specs.declared.steps.AddAskReply.TheVariants as add_ask
+use Rattle.deadpool_unmanaged.proofs.Words.{◌≡◌, ◌∙◌, ℕ, ◌+◌, ◌-◌, ◌<◌, ◌≤◌, List, [], ◌∷◌, Bool, true, false, length, sym, subst, arith, Some, length-append, length-take, StepReply, IsOnce, Queue, members, is_listed, joined, without, has_number-append, without_number-shorter, without_number-fewer, IsOnce-without, IsOnce-push, IsKept, State, size, free_room, settled, last_idle, GetEnters, GetAsks, GetCancels, AddEnters, AddAsks, AddCancels, handed, stored, without_get, without_add, GetEnterReply, GetAskReply, AddEnterReply, AddAskReply}
 use Rattle.deadpool_unmanaged.proofs.Queues.{nobody_left, served_within, members-without, members-joined, members-served}
 
 -- no ticket stands twice in a queue that one has left or joined, or that was served
@@ -76,11 +59,11 @@ module _ {T : Type 0} where
       record { within = omega (arith, fewer, k.within); gets = k.gets; adds = once-without ticket d.adds k.adds }
 
   pub kept-get_enters : (d : State T) (wait : Bool) (reply : GetEnterReply T) (d' : State T) → IsKept d → GetEnters d wait reply d' → IsKept d'
-  kept-get_enters d wait get.Closed d' k e = kept-same d d' k e.1
-  kept-get_enters d wait (get.Object value) d' k e =
+  kept-get_enters d wait GetEnterReply.Closed d' k e = kept-same d d' k e.1
+  kept-get_enters d wait (GetEnterReply.Object value) d' k e =
       kept-after (handed d) d' (owed-handed d value e.2 (record { within = k.within; gets = k.gets; adds = k.adds })) e.3
-  kept-get_enters d wait get.Full d' k e = kept-same d d' k e.3
-  kept-get_enters d wait (get.Waiting ticket) d' k e =
+  kept-get_enters d wait GetEnterReply.Full d' k e = kept-same d d' k e.3
+  kept-get_enters d wait (GetEnterReply.Waiting ticket) d' k e =
       subst IsKept (sym e.4) (record {
         objects = λ is some. absurd (omega (arith, some, e.1));
         room = k.room;
@@ -88,11 +71,11 @@ module _ {T : Type 0} where
         gets = once-joined ticket d.gets e.3 k.gets;
         adds = k.adds;
       })
-  kept-get_enters d wait get.OutOfMemory d' k e = kept-same d d' k e.3
+  kept-get_enters d wait GetEnterReply.OutOfMemory d' k e = kept-same d d' k e.3
 
   pub kept-get_asks : (d : State T) (ticket : ℕ) (expired : Bool) (reply : GetAskReply T) (d' : State T) → IsKept d → GetAsks d ticket expired reply d' → IsKept d'
-  kept-get_asks d ticket expired get_ask.Unknown d' k e = kept-same d d' k e.1
-  kept-get_asks d ticket expired get_ask.Closed d' k e =
+  kept-get_asks d ticket expired GetAskReply.Unknown d' k e = kept-same d d' k e.1
+  kept-get_asks d ticket expired GetAskReply.Closed d' k e =
       subst IsKept (sym e.2) (record {
         objects = λ is some.
             let none = (e.1 is).1 in
@@ -102,21 +85,21 @@ module _ {T : Type 0} where
         gets = once-without ticket d.gets k.gets;
         adds = k.adds;
       })
-  kept-get_asks d ticket expired (get_ask.Object value) d' k e =
+  kept-get_asks d ticket expired (GetAskReply.Object value) d' k e =
       kept-after (handed (without_get ticket d)) d' (owed-handed (without_get ticket d) value e.2 (owed-without_get d ticket k)) e.3
-  kept-get_asks d ticket expired get_ask.Expired d' k e = kept-after (without_get ticket d) d' (owed-without_get d ticket k) e.4
-  kept-get_asks d ticket expired get_ask.Waiting d' k e = kept-same d d' k e.4
+  kept-get_asks d ticket expired GetAskReply.Expired d' k e = kept-after (without_get ticket d) d' (owed-without_get d ticket k) e.4
+  kept-get_asks d ticket expired GetAskReply.Waiting d' k e = kept-same d d' k e.4
 
   pub kept-get_cancels : (d : State T) (ticket : ℕ) (reply : StepReply) (d' : State T) → IsKept d → GetCancels d ticket reply d' → IsKept d'
-  kept-get_cancels d ticket step.Unknown d' k e = kept-same d d' k e.1
-  kept-get_cancels d ticket step.Done d' k e = kept-after (without_get ticket d) d' (owed-without_get d ticket k) e.1
+  kept-get_cancels d ticket StepReply.Unknown d' k e = kept-same d d' k e.1
+  kept-get_cancels d ticket StepReply.Done d' k e = kept-after (without_get ticket d) d' (owed-without_get d ticket k) e.1
 
   pub kept-add_enters : (d : State T) (value : T) (wait : Bool) (reply : AddEnterReply T) (d' : State T) → IsKept d → AddEnters d value wait reply d' → IsKept d'
-  kept-add_enters d value wait (add.Closed given) d' k e = kept-same d d' k e.2
-  kept-add_enters d value wait add.Stored d' k e =
+  kept-add_enters d value wait (AddEnterReply.Closed given) d' k e = kept-same d d' k e.2
+  kept-add_enters d value wait AddEnterReply.Stored d' k e =
       kept-after (stored value d) d' (owed-stored d value e.1 (record { within = k.within; gets = k.gets; adds = k.adds })) e.2
-  kept-add_enters d value wait (add.Full given) d' k e = kept-same d d' k e.4
-  kept-add_enters d value wait (add.Waiting ticket given) d' k e =
+  kept-add_enters d value wait (AddEnterReply.Full given) d' k e = kept-same d d' k e.4
+  kept-add_enters d value wait (AddEnterReply.Waiting ticket given) d' k e =
       subst IsKept (sym e.5) (record {
         objects = k.objects;
         room = λ is some. absurd (omega (arith, some, e.1));
@@ -124,11 +107,11 @@ module _ {T : Type 0} where
         gets = k.gets;
         adds = once-joined ticket d.adds e.3 k.adds;
       })
-  kept-add_enters d value wait (add.OutOfMemory given) d' k e = kept-same d d' k e.4
+  kept-add_enters d value wait (AddEnterReply.OutOfMemory given) d' k e = kept-same d d' k e.4
 
   pub kept-add_asks : (d : State T) (ticket : ℕ) (value : T) (reply : AddAskReply T) (d' : State T) → IsKept d → AddAsks d ticket value reply d' → IsKept d'
-  kept-add_asks d ticket value (add_ask.Unknown given) d' k e = kept-same d d' k e.2
-  kept-add_asks d ticket value (add_ask.Closed given) d' k e =
+  kept-add_asks d ticket value (AddAskReply.Unknown given) d' k e = kept-same d d' k e.2
+  kept-add_asks d ticket value (AddAskReply.Closed given) d' k e =
       let owed = owed-without_add d ticket k in
       subst IsKept (sym e.3) (record {
         objects = λ is some. absurd (let never : true ≡ false = sym is ∙ e.0 in cc);
@@ -137,12 +120,12 @@ module _ {T : Type 0} where
         gets = owed.gets;
         adds = owed.adds;
       })
-  kept-add_asks d ticket value add_ask.Stored d' k e =
+  kept-add_asks d ticket value AddAskReply.Stored d' k e =
       let fewer = without_number-fewer ticket d.adds.granted e.1 in
       let free : 0 < free_room (without_add ticket d) = omega (arith, fewer, k.within) in
       kept-after (stored value (without_add ticket d)) d' (owed-stored (without_add ticket d) value free (owed-without_add d ticket k)) e.2
-  kept-add_asks d ticket value (add_ask.Waiting given) d' k e = kept-same d d' k e.4
+  kept-add_asks d ticket value (AddAskReply.Waiting given) d' k e = kept-same d d' k e.4
 
   pub kept-add_cancels : (d : State T) (ticket : ℕ) (reply : StepReply) (d' : State T) → IsKept d → AddCancels d ticket reply d' → IsKept d'
-  kept-add_cancels d ticket step.Unknown d' k e = kept-same d d' k e.1
-  kept-add_cancels d ticket step.Done d' k e = kept-after (without_add ticket d) d' (owed-without_add d ticket k) e.1
+  kept-add_cancels d ticket StepReply.Unknown d' k e = kept-same d d' k e.1
+  kept-add_cancels d ticket StepReply.Done d' k e = kept-after (without_add ticket d) d' (owed-without_add d ticket k) e.1

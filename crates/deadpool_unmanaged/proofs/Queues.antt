@@ -1,11 +1,5 @@
 -- Who is in a queue, and what was granted there, as one leaves, joins, or some are granted what they ask for.
-use Rattle.std.proofs.Common.{◌≡◌, ℕ, ◌+◌, ◌-◌, ◌<◌, ◌≤◌, [], ◌∷◌, ◌++◌, Bool, true, false, cond, length, take, drop, min, sym, ap, ◌∙◌, append_assoc, arith, inl, inr, length-append, length-take}
-use Rattle.std.proofs.lemmas.Bool.{cases_lt, cond_both}
-use Rattle.std.proofs.lemmas.List.{take-append-drop}
-use Rattle.std.proofs.Math.ListN.{drop_of_length-le}
-use Rattle.deadpool_gate.specs.Numbers.{without_number}
-use Rattle.deadpool_gate.specs.Queue.{Queue, members, joined, without, served}
-use Rattle.deadpool_gate.proofs.Numbers.{without_number-append}
+use Rattle.deadpool_unmanaged.proofs.Words.{◌≡◌, ℕ, ◌+◌, ◌-◌, ◌<◌, ◌≤◌, [], ◌∷◌, ◌++◌, Bool, true, false, cond, length, take, drop, min, sym, ap, ◌∙◌, append_assoc, arith, inl, inr, length-append, length-take, cases_lt, cond_both, take-append-drop, drop_of_length-le, without_number, Queue, members, joined, without, served, without_number-append}
 
 -- the members, as one leaves, joins, or some are granted what they ask for
 pub members-without : (n : ℕ) (q : Queue) → members (without n q) ≡ without_number n (members q)

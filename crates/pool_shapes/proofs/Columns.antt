@@ -1,9 +1,5 @@
 -- A list that grows by what each element of another list becomes, or that is changed so in its place.
-use Rattle.std.proofs.Common.{◌≡◌, ℕ, ◌+◌, ◌<◌, ◌≤◌, List, [], ◌∷◌, ◌++◌, Some, length, set, refl, sym, ◌∙◌, subst, arith, inl, inr}
-use Rattle.std.specs.List.{slice_get}
-use Rattle.std.proofs.lemmas.Bool.Decides.{eqb_tells}
-use Rattle.std.proofs.lemmas.List.{length-set}
-use Rattle.deadpool_gate.proofs.Lists.{get-append, get-set_same, get-set_other}
+use Rattle.pool_shapes.proofs.Words.{◌≡◌, ℕ, ◌+◌, ◌<◌, ◌≤◌, List, [], ◌∷◌, ◌++◌, Some, length, set, refl, sym, ◌∙◌, subst, arith, inl, inr, slice_get, eqb_tells, length-set, get-append, get-set_same, get-set_other}
 
 -- the element that was added
 get-last : {X : Type 0} (xs : List X) (x : X) → slice_get (xs ++ x ∷ []) (length xs) ≡ Some x

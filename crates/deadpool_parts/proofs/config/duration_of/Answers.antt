@@ -1,5 +1,4 @@
-use Rattle.std.proofs.Common.{arith}
-use Rattle.std.proofs.lemmas.Grind.{common_steps}
+use Rattle.deadpool_parts.proofs.Words.{arith, common_steps}
 use Rattle.serde_json.proofs.Views.{members_len-members_view}
 use Rattle.deadpool_parts.proofs.config.duration_of.Goals as goal
 

@@ -1,8 +1,5 @@
-use Rattle.std.proofs.Common.{rules, ◌≡◌, ◌∙◌, nat_lt, length, vec_len, arith, not}
-use Rattle.std.specs.List.{position_or_len}
-use Rattle.std.proofs.lemmas.List.Sums.{prefix_len-le-length}
-use Rattle.deadpool_parts.proofs.Places.{place_or_end}
-use Rattle.deadpool_parts.proofs.Numbered.{inserted_at_place}
+use Rattle.deadpool_parts.proofs.Words.{rules, ◌≡◌, ◌∙◌, nat_lt, length, vec_len, arith, not, position_or_len, prefix_len-le-length}
+use Rattle.deadpool_parts.proofs.{Places.place_or_end, Numbered.inserted_at_place}
 use Rattle.deadpool_parts.proofs.tables.put_in.Goals as goal
 
 pub insert-requires : goal.insert-requires

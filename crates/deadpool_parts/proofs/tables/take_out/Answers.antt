@@ -1,7 +1,4 @@
-use Rattle.std.proofs.Common.{◌≡◌, ◌==◌, Some, None, sym}
-use Rattle.std.specs.List.{position}
-use Rattle.deadpool_parts.proofs.Places.{found_at_place, nothing_found}
-use Rattle.deadpool_parts.proofs.Numbered.{removed_at_place, none_there}
+use Rattle.deadpool_parts.proofs.{Words.◌≡◌, Words.◌==◌, Words.Some, Words.None, Words.sym, Words.position, Places.found_at_place, Places.nothing_found, Numbered.removed_at_place, Numbered.none_there}
 use Rattle.deadpool_parts.proofs.tables.take_out.Goals as goal
 
 pub returns-in-Some-clause-item : goal.returns-in-Some-clause-item

@@ -1,7 +1,4 @@
-use Rattle.std.proofs.Common.{◌≡◌, length}
-use Rattle.deadpool_replay.specs.Look.{look_of}
-use Rattle.pool_shapes.specs.Shapes.{shape_of}
-use Rattle.pool_shapes.proofs.Columns.{IsDone}
+use Rattle.pool_shapes.proofs.{Words.◌≡◌, Words.length, Words.look_of, Words.shape_of, Columns.IsDone}
 use Rattle.pool_shapes.proofs.parties.show_parties.Given as goal
 
 abbrev pub invariant-loop-party : goal.invariant-loop-party

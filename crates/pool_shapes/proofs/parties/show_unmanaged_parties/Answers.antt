@@ -1,8 +1,5 @@
-use Rattle.std.proofs.Common.{◌∙◌, None, arith, rules, length-append}
-use Rattle.std.proofs.lemmas.Option.{slice_get-get_or, slice_get_within}
-use Rattle.deadpool_unmanaged_replay.specs.Look.{look_of}
+use Rattle.pool_shapes.proofs.Words.{◌∙◌, None, arith, rules, length-append, slice_get-get_or, slice_get_within, unmanaged_look_of as look_of, unmanaged_shape_of}
 use Rattle.pool_shapes.proofs.Columns.{one_more}
-use Rattle.pool_shapes.specs.Shapes.{unmanaged_shape_of}
 use Rattle.pool_shapes.proofs.parties.show_unmanaged_parties.Goals as goal
 
 pub loop-party-preserved : goal.loop-party-preserved

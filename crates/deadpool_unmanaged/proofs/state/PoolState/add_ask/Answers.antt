@@ -1,7 +1,4 @@
-use Rattle.std.proofs.Common.{◌∙◌, not, refl, sym, ap}
-use Rattle.deadpool_unmanaged.specs.State.{settled}
-use Rattle.deadpool_unmanaged.specs.StateSteps.{stored}
-use Rattle.deadpool_gate.proofs.GateAnswers.{asked-granted, asked-waiting, asked-closed, asked-unknown}
+use Rattle.deadpool_unmanaged.proofs.Words.{◌∙◌, not, refl, sym, ap, settled, stored, asked-granted, asked-waiting, asked-closed, asked-unknown}
 use Rattle.deadpool_unmanaged.proofs.CoreQueues.{adds-same, adds-without, IsSound-adds, room-left}
 use Rattle.deadpool_unmanaged.proofs.state.PoolState.add_ask.Goals as goal
 

@@ -1,7 +1,4 @@
-use Rattle.std.proofs.Common.{◌∙◌, ap}
-use Rattle.deadpool_unmanaged.specs.State.{settled}
-use Rattle.deadpool_gate.proofs.GateAnswers.{withdrawn-unknown, withdrawn-known}
-use Rattle.deadpool_unmanaged.proofs.CoreQueues.{adds-same, adds-without, IsSound-adds}
+use Rattle.deadpool_unmanaged.proofs.{Words.◌∙◌, Words.ap, Words.settled, Words.withdrawn-unknown, Words.withdrawn-known, CoreQueues.adds-same, CoreQueues.adds-without, CoreQueues.IsSound-adds}
 use Rattle.deadpool_unmanaged.proofs.state.PoolState.add_cancel.Goals as goal
 
 pub invariant_of-self : goal.invariant_of-self

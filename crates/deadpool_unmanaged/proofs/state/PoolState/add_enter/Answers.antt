@@ -1,6 +1,4 @@
-use Rattle.std.proofs.Common.{not, ap, refl, sym, ◌∙◌}
-use Rattle.deadpool_gate.proofs.GateAnswers.{entered-waiting, unlisted}
-use Rattle.deadpool_unmanaged.proofs.CoreQueues.{adds-joined, queue-full}
+use Rattle.deadpool_unmanaged.proofs.{Words.not, Words.ap, Words.refl, Words.sym, Words.◌∙◌, Words.entered-waiting, Words.unlisted, CoreQueues.adds-joined, CoreQueues.queue-full}
 use Rattle.deadpool_unmanaged.proofs.state.PoolState.add_enter.Goals as goal
 
 pub returns-in-Waiting-clause-enters : goal.returns-in-Waiting-clause-enters

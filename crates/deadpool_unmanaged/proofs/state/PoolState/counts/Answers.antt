@@ -1,5 +1,4 @@
-use Rattle.std.proofs.Common.{◌≡◌, ◌∙◌, length, vec_len, rules, refl}
-use Rattle.deadpool_gate.proofs.GateTickets.{granted_count-length, waiting_count-length}
+use Rattle.deadpool_unmanaged.proofs.Words.{◌≡◌, ◌∙◌, length, vec_len, rules, refl, granted_count-length, waiting_count-length}
 use Rattle.deadpool_unmanaged.proofs.state.PoolState.counts.Goals as goal
 
 pub returns : goal.returns

@@ -1,5 +1,4 @@
-use Rattle.std.proofs.Common.{◌∙◌, arith}
-use Rattle.deadpool_gate.proofs.GateTickets.{granted_count-length}
+use Rattle.deadpool_unmanaged.proofs.Words.{◌∙◌, arith, granted_count-length}
 use Rattle.deadpool_unmanaged.proofs.state.PoolState.free_objects.Goals as goal
 
 pub returns : goal.returns

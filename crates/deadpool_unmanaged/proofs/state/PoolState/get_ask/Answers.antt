@@ -1,9 +1,4 @@
-use Rattle.std.proofs.Common.{◌∙◌, not, sym, ap}
-use Rattle.std.proofs.lemmas.Bool.{or_left}
-use Rattle.deadpool_gate.specs.Gate.{without_waiter}
-use Rattle.deadpool_unmanaged.specs.State.{settled}
-use Rattle.deadpool_unmanaged.specs.StateSteps.{handed}
-use Rattle.deadpool_gate.proofs.GateAnswers.{asked-granted, asked-waiting, asked-closed, asked-unknown}
+use Rattle.deadpool_unmanaged.proofs.Words.{◌∙◌, not, sym, ap, or_left, without_waiter, settled, handed, asked-granted, asked-waiting, asked-closed, asked-unknown}
 use Rattle.deadpool_unmanaged.proofs.CoreQueues.{gets-same, gets-without, none_idle, closed_or_open}
 use Rattle.deadpool_unmanaged.proofs.state.PoolState.get_ask.Goals as goal
 

@@ -1,7 +1,4 @@
-use Rattle.std.proofs.Common.{◌∙◌, ap}
-use Rattle.deadpool_unmanaged.specs.State.{settled}
-use Rattle.deadpool_gate.proofs.GateAnswers.{withdrawn-unknown, withdrawn-known}
-use Rattle.deadpool_unmanaged.proofs.CoreQueues.{gets-same, gets-without}
+use Rattle.deadpool_unmanaged.proofs.{Words.◌∙◌, Words.ap, Words.settled, Words.withdrawn-unknown, Words.withdrawn-known, CoreQueues.gets-same, CoreQueues.gets-without}
 use Rattle.deadpool_unmanaged.proofs.state.PoolState.get_cancel.Goals as goal
 
 pub returns-in-Unknown : goal.returns-in-Unknown

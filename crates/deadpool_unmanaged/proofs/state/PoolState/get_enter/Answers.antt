@@ -1,6 +1,4 @@
-use Rattle.std.proofs.Common.{not, ap, refl, sym, ◌∙◌}
-use Rattle.deadpool_gate.proofs.GateAnswers.{entered-waiting, unlisted}
-use Rattle.deadpool_unmanaged.proofs.CoreQueues.{gets-joined, queue-full}
+use Rattle.deadpool_unmanaged.proofs.{Words.not, Words.ap, Words.refl, Words.sym, Words.◌∙◌, Words.entered-waiting, Words.unlisted, CoreQueues.gets-joined, CoreQueues.queue-full}
 use Rattle.deadpool_unmanaged.proofs.state.PoolState.get_enter.Goals as goal
 
 pub returns-in-Waiting-clause-enters : goal.returns-in-Waiting-clause-enters

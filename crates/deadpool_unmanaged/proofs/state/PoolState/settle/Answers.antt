@@ -1,7 +1,4 @@
-use Rattle.std.proofs.Common.{◌≡◌, length, arith}
-use Rattle.deadpool_gate.specs.Gate.{waiting_tickets}
-use Rattle.deadpool_gate.proofs.GateTickets.{waiting_count-length}
-use Rattle.deadpool_unmanaged.proofs.CoreQueues.{state_of-settled, state_of-quiet}
+use Rattle.deadpool_unmanaged.proofs.{Words.◌≡◌, Words.length, Words.arith, Words.waiting_tickets, Words.waiting_count-length, CoreQueues.state_of-settled, CoreQueues.state_of-quiet}
 use Rattle.deadpool_unmanaged.proofs.state.PoolState.settle.Goals as goal
 
 pub returns-then-waiting-gt0 : goal.returns-then-waiting-gt0

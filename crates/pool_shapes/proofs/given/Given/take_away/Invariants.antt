@@ -1,5 +1,4 @@
-use Rattle.pool_shapes.specs.Given.{left_without}
-use Rattle.pool_shapes.proofs.Columns.{IsChanged}
+use Rattle.pool_shapes.proofs.{Words.left_without, Columns.IsChanged}
 use Rattle.pool_shapes.proofs.given.Given.take_away.Given as goal
 
 abbrev pub invariant-loop-party : goal.invariant-loop-party
