@@ -1,4 +1,4 @@
-// Which idle objects a retain keeps, as the caller chose beforehand by their order.
+//! Which idle objects a retain keeps, as the caller chose beforehand by their order.
 ghost use Rattle.std.specs.Prelude.{◌≡◌, drop};
 ghost use Rattle.deadpool_c.specs.Choices.{is_kept};
 
@@ -7,6 +7,7 @@ use deadpool_desk::{Metrics, Retainer};
 /// A byte for each object that is still to be asked about: one that is 0 lets its object go. Those beyond stay.
 #[derive(Drop)]
 pub struct Choice<'a> {
+    /// The bytes, from the front of the idle objects on.
     pub keep: &'a [u8],
 }
 

@@ -18,51 +18,73 @@ pub struct NotedStep {
     pub is_set: bool,
     /// The ticket, the allowance, the number of an object, or the limit that the step was given.
     pub number: usize,
+    /// The reply that the step had.
     pub reply: Reply,
     /// Of `STATUS` how the pool stood.
     pub standing: Standing,
 }
 
+/// There is no entry at this position.
 pub const NO_ENTRY: u64 = 0;
 
+/// A new get has asked for a place.
 pub const ENTER: u64 = 1;
 
+/// A queued get has asked by its ticket.
 pub const ASK: u64 = 2;
 
+/// A get that holds a place went on.
 pub const AGAIN: u64 = 3;
 
+/// A get has given up an object that was idle, and kept its place.
 pub const DISCARD: u64 = 4;
 
+/// A creation has ended well.
 pub const NEW_OBJECT: u64 = 5;
 
+/// A creation has ended without an object.
 pub const FAILED: u64 = 6;
 
+/// A get has given up a new object.
 pub const REFUSED: u64 = 7;
 
+/// An object came back.
 pub const BACK: u64 = 8;
 
+/// A get in the queue was given up.
 pub const CANCEL_TICKET: u64 = 9;
 
+/// A get was given up that held a place and nothing else.
 pub const CANCEL_PLACE: u64 = 10;
 
+/// A get was given up with a creation under way.
 pub const CANCEL_CREATION: u64 = 11;
 
+/// A get was given up with an object under preparation.
 pub const CANCEL_OBJECT: u64 = 12;
 
+/// The pool was asked how it stands.
 pub const STATUS: u64 = 13;
 
+/// An object was to leave the pool for good.
 pub const TAKE: u64 = 14;
 
+/// The pool was given another limit.
 pub const RESIZE: u64 = 15;
 
+/// Each idle object was asked about.
 pub const RETAIN: u64 = 16;
 
+/// The pool has closed.
 pub const CLOSE: u64 = 17;
 
+/// A handle was to be counted.
 pub const CLONE_HANDLE: u64 = 18;
 
+/// A handle was given back.
 pub const DROP_HANDLE: u64 = 19;
 
+/// An owner that has none asked for one handle more.
 pub const UPGRADE: u64 = 20;
 
 fn step(step: u64, is_set: bool, number: usize, reply: Reply) -> NotedStep
@@ -82,12 +104,14 @@ fn step(step: u64, is_set: bool, number: usize, reply: Reply) -> NotedStep
     }
 }
 
+/// What is read where no entry stands.
 pub fn no_entry() -> NotedStep
     ensures { result ≡ noted_at None }
 {
     step(NO_ENTRY, false, 0, plain(UNKNOWN))
 }
 
+/// An entry as plain numbers.
 pub fn noted(entry: &Entry) -> NotedStep
     ensures { result ≡ noted_at (Some entry.now) }
 {

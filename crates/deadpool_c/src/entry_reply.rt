@@ -1,4 +1,5 @@
-// Replies of the steps in a journal, objects by number, as plain numbers.
+//! Replies of the steps in a journal, objects by number, as plain numbers. What a kind says is said at its constant in
+//! `reply.rt`.
 ghost use Rattle.std.specs.Prelude.{◌≡◌, length};
 ghost use Rattle.deadpool_c.specs.EntryReplies.{noted_serving, noted_enter, noted_ask, noted_again, noted_back, noted_retain, noted_resize};
 

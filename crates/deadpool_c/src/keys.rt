@@ -1,4 +1,4 @@
-// Keys that are written for the caller.
+//! Keys that are written for the caller.
 ghost use Rattle.deadpool_c.specs.Keys.{Writes};
 
 /// Writes the first of these keys to the front of `to`, as far as it reaches.

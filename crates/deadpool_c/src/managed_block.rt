@@ -13,6 +13,7 @@ use std::marker::Model;
 #[repr(C)]
 #[derive(Drop)]
 pub struct ManagedPool {
+    /// Where its state lies, or null.
     pub at: *mut u8,
     alloc: Global,
     pub ghost state: { ManagedState } by { managed_coded },
@@ -23,6 +24,7 @@ impl Model for ManagedPool {
 }
 
 impl ManagedPool {
+    /// The pool with this state.
     pub fn of(state: Box<ManagedState>) -> ManagedPool
         ensures made { InBlock result.at }
         ensures state { result.state ≡ state.value }
@@ -34,6 +36,7 @@ impl ManagedPool {
         }
     }
 
+    /// Its state. Its pointer is not null.
     pub fn into_state(self) -> Box<ManagedState>
         requires { InBlock self.at }
         ensures { result.value ≡ self.state }

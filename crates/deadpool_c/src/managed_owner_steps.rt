@@ -1,4 +1,5 @@
-// The steps of a managed pool's owner, each on a pool that is taken and given back, and what is read without a step.
+//! The steps of a managed pool's owner, each on a pool that is taken and given back, and what is read without a step. What
+//! each does is said at its export in `managed_owner.rt`.
 ghost use Rattle.std.specs.Prelude.{◌≡◌, ◌==◌, not, slice_get};
 ghost use denote.RawPtr.{InBlock};
 ghost use Rattle.deadpool_desk.specs.DeskSteps.{surplus};

@@ -1,4 +1,4 @@
-// Replies of a managed pool's steps as plain numbers.
+//! Replies of a managed pool's steps as plain numbers. What a kind says is said at its constant in `reply.rt`.
 ghost use Rattle.std.specs.Prelude.{◌≡◌};
 ghost use Rattle.deadpool_c.specs.Replies.{of_object};
 ghost use Rattle.deadpool_c.specs.ManagedReplies.{raw_serving, raw_enter, raw_ask, raw_again, raw_created, raw_back, raw_take, raw_resize};

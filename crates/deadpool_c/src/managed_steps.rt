@@ -1,4 +1,5 @@
-// The steps of a managed pool, each on a pool that is taken and given back.
+//! The steps of a managed pool, each on a pool that is taken and given back. What a step does is said at its export in
+//! `managed.rt`.
 ghost use Rattle.std.specs.Prelude.{◌≡◌, [], IfOk};
 ghost use denote.RawPtr.{InBlock};
 ghost use Rattle.deadpool_desk.specs.DeskState.{new_core};
@@ -17,9 +18,13 @@ use std::alloc::{AllocError, Global};
 
 /// What a pool is opened with.
 pub struct Opening {
+    /// How many objects there may be.
     pub limit: usize,
+    /// Whether the newest idle object is given first, and not the oldest.
     pub is_lifo: bool,
+    /// How many entries its journal has room for.
     pub most_entries: usize,
+    /// How many objects a resize and a retain leave idle, if as many are.
     pub min_idle: usize,
 }
 

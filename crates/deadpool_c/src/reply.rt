@@ -23,60 +23,87 @@ pub struct Reply {
 #[repr(C)]
 #[derive(Clone, Copy, Debug, PartialEq, Eq)]
 pub struct Standing {
+    /// How many objects there may be.
     pub max_size: usize,
+    /// How many there are: idle, under preparation or out.
     pub size: usize,
+    /// How many are idle, in a managed pool less the gets that have no object yet.
     pub available: usize,
+    /// How many gets wait, in a managed pool less the idle objects.
     pub waiting: usize,
 }
 
+/// What the call names is not there, and nothing has changed: no such ticket, object or key, nothing held, nobody
+/// to wake.
 pub const UNKNOWN: u64 = 0;
 
+/// The step is made. With it comes what the call says.
 pub const DONE: u64 = 1;
 
+/// The get is given an idle object: its key, and of a managed pool its number and how many more this poll may take.
 pub const OBJECT: u64 = 2;
 
+/// The get has begun a creation, which is counted.
 pub const CREATE: u64 = 3;
 
+/// Objects are idle, but this poll may take no more. The get keeps its place.
 pub const GOING: u64 = 4;
 
+/// No object number is left. The get has no place any more.
 pub const EXHAUSTED: u64 = 5;
 
+/// The pool is closed. With it comes the key that an add brought.
 pub const CLOSED: u64 = 6;
 
+/// Nothing is free, and the get or the add does not wait. With it comes the key that an add brought.
 pub const FULL: u64 = 7;
 
+/// The get or the add is in the queue; one that has joined it is given its ticket. With it comes the key that an
+/// add brought.
 pub const WAITING: u64 = 8;
 
+/// There was no memory, and nothing has changed. With it comes the key that an add brought.
 pub const OUT_OF_MEMORY: u64 = 9;
 
+/// The get has waited long enough, and left the queue.
 pub const EXPIRED: u64 = 10;
 
+/// The creation has ended well: the new object has this number.
 pub const CREATED: u64 = 11;
 
+/// The pool keeps the object.
 pub const KEPT: u64 = 12;
 
+/// The object leaves the pool, and has to be detached.
 pub const DETACH: u64 = 13;
 
+/// The pool gives the object up, and it is not detached.
 pub const DROPPED: u64 = 14;
 
+/// The object has left for good, and is not detached.
 pub const TAKEN: u64 = 15;
 
+/// The pool has the object that the add brought.
 pub const STORED: u64 = 16;
 
+/// No handle is left, and nothing has changed.
 pub const NO_HANDLE: u64 = 17;
 
+/// A reply of this kind, with nothing else.
 pub fn plain(kind: u64) -> Reply
     ensures { result ≡ plain kind }
 {
     numbered(kind, 0)
 }
 
+/// A reply of this kind, with a number.
 pub fn numbered(kind: u64, number: usize) -> Reply
     ensures { result ≡ numbered kind number }
 {
     keyed(kind, number, 0)
 }
 
+/// A reply of this kind, with a number and a key.
 pub fn keyed(kind: u64, number: usize, key: u64) -> Reply
     ensures { result ≡ keyed kind number key }
 {
@@ -88,6 +115,7 @@ pub fn keyed(kind: u64, number: usize, key: u64) -> Reply
     }
 }
 
+/// The reply to a step that is made or not.
 pub fn step(reply: StepReply) -> Reply
     ensures { result ≡ raw_step reply }
 {
@@ -97,6 +125,7 @@ pub fn step(reply: StepReply) -> Reply
     }
 }
 
+/// The reply to a handle that is counted or given back.
 pub fn handle(reply: HandleReply) -> Reply
     ensures { result ≡ raw_handle reply }
 {
@@ -106,6 +135,7 @@ pub fn handle(reply: HandleReply) -> Reply
     }
 }
 
+/// The ticket that is to be woken, if there is one.
 pub fn wake(ticket: Option<Ticket>) -> Reply
     ensures { result ≡ raw_wake ticket }
 {
@@ -115,6 +145,7 @@ pub fn wake(ticket: Option<Ticket>) -> Reply
     }
 }
 
+/// How a pool stands, as plain numbers.
 pub fn stood(status: Status) -> Standing
     ensures { result ≡ raw_standing status }
 {

@@ -13,6 +13,7 @@ use std::marker::Model;
 #[repr(C)]
 #[derive(Drop)]
 pub struct UnmanagedPool {
+    /// Where its state lies, or null.
     pub at: *mut u8,
     alloc: Global,
     pub ghost state: { UnmanagedState } by { unmanaged_coded },
@@ -23,6 +24,7 @@ impl Model for UnmanagedPool {
 }
 
 impl UnmanagedPool {
+    /// The pool with this state.
     pub fn of(state: Box<UnmanagedState>) -> UnmanagedPool
         ensures made { InBlock result.at }
         ensures state { result.state ≡ state.value }
@@ -34,6 +36,7 @@ impl UnmanagedPool {
         }
     }
 
+    /// Its state. Its pointer is not null.
     pub fn into_state(self) -> Box<UnmanagedState>
         requires { InBlock self.at }
         ensures { result.value ≡ self.state }

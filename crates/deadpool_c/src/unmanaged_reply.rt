@@ -1,4 +1,4 @@
-// Replies of an unmanaged pool's steps as plain numbers.
+//! Replies of an unmanaged pool's steps as plain numbers. What a kind says is said at its constant in `reply.rt`.
 ghost use Rattle.std.specs.Prelude.{◌≡◌};
 ghost use Rattle.deadpool_c.specs.UnmanagedReplies.{raw_get_enter, raw_get_ask, raw_add_enter, raw_add_ask, raw_back, raw_take};
 

@@ -1,4 +1,5 @@
-// The steps of an unmanaged pool, each on a pool that is taken and given back, and what is read without a step.
+//! The steps of an unmanaged pool, each on a pool that is taken and given back, and what is read without a step. What each
+//! does is said at its export in `unmanaged.rt`.
 ghost use Rattle.std.specs.Prelude.{◌≡◌, ◌==◌, [], not, slice_get, IfOk};
 ghost use denote.RawPtr.{InBlock};
 ghost use Rattle.deadpool_unmanaged.specs.State.{opened, status_of};

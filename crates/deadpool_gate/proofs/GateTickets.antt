@@ -1,7 +1,7 @@
 -- What the callers of a gate need of its two lists of tickets, those with a place and those that wait for one.
-use Rattle.std.proofs.Common.{◌≡◌, ℕ, zero, suc, ◌+◌, Bool, true, false, not, eqb, List, [], ◌∷◌, ◌++◌, length, map, Option, Some, None, unwrap_or, refl, sym, ap, ◌∙◌, inl, inr, arith}
+use Rattle.std.proofs.Common.{◌≡◌, ℕ, zero, suc, ◌+◌, Bool, true, false, not, eqb, List, [], ◌∷◌, ◌++◌, length, map, Option, Some, None, refl, sym, ap, ◌∙◌, inl, inr, arith}
 use Rattle.std.specs.List.{filter}
-use Rattle.std.specs.Option.{option_map}
+use Rattle.std.specs.Option.{option_map_or}
 use Rattle.std.proofs.lemmas.Bool.{cases_Bool, eqb-true, not_from_true, not_from_false}
 use Rattle.std.proofs.lemmas.List.{map-append, append-nil, length-map}
 use Rattle.std.proofs.lemmas.List.Elements.{filter-append}
@@ -125,7 +125,7 @@ has_number_waiting t ws w apart found lacks = (
 )
 
 -- the list of those with a place has a ticket if what is found under it has one
-pub has_number_found : (t : ℕ) (ws : List Waiter) (found : Option Waiter) → IsApart ws → find_waiter t ws ≡ found → has_number t (granted_tickets ws) ≡ unwrap_or (option_map (λ w. w.granted) found) false
+pub has_number_found : (t : ℕ) (ws : List Waiter) (found : Option Waiter) → IsApart ws → find_waiter t ws ≡ found → has_number t (granted_tickets ws) ≡ option_map_or (λ w. w.granted) found false
 has_number_found t ws None apart is = (has_number_unlisted t ws is).0
 has_number_found t ws (Some w) apart is =
     elim (cases_Bool w.granted) [

@@ -282,8 +282,6 @@ impl Gate {
         ensures value { result ≡ option_map (λ w. w.granted) (find_waiter key self.old.waiters) }
         ensures waiters { self.new.waiters ≡ self.old.waiters }
         ensures closed { self.new.is_closed ≡ self.old.is_closed }
-        ensures capacity { self.new.capacity ≡ self.old.capacity }
-        ensures next { self.new.next_ticket ≡ self.old.next_ticket }
         ensures accesses { RisesAtMost 1 self.old.accesses self.new.accesses }
         ensures before { self.new.accesses_before ≡ self.old.accesses_before }
     {
@@ -302,7 +300,10 @@ impl Gate {
         ensures before { self.new.accesses_before ≡ self.old.accesses }
     {
         self.accesses_before = self.store.accesses();
-        self.is_granted(ticket.number).unwrap_or(false)
+        match self.store.read(ticket.number) {
+            Some(node) => node.granted,
+            None => false,
+        }
     }
 
     /// Says how a waiter stands. After `Closed` or `Granted` it has left the list, and its ticket is void. After

@@ -260,6 +260,7 @@ impl<T: Drop> Desk<T> for Journaled<T> {
     }
 
     fn cancel(&mut self, held: Held) -> StepReply {
+        // A copy: a call moves what may hold a ticket.
         let what = held;
         let reply = self.core.cancel(held);
         self.log.add(Entry::Cancel(what, reply));

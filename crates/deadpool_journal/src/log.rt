@@ -1,4 +1,7 @@
 //! A list of entries with room for so many.
+//!
+//! Each get through a handle of its own enters, comes back, and counts a handle twice. So for these the mark is looked at first,
+//! and the entry is made in a function that stands apart: once the mark is set none is made.
 ghost use Rattle.std.specs.Prelude.{◌≡◌, ◌≤◌, IfOk, Option, length, nat_lt, true, option_copied, slice_get};
 ghost use Rattle.deadpool_desk.specs.Parts.{IsParted, IsPartedAgain, IsPartedAsk};
 ghost use Rattle.deadpool_desk.specs.declared.desk.AgainReply.{AgainReply};

@@ -52,7 +52,7 @@ impl fmt::Display for Entry {
             Entry::Refused(reply) => write!(f, "refused {}", step_word(*reply)),
             Entry::Back(number, reply) => write!(f, "back {number} {}", back_word(reply)),
             Entry::Cancel(held, reply) => {
-                write_held(f, *held)?;
+                write_cancel(f, *held)?;
                 f.write_str(step_word(*reply))
             }
             Entry::Status(status) => write_status(f, *status),
@@ -111,7 +111,7 @@ fn write_gone_on<W: fmt::Write>(
     }
 }
 
-fn write_held<W: fmt::Write>(f: &mut fmt::Formatter<W>, held: Held) -> fmt::Result {
+fn write_cancel<W: fmt::Write>(f: &mut fmt::Formatter<W>, held: Held) -> fmt::Result {
     match held {
         Held::Ticket(ticket) => write!(f, "cancel ticket {} ", ticket.number()),
         Held::Place => f.write_str("cancel place "),

@@ -5,6 +5,8 @@ pub mod Names
 pub mod Building
 -- What each get and object holds of the pool's three counts.
 pub mod Counts
+-- What a get gives.
+pub mod Gets
 -- What each step under the lock does to the pool and to the wakers.
 pub mod Locked
 -- What contracts of this crate cite of those below.

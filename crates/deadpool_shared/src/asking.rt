@@ -7,6 +7,7 @@ ghost use Rattle.deadpool_managed.specs.Held.{held_at};
 ghost use Rattle.deadpool_managed.specs.Phases.{stage_of};
 ghost use Rattle.deadpool_managed.specs.declared.work.Phase.TheVariants.{Unpolled};
 ghost use Rattle.deadpool_shared.specs.Counts.{counts, counts_of, had};
+ghost use Rattle.deadpool_shared.specs.Gets.{GivesReady};
 
 use crate::ledgers::Ledgers;
 use crate::object::{Object, OutStake};
@@ -84,7 +85,7 @@ impl<M: Manager, F: SyncHook<M>, A: AsyncHook<M>, C: Clock, R: Wait + Drop, L: L
         ensures stays { OnPending result ((is_some self.new.home || is_some self.new.refusal)
             ≡ (is_some self.old.home || is_some self.old.refusal)) }
         ensures gives { IfReady result
-            (λ ended. IfOk ended (λ w. (o : _) × (M.is_ready o.slot.value × W.from_gives o w))) }
+            (GivesReady W.from_gives (λ o. M.is_ready o.slot.value)) }
         ensures armed { OnPending result (IsArmed cx.new) }
         ensures heard { OnPending result (Hears cx.new shared.now.lock.source.id) }
         ensures kept { Keeps cx.old cx.new }
@@ -179,7 +180,7 @@ fn poll_party<
         had shares.new ≡ counts_of (held_at (stage_of progress.new.phase progress.new.slot))) }
     ensures stays { OnPending result (is_some home.new ≡ true) }
     ensures gives { IfReady result
-        (λ ended. IfOk ended (λ w. (o : _) × (M.is_ready o.slot.value × W.from_gives o w))) }
+        (GivesReady W.from_gives (λ o. M.is_ready o.slot.value)) }
     ensures kept { Keeps cx.old cx.new }
 {
     let mut seat = Seat::new(shared, shares.take(), listener);

@@ -19,6 +19,8 @@ use deadpool_managed::{
     TakeReply,
 };
 
+/// A new get asks for a place, and joins the queue if none is free and `wait` says so. An object that it is given
+/// goes into `place`. The counts have what the reply leaves it.
 #[inline(always)]
 pub fn enter_in<T: Drop>(
     pool: &mut Journaled<T>,
@@ -35,6 +37,8 @@ pub fn enter_in<T: Drop>(
     pool.enter_in(wait, place)
 }
 
+/// A queued get asks by its ticket; `expired` says that it has waited long enough. An object that it is given goes into
+/// `place`. The counts have what the reply leaves it.
 pub fn ask_in<T: Drop>(
     pool: &mut Journaled<T>,
     ticket: Ticket,
@@ -49,6 +53,8 @@ pub fn ask_in<T: Drop>(
     pool.ask_in(ticket, expired, place)
 }
 
+/// A get that holds a place is served, as its allowance says. An object that it is given goes into `place`. The reply
+/// is never `Unknown`.
 pub fn again_in<T: Drop>(
     pool: &mut Journaled<T>,
     allowance: Option<usize>,
@@ -65,6 +71,7 @@ pub fn again_in<T: Drop>(
     pool.again_in(allowance, place)
 }
 
+/// A get gives up an object that was idle, and keeps a place for it. The reply is `Done`.
 pub fn discard<T: Drop>(pool: &mut Journaled<T>) -> StepReply
     requires { 0 < pool.old.core.desk.outside }
     ensures noted { DiscardsNoted pool.old result pool.new }
@@ -74,6 +81,7 @@ pub fn discard<T: Drop>(pool: &mut Journaled<T>) -> StepReply
     pool.discard()
 }
 
+/// A creation has ended well, and an object is held in its stead. The reply is never `Unknown`.
 pub fn created<T: Drop>(pool: &mut Journaled<T>) -> CreatedReply
     requires { 0 < pool.old.core.desk.creations }
     ensures noted { CreatesNoted pool.old result pool.new }
@@ -83,6 +91,7 @@ pub fn created<T: Drop>(pool: &mut Journaled<T>) -> CreatedReply
     pool.created()
 }
 
+/// A creation has ended without an object, and nothing is held in its stead. The reply is `Done`.
 pub fn failed<T: Drop>(pool: &mut Journaled<T>) -> StepReply
     requires { 0 < pool.old.core.desk.creations }
     ensures noted { FailsNoted pool.old result pool.new }
@@ -93,6 +102,7 @@ pub fn failed<T: Drop>(pool: &mut Journaled<T>) -> StepReply
     pool.failed()
 }
 
+/// A get gives up a new object, and nothing is held in its stead. The reply is `Done`.
 pub fn refused<T: Drop>(pool: &mut Journaled<T>) -> StepReply
     requires { 0 < pool.old.core.desk.outside }
     ensures noted { RefusesNoted pool.old result pool.new }
@@ -102,6 +112,7 @@ pub fn refused<T: Drop>(pool: &mut Journaled<T>) -> StepReply
     pool.refused()
 }
 
+/// Takes an object back, which nobody holds afterwards. The reply says what becomes of it, and is never `Unknown`.
 pub fn back<T: Drop>(pool: &mut Journaled<T>, slot: Slot<T>) -> BackReply<Slot<T>>
     requires { 0 < pool.old.core.desk.outside }
     ensures noted { TakesBackNoted pool.old slot result pool.new }
@@ -111,6 +122,8 @@ pub fn back<T: Drop>(pool: &mut Journaled<T>, slot: Slot<T>) -> BackReply<Slot<T
     pool.back(slot)
 }
 
+/// An object that is held leaves the pool for good. The reply says whether it is to be detached, and is never
+/// `Unknown`.
 pub fn take<T: Drop>(pool: &mut Journaled<T>) -> TakeReply
     requires { 0 < pool.old.core.desk.outside }
     ensures noted { TakesNoted pool.old result pool.new }
@@ -120,6 +133,8 @@ pub fn take<T: Drop>(pool: &mut Journaled<T>) -> TakeReply
     pool.take()
 }
 
+/// A get that is given up gives back what it holds, which has to be in the counts. The reply is `Done`, but that a
+/// ticket may be unknown.
 pub fn cancel<T: Drop>(pool: &mut Journaled<T>, held: Held) -> StepReply
     requires places { held ≡ Held.Place → 0 < pool.old.core.desk.going }
     requires creations { held ≡ Held.Creation → 0 < pool.old.core.desk.creations }

@@ -1,6 +1,7 @@
 //! A get, as a future: one that counts as a handle of its pool, and one that borrows a handle.
 ghost use Rattle.std.specs.Prelude.{◌≡◌, ◌||◌, ◌⊎◌, true, is_some, None, IfOk, IfSome, IsSome, IsSomeAnd};
 ghost use Rattle.deadpool_managed.specs.declared.work.Phase.TheVariants.{Unpolled};
+ghost use Rattle.deadpool_shared.specs.Gets.{GivesReady};
 
 use crate::asking::Asking;
 use crate::ledgers::Ledgers;
@@ -98,7 +99,7 @@ where
     ghost needs = { λ get s. IsSomeAnd get.handle (λ handle. s ≡ handle.lock.source.id) };
 
     // A get that has ended gives nothing more.
-    ghost gives = { λ get r. ((is_some get.asking.home || is_some get.asking.refusal) ≡ true) × IfOk r (λ w. (o : _) × (M.is_ready o.slot.value × W.from_gives o w)) };
+    ghost gives = { λ get r. ((is_some get.asking.home || is_some get.asking.refusal) ≡ true) × GivesReady W.from_gives (λ o. M.is_ready o.slot.value) r };
 
     fn poll(&mut self, cx: &mut Context<'_>) -> Poll<Self::Output> {
         let Some(handle) = &self.handle else {
@@ -176,7 +177,7 @@ where
     ghost needs = { λ get s. s ≡ get.handle.now.lock.source.id };
 
     // A get that has ended gives nothing more.
-    ghost gives = { λ get r. ((is_some get.asking.home || is_some get.asking.refusal) ≡ true) × IfOk r (λ w. (o : _) × (M.is_ready o.slot.value × W.from_gives o w)) };
+    ghost gives = { λ get r. ((is_some get.asking.home || is_some get.asking.refusal) ≡ true) × GivesReady W.from_gives (λ o. M.is_ready o.slot.value) r };
 
     fn poll(&mut self, cx: &mut Context<'_>) -> Poll<Self::Output> {
         self.asking.poll(self.timeouts, self.handle.shared(), cx)

@@ -292,6 +292,7 @@ impl<T: Drop, L: Ledgers> Locked<T, L> {
         reply
     }
 
+    /// How the pool stands. It is a step: the journal has it.
     pub fn status(&mut self) -> Status
         ensures stands { StandsNoted self.old.pool result self.new.pool }
         ensures wakers { self.new.wakers ≡ self.old.wakers }
@@ -300,6 +301,7 @@ impl<T: Drop, L: Ledgers> Locked<T, L> {
         pool.status()
     }
 
+    /// Gives the pool another limit. If there was no memory for it the limit stays.
     pub fn resize(&mut self, limit: usize) -> Result<(), AllocError>
         ensures resized { ResizesNoted self.old.pool limit result self.new.pool }
         ensures wakers { self.new.wakers ≡ self.old.wakers }
@@ -308,6 +310,8 @@ impl<T: Drop, L: Ledgers> Locked<T, L> {
         pool.resize(limit)
     }
 
+    /// Asks `retainer` about each idle object, and gives out the values that were removed and how many objects stay. If
+    /// there was no memory for these values, all stay.
     pub fn retain<R: Retainer<T>>(
         &mut self,
         retainer: &mut R,
@@ -322,6 +326,7 @@ impl<T: Drop, L: Ledgers> Locked<T, L> {
         pool.retain(retainer)
     }
 
+    /// Closes the pool for good. All that is idle goes.
     pub fn close(&mut self)
         ensures closed { ClosesNoted self.old.pool self.new.pool }
         ensures wakers { self.new.wakers ≡ self.old.wakers }
@@ -330,6 +335,7 @@ impl<T: Drop, L: Ledgers> Locked<T, L> {
         pool.close();
     }
 
+    /// Counts one handle more, if the pool has one left.
     pub fn clone_handle(&mut self) -> HandleReply
         ensures cloned { ClonesNoted self.old.pool result self.new.pool }
         ensures wakers { self.new.wakers ≡ self.old.wakers }
@@ -338,6 +344,7 @@ impl<T: Drop, L: Ledgers> Locked<T, L> {
         pool.clone_handle()
     }
 
+    /// Counts one handle less. With the last one all that is idle goes.
     pub fn drop_handle(&mut self) -> HandleReply
         ensures dropped { DropsHandleNoted self.old.pool result self.new.pool }
         ensures wakers { self.new.wakers ≡ self.old.wakers }
@@ -346,6 +353,7 @@ impl<T: Drop, L: Ledgers> Locked<T, L> {
         pool.drop_handle()
     }
 
+    /// Counts one handle more for an owner that has none, and says whether the pool had one left.
     pub fn upgrade(&mut self) -> bool
         ensures upgraded { UpgradesNoted self.old.pool result self.new.pool }
         ensures wakers { self.new.wakers ≡ self.old.wakers }

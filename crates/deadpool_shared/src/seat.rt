@@ -91,6 +91,8 @@ impl<'a, M: Manager, F: SyncHook<M>, A: AsyncHook<M>, C: Clock, R: Wait + Drop, 
         reply
     }
 
+    // `enter`, `ask` and `again` as the trait has them: at a type with a lifetime the borrow check covers them only if
+    // they are written here.
     fn enter(&mut self, wait: bool) -> EnterReply<Slot<M::Type>> {
         let mut place = None;
         let rest = self.enter_in(wait, &mut place);

@@ -10,8 +10,8 @@ use std::alloc::Global;
 use std::io::{BufRead, Write};
 use step::{Words, end, make_again, next_number, next_word, words_of};
 
-/// Reads a journal as `Journal` prints it, and writes a picture of its counts: each step is made again on a pool of no values, and
-/// has to have the reply that its line says. A journal that ends before its end is drawn up to there.
+/// Reads a journal as `Journal` prints it, and writes a picture of its counts: each step is made again on a pool of no
+/// values, and has to have the reply that its line says. A journal that ends before its end is drawn up to there.
 pub fn draw_journal<B: BufRead, W: Write>(
     alloc: Global,
     reader: &mut B,

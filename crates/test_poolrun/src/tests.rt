@@ -1,3 +1,4 @@
+//! Scripts, counts between threads and pictures, as the program `poolrun` makes them.
 mod backend;
 mod bad_bytes;
 mod buffers;

@@ -38,8 +38,8 @@ pub fn end(words: &mut Words<'_>) -> Result<(), LineError> {
     }
 }
 
-/// Makes the step that a line names, and gives it with the reply that it has now. A step that is said to have found no memory has
-/// changed nothing, and is not made.
+/// Makes the step that a line names, and gives it with the reply that it has now. A step that is said to have found no
+/// memory has changed nothing, and is not made.
 pub fn make_again(
     alloc: Global,
     core: &mut Core<()>,

@@ -1,3 +1,4 @@
+//! The texts of errors.
 use super::expect;
 use deadpool::unmanaged::PoolError;
 use std::alloc::Global;
