@@ -1,16 +1,35 @@
--- What the steps of a gate do to the core that holds it.
-use Rattle.std.proofs.Common.{◌≡◌, ℕ, ◌+◌, ◌-◌, ◌<◌, ◌≤◌, true, false, not, [], ◌∷◌, ◌++◌, length, take, drop, max, refl, arith}
-use Rattle.deadpool_gate.specs.Gate.{Line, arrived, without_waiter, granted_tickets, waiting_tickets, untold_tickets, IsLine}
-use Rattle.deadpool_gate.specs.Numbers.{has_number, without_number}
-use Rattle.deadpool_gate.proofs.GateTickets.{granted_tickets-arrived, waiting_tickets-arrived, granted_tickets-without_waiter, waiting_tickets-without_waiter, untold_tickets-arrived, untold_tickets-without_waiter, length-both_tickets}
-use Rattle.deadpool_gate.proofs.Numbers.{without_number-shorter, without_number-fewer}
-use Rattle.deadpool_desk.specs.CoreFields.{desk_of, IsSound}
-use Rattle.deadpool_desk.specs.DeskState.{settled}
-use Rattle.deadpool_desk.specs.DeskSteps.{is_listed, unqueued}
-use Rattle.deadpool_desk.specs.Places.{grants_at, held_at}
-use Rattle.deadpool_desk.specs.Settled.{IsSettled}
-use Rattle.deadpool_desk.specs.declared.state.Core.TheInside.{Inside}
-use Rattle.deadpool_desk.proofs.StaysSettled.{closed_settled, granted_settled, joined_settled, left_settled, once-unqueued}
+-- What the steps of a gate do to the core that holds it, which stays settled.
+use Rattle.deadpool_desk.proofs.Names.{◌≡◌, ℕ, ◌+◌, ◌-◌, ◌<◌, ◌≤◌, true, false, not, [], ◌∷◌, ◌++◌, length, take, drop, max, refl, arith, Line, arrived, without_waiter, granted_tickets, waiting_tickets, untold_tickets, IsLine, has_number, without_number, granted_tickets-arrived, waiting_tickets-arrived, granted_tickets-without_waiter, waiting_tickets-without_waiter, untold_tickets-arrived, untold_tickets-without_waiter, length-both_tickets, without_number-shorter, without_number-fewer, desk_of, IsSound, settled, is_listed, unqueued, grants_at, held_at, IsSettled, Inside, ap, ◌∙◌, append_assoc, IsOnce, has_number-append, without_number-append, without_number-same, without_number-one, IsOnce-without, IsOnce-push, IsOnce-front, DeskState, places}
+
+-- What comes to a queue, and what leaves it, leaves a settled state settled.
+module _ {O : Type 0} (d : DeskState O) (ticket : ℕ) (s : IsSettled d) where
+  -- if a get joins the queue, where no place is free
+  joined_settled : d.limit ≤ places d → is_listed ticket d ≡ false → IsSettled (record d { waiting = d.waiting ++ ticket ∷ [] })
+  joined_settled full new = record {
+    nobody_waits = λ is_open free. absurd (omega (arith, full, free));
+    within = s.within;
+    once = rw (← append_assoc d.granted d.waiting (ticket ∷ [])) (IsOnce-push (d.granted ++ d.waiting) ticket s.once (has_number-append ticket d.granted d.waiting ∙ new));
+  }
+
+  -- no ticket stands twice once one has left
+  once-unqueued : IsOnce (without_number ticket d.granted ++ without_number ticket d.waiting)
+  once-unqueued = rw (← without_number-append ticket d.granted d.waiting) (IsOnce-without ticket (d.granted ++ d.waiting) s.once)
+
+  -- if a get leaves the queue that has no place
+  left_settled : has_number ticket d.granted ≡ false → IsSettled (unqueued ticket d)
+  left_settled has =
+      let same = ap length (without_number-same ticket d.granted has) in
+      record { nobody_waits = λ is_open free. ap (without_number ticket) (s.nobody_waits is_open (omega (arith, same, free))); within = s.within; once = once-unqueued }
+
+  -- or if the pool has closed
+  closed_settled : d.is_open ≡ false → IsSettled (unqueued ticket d)
+  closed_settled shut = record { nobody_waits = λ is_open free. cc; within = s.within; once = once-unqueued }
+
+  -- if a get leaves the queue that has a place, which then is one of those going
+  granted_settled : IsSettled (record (unqueued ticket d) { going = d.going + 1 })
+  granted_settled =
+      let one = without_number-one ticket d.granted (IsOnce-front d.granted d.waiting s.once) in
+      record { nobody_waits = λ is_open free. ap (without_number ticket) (s.nobody_waits is_open (omega (arith, one, free))); within = s.within; once = once-unqueued }
 
 module _ {T : Type 0} (core : Inside T) (gate : Line) where
   abbrev with_gate : Inside T

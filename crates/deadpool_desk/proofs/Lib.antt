@@ -1,4 +1,4 @@
+pub mod Names
 pub mod PlacesGranted
 pub mod CoreQueue
 pub mod Reviewing
-pub mod StaysSettled

@@ -1,11 +1,5 @@
 -- What the places that are granted leave of the queue.
-use Rattle.std.proofs.Common.{◌≡◌, ℕ, ◌-◌, ◌<◌, ◌≤◌, zero, suc, Bool, true, false, not, List, [], ◌∷◌, ◌++◌, length, min, take, drop, refl, sym, ap, ◌∙◌, arith, length-append, length-take, append_assoc}
-use Rattle.std.specs.Prelude.{if◌then◌else◌, max}
-use Rattle.std.proofs.lemmas.List.{append-nil, take-append-drop}
-use Rattle.deadpool_gate.specs.Gate.{Line, granted_tickets, waiting_tickets, grant_count}
-use Rattle.deadpool_gate.proofs.GateAnswers.{grant_count-length}
-use Rattle.deadpool_desk.specs.Places.{grants_at, held_at}
-use Rattle.deadpool_desk.specs.declared.state.places.Places.{Places}
+use Rattle.deadpool_desk.proofs.Names.{◌≡◌, ℕ, ◌-◌, ◌<◌, ◌≤◌, zero, suc, Bool, true, false, not, List, [], ◌∷◌, ◌++◌, length, min, take, drop, refl, sym, ap, ◌∙◌, arith, length-append, length-take, append_assoc, if◌then◌else◌, max, append-nil, take-append-drop, Line, granted_tickets, waiting_tickets, grant_count, grant_count-length, grants_at, held_at, Places}
 
 drop_past : (k : ℕ) (xs : List ℕ) → length xs ≤ k → drop k xs ≡ []
 drop_past zero [] h = refl

@@ -1,12 +1,6 @@
 -- How far a retain has come with the idle objects.
-use Rattle.std.proofs.Common.{◌≡◌, ℕ, ◌+◌, ◌-◌, ◌<◌, ◌≤◌, List, [], ◌∷◌, ◌++◌, length, drop, Some, None, slice_get, refl, sym, ap, inl, inr, arith, append-nil, append_assoc, length-append, add-zero, length-drop}
-use Rattle.deadpool_desk.specs.Retains.{Goes, Reviews, ReviewsFrom, Retains, RetainsNoting, Stays}
-use Rattle.std.specs.Prelude.{Ok}
-use Rattle.deadpool_desk.specs.DeskState.{DeskState, least_idle}
-use Rattle.deadpool_desk.specs.Retained.{Retained}
-use Rattle.deadpool_desk.specs.declared.retain.Removal.{Removal}
+use Rattle.deadpool_desk.proofs.Names.{◌≡◌, ℕ, ◌+◌, ◌-◌, ◌<◌, ◌≤◌, List, [], ◌∷◌, ◌++◌, length, drop, Some, None, slice_get, refl, sym, ap, inl, inr, arith, append-nil, append_assoc, length-append, add-zero, length-drop, Goes, Reviews, ReviewsFrom, Retains, RetainsNoting, Stays, Ok, DeskState, least_idle, Retained, Removal, Slot}
 use Rattle.deadpool_desk.specs.declared.retain.Retainer.{Ghosts as RetainerOf}
-use Rattle.deadpool_desk.specs.declared.slot.Slot.{Slot}
 
 -- Of all objects some are not asked about yet. Behind them stand those that were kept, and whatever comes of the former
 -- completes what has come of the others.

@@ -1,4 +1,4 @@
-use Rattle.std.proofs.Common.{◌<◌, ◌≤◌, ◌∙◌, length, sym, arith, rules}
+use Rattle.deadpool_desk.proofs.Names.{◌<◌, ◌≤◌, ◌∙◌, length, sym, arith, rules}
 use Rattle.deadpool_desk.proofs.Reviewing.{review_begins, review_keeps, review_gives_up, review_goes_on, review_ends}
 use Rattle.deadpool_desk.proofs.review.review.Goals as goal
 use Rattle.deadpool_desk.proofs.review.review.Goals.{in-Ok+in-Some-1, in-Ok+in-None-1, in-Err, else-loop-asked-test, then-loop-asked-test+in_default}

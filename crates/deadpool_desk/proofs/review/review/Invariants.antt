@@ -1,4 +1,4 @@
-use Rattle.std.proofs.Common.{◌≡◌, ◌≤◌, length, vec_len, vec_capacity}
+use Rattle.deadpool_desk.proofs.Names.{◌≡◌, ◌≤◌, length, vec_len, vec_capacity}
 use Rattle.deadpool_desk.proofs.Reviewing.{IsReviewing}
 use Rattle.deadpool_desk.proofs.review.review.Given as goal
 

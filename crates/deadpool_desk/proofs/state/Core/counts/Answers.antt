@@ -1,5 +1,4 @@
-use Rattle.std.proofs.Common.{refl, ◌∙◌}
-use Rattle.deadpool_gate.proofs.GateTickets.{granted_count-length, waiting_count-length}
+use Rattle.deadpool_desk.proofs.Names.{refl, ◌∙◌, granted_count-length, waiting_count-length}
 use Rattle.deadpool_desk.proofs.state.Core.counts.Goals as goal
 
 pub returns : goal.returns

@@ -1,4 +1,4 @@
-use Rattle.std.proofs.Common.{length, arith, rules}
+use Rattle.deadpool_desk.proofs.Names.{length, arith, rules}
 use Rattle.deadpool_desk.proofs.Reviewing.{reviews_fewer}
 use Rattle.deadpool_desk.proofs.state.Core.retain_noting.Goals as goal
 

@@ -1,4 +1,4 @@
-use Rattle.std.proofs.Common.{◌<◌, refl, rules}
+use Rattle.deadpool_desk.proofs.Names.{◌<◌, refl, rules}
 use Rattle.deadpool_desk.specs.declared.desk.AgainReply.TheVariants.{Served}
 use Rattle.deadpool_desk.proofs.state.CoreDesk.again_in.Goals as goal
 

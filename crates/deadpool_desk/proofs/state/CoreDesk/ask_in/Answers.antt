@@ -1,7 +1,4 @@
-use Rattle.std.proofs.Common.{◌∙◌, None, not, refl, subst, ap}
-use Rattle.deadpool_gate.specs.Gate.{without_waiter, untold_tickets}
-use Rattle.deadpool_gate.proofs.GateAnswers.{asked-granted, asked-waiting, asked-closed, asked-unknown}
-use Rattle.deadpool_desk.specs.DeskSteps.{Serves}
+use Rattle.deadpool_desk.proofs.Names.{◌∙◌, None, not, refl, subst, ap, without_waiter, untold_tickets, asked-granted, asked-waiting, asked-closed, asked-unknown, Serves}
 use Rattle.deadpool_desk.specs.declared.desk.AskReply.TheVariants as reply
 use Rattle.deadpool_desk.proofs.CoreQueue.{IsSound-same, IsSound-left, IsSound-closed, IsSound-going, desk_of-same, desk_of-unqueued, desk_of-going, untold-without}
 use Rattle.deadpool_desk.proofs.state.CoreDesk.ask_in.Goals as goal

@@ -1,7 +1,4 @@
-use Rattle.std.proofs.Common.{◌∙◌, ap, arith}
-use Rattle.deadpool_gate.specs.Gate.{untold_tickets}
-use Rattle.deadpool_gate.proofs.GateAnswers.{withdrawn-unknown, withdrawn-known}
-use Rattle.deadpool_desk.specs.DeskState.{settled}
+use Rattle.deadpool_desk.proofs.Names.{◌∙◌, ap, arith, untold_tickets, withdrawn-unknown, withdrawn-known, settled}
 use Rattle.deadpool_desk.proofs.CoreQueue.{IsSound-same, IsSound-settled, desk_of-same, desk_of-settled, desk_of-unqueued, held-without, untold-without}
 use Rattle.deadpool_desk.proofs.state.CoreDesk.cancel.Goals as goal
 

@@ -1,9 +1,4 @@
-use Rattle.std.proofs.Common.{◌≡◌, ◌+◌, ◌-◌, ◌<◌, ◌≤◌, None, not, ap, refl, arith, rules, subst}
-use Rattle.deadpool_gate.specs.Gate.{untold_tickets}
-use Rattle.deadpool_gate.proofs.GateAnswers.{entered-waiting, entered-without_memory, unlisted}
-use Rattle.deadpool_desk.specs.DeskSteps.{Serves}
-use Rattle.deadpool_desk.specs.CoreFields.{desk_of}
-use Rattle.deadpool_desk.specs.Places.{held_at}
+use Rattle.deadpool_desk.proofs.Names.{◌≡◌, ◌+◌, ◌-◌, ◌<◌, ◌≤◌, None, not, ap, refl, arith, rules, subst, untold_tickets, entered-waiting, entered-without_memory, unlisted, Serves, held_at, desk_of}
 use Rattle.deadpool_desk.specs.declared.desk.EnterReply.TheVariants.{Served, Waiting, OutOfMemory}
 use Rattle.deadpool_desk.proofs.CoreQueue.{IsSound-joined, desk_of-arrived, desk_of-same, untold-arrived, no_room}
 use Rattle.deadpool_desk.proofs.state.CoreDesk.enter_in.Goals as goal

@@ -1,7 +1,4 @@
-use Rattle.std.proofs.Common.{refl, ◌≡◌, ◌+◌, ◌-◌, length, min, arith, ◌∙◌}
-use Rattle.deadpool_gate.specs.Gate.{granted_tickets, waiting_tickets}
-use Rattle.deadpool_gate.specs.Numbers.{largest_usize}
-use Rattle.deadpool_gate.proofs.GateTickets.{granted_count-length, waiting_count-length, length-both_tickets}
+use Rattle.deadpool_desk.proofs.Names.{refl, ◌≡◌, ◌+◌, ◌-◌, length, min, arith, ◌∙◌, granted_tickets, waiting_tickets, largest_usize, granted_count-length, waiting_count-length, length-both_tickets}
 use Rattle.deadpool_desk.proofs.state.owner.CoreOwnerDesk.status.Goals as goal
 
 pub overflow_add-pending-2 : goal.overflow_add-pending-2

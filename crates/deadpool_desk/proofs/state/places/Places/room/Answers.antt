@@ -1,4 +1,4 @@
-use Rattle.deadpool_gate.proofs.GateTickets.{granted_count-length}
+use Rattle.deadpool_desk.proofs.Names.{granted_count-length}
 use Rattle.deadpool_desk.proofs.state.places.Places.room.Goals as goal
 
 pub returns : goal.returns

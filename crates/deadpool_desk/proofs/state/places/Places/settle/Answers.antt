@@ -1,6 +1,4 @@
-use Rattle.std.proofs.Common.{◌≡◌, refl, length, arith}
-use Rattle.deadpool_gate.specs.Gate.{waiting_tickets}
-use Rattle.deadpool_gate.proofs.GateTickets.{waiting_count-length}
+use Rattle.deadpool_desk.proofs.Names.{◌≡◌, refl, length, arith, waiting_tickets, waiting_count-length}
 use Rattle.deadpool_desk.proofs.PlacesGranted.{IsGranted, as_many, quiet, nobody, same_queue, held_within, none_waits}
 use Rattle.deadpool_desk.proofs.state.places.Places.settle.Goals as goal
 

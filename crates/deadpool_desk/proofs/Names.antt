@@ -1,0 +1,21 @@
+-- The names that the proofs cite, passed on from one place.
+pub use Rattle.std.proofs.Common.{◌≡◌, ℕ, ◌+◌, ◌-◌, ◌<◌, ◌≤◌, true, false, not, [], ◌∷◌, ◌++◌, length, take, drop, max, refl, arith, ap, ◌∙◌, append_assoc, zero, suc, Bool, List, min, sym, length-append, length-take, if◌then◌else◌, Some, None, slice_get, inl, inr, add-zero, length-drop, Ok, rules, vec_len, vec_capacity, subst}
+pub use Rattle.std.proofs.lemmas.List.{append-nil, take-append-drop}
+pub use Rattle.deadpool_gate.proofs.GateAnswers.{grant_count-length, asked-granted, asked-waiting, asked-closed, asked-unknown, withdrawn-unknown, withdrawn-known, entered-waiting, entered-without_memory, unlisted}
+pub use Rattle.deadpool_gate.proofs.GateTickets.{granted_tickets-arrived, waiting_tickets-arrived, granted_tickets-without_waiter, waiting_tickets-without_waiter, untold_tickets-arrived, untold_tickets-without_waiter, length-both_tickets, granted_count-length, waiting_count-length}
+pub use Rattle.deadpool_gate.proofs.Numbers.{without_number-shorter, without_number-fewer, has_number-append, without_number-append, without_number-same, without_number-one}
+pub use Rattle.deadpool_gate.proofs.Orders.{IsOnce-without, IsOnce-push, IsOnce-front}
+pub use Rattle.deadpool_gate.specs.Gate.{Line, arrived, without_waiter, granted_tickets, waiting_tickets, untold_tickets, IsLine, grant_count}
+pub use Rattle.deadpool_gate.specs.Numbers.{has_number, without_number, largest_usize}
+pub use Rattle.deadpool_gate.specs.Orders.{IsOnce}
+pub use Rattle.deadpool_desk.specs.CoreFields.{desk_of, IsSound}
+pub use Rattle.deadpool_desk.specs.DeskState.{settled, DeskState, places, least_idle}
+pub use Rattle.deadpool_desk.specs.DeskSteps.{is_listed, unqueued, Serves}
+pub use Rattle.deadpool_desk.specs.Places.{grants_at, held_at}
+pub use Rattle.deadpool_desk.specs.Retained.{Retained}
+pub use Rattle.deadpool_desk.specs.Retains.{Goes, Reviews, ReviewsFrom, Retains, RetainsNoting, Stays}
+pub use Rattle.deadpool_desk.specs.Settled.{IsSettled}
+pub use Rattle.deadpool_desk.specs.declared.retain.Removal.{Removal}
+pub use Rattle.deadpool_desk.specs.declared.slot.Slot.{Slot}
+pub use Rattle.deadpool_desk.specs.declared.state.Core.TheInside.{Inside}
+pub use Rattle.deadpool_desk.specs.declared.state.places.Places.{Places}
