@@ -3,7 +3,7 @@
 
 pub use deadpool_managed::{
     AgainReply, AskReply, BackReply, Core, Counts, CreatedReply, Desk, EnterReply, Environment,
-    GetState, HandleReply, Held, Hooks, OwnerDesk, Position, Preparation, Removal, Removals,
-    Retainer, Serving, Slot, Stage, StageKind, StepReply, TakeReply, Turn, laws,
+    GetState, HandleReply, Held, Holding, Hooks, OwnerDesk, Position, Preparation, Removal,
+    Removals, Retainer, Serving, Slot, Stage, StageKind, StepReply, TakeReply, Turn, laws,
 };
 pub use deadpool_shared::{Seat, by_number};
