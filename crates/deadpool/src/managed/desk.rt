@@ -3,7 +3,7 @@
 
 pub use deadpool_managed::{
     AgainReply, AskReply, BackReply, Core, Counts, CreatedReply, Desk, EnterReply, Environment,
-    GetState, HandleReply, Held, Hooks, OwnerDesk, Position, Removal, Removals, Retainer, Serving,
-    Slot, StageKind, StepReply, TakeReply, Turn, laws,
+    GetState, HandleReply, Held, Holding, Hooks, OwnerDesk, Position, Removal, Removals, Retainer,
+    Serving, Slot, StageKind, StepReply, TakeReply, Turn, laws,
 };
 pub use deadpool_shared::{Seat, by_number};
