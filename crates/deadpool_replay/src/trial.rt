@@ -1,19 +1,17 @@
 //! A managed pool on one thread, with its parties and the objects that are out.
-ghost use Rattle.std.specs.Prelude.{◌≡◌, ◌≢◌, ◌==◌, ◌<◌, ◌≤◌, ◌+◌, List, length, Option, MatchResult, IfOk, vec_len, vec_capacity, ◌↔◌, true, []};
+ghost use Rattle.std.specs.Prelude.{◌≡◌, ◌≢◌, ◌==◌, ◌≤◌, ◌+◌, List, length, Option, MatchResult, IfOk, vec_len, vec_capacity, ◌↔◌, true, []};
 ghost use Rattle.std.specs.Option.{option_map};
 ghost use Rattle.futures.specs.Task.{Keeps};
 ghost use Rattle.deadpool_parts.specs.Program.{Gives};
 ghost use Rattle.deadpool_parts.specs.Runs.{last_of, all_states, Each, Neighbours};
 ghost use Rattle.deadpool_parts.specs.declared.errors.BuildError.{BuildError};
-ghost use Rattle.deadpool_desk.specs.declared.desk.Holding.{Holding};
 ghost use Rattle.deadpool_shared.specs.Building.{lacks_any_runtime};
 ghost use Rattle.deadpool_managed.specs.Outside.{may};
 ghost use Rattle.deadpool_replay.specs.Pool.{Pool, opened};
 ghost use Rattle.deadpool_replay.specs.Steps.{find_slot};
 ghost use Rattle.deadpool_replay.specs.Moves.{moved, Polls, MakesMove, PoolRuns, NobodyWaits, WithinReach};
-ghost use Rattle.deadpool_replay.specs.Rank.{rank_at};
 ghost use Rattle.deadpool_replay.specs.RunLaws.{IsWell};
-ghost use Rattle.deadpool_replay.specs.TrialFields.{AdvancesGet, given, reply_to, IsTaken, reply_to_back, reply_to_take, reply_to_handle};
+ghost use Rattle.deadpool_replay.specs.TrialFields.{given, reply_to, IsTaken, reply_to_back, reply_to_take, reply_to_handle};
 ghost use Rattle.deadpool_gate.specs.Numbers.{has_number};
 ghost use Rattle.deadpool_managed.specs.Answers.{LeavesOrKeeps};
 ghost use Rattle.deadpool_replay.specs.declared.moves.Move.TheVariants as move;
@@ -199,18 +197,18 @@ impl<M: Manager, F: SyncHook<M>, A: AsyncHook<M>, C: Drop> Trial<M, F, A, C> {
     ) -> Reply<M::Type, M::Error>
         ensures made { Gives (may M.Manager F.SyncHook A.AsyncHook self.old.manager)
             (moved (move.Advance party now) self.old.pool) (result, self.new.pool) }
-        ensures falls { result ≡ Reply.More
-            → rank_at party self.new.pool < rank_at party self.old.pool }
         ensures manager { self.new.manager ≡ self.old.manager }
         ensures kept { Keeps cx.old cx.new }
     {
         if party >= self.parties.len() {
             return Reply::NoSuch;
         }
-        let get = &mut self.parties[party];
-        match advance_get(get, &mut self.core, &self.environment, now, cx) {
+        match &mut self.parties[party] {
             None => Reply::NoSuch,
-            Some(turn) => hand_out(&mut self.out, turn),
+            Some(get) => {
+                let turn = get.advance(&mut self.core, &self.environment, now, cx);
+                hand_out(&mut self.out, turn)
+            }
         }
     }
 
@@ -221,10 +219,14 @@ impl<M: Manager, F: SyncHook<M>, A: AsyncHook<M>, C: Drop> Trial<M, F, A, C> {
         ensures manager { self.new.manager ≡ self.old.manager }
         ensures kept { Keeps cx.old cx.new }
     {
-        loop {
-            match self.advance(party, now, cx) {
-                Reply::More => {}
-                reply => return reply,
+        if party >= self.parties.len() {
+            return Reply::NoSuch;
+        }
+        match &mut self.parties[party] {
+            None => Reply::NoSuch,
+            Some(get) => {
+                let turn = get.poll_over(&mut self.core, &self.environment, now, cx);
+                hand_out(&mut self.out, turn)
             }
         }
     }
@@ -388,31 +390,6 @@ impl<M: Manager> Retainer<M::Type> for Keeping<'_, M> {
 
     fn detach(&mut self, value: &mut M::Type) {
         self.manager.detach(value);
-    }
-}
-
-// Advances a get that was not cancelled.
-fn advance_get<M, F, A, D>(
-    get: &mut Option<GetState<M, A>>,
-    desk: &mut D,
-    environment: &Environment<M, F, A>,
-    now: Moment,
-    cx: &mut Context<'_>,
-) -> Option<Turn<M::Type, M::Error>>
-where
-    M: Manager,
-    F: SyncHook<M>,
-    A: AsyncHook<M>,
-    D: Desk<M::Type>,
-    requires { (holding : Holding) → D.holds desk.old holding }
-    ensures advanced { AdvancesGet D.Desk
-        (may M.Manager F.SyncHook A.AsyncHook environment.now.manager)
-        environment.now.runtime environment.now.hooks now get.old desk.old get.new desk.new result }
-    ensures kept { Keeps cx.old cx.new }
-{
-    match get {
-        None => None,
-        Some(state) => Some(state.advance(desk, environment, now, cx)),
     }
 }
 
