@@ -5,7 +5,6 @@ pub mod Cancels
 pub mod Computations
 pub mod DeskImage
 pub mod Entries
-pub mod Fixed
 pub mod NumberCounts
 pub mod NumberLists
 pub mod NumbersAndOrder

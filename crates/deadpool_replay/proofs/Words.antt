@@ -1,4 +1,5 @@
--- The words of a pool, its desk and its gets that the proofs cite, passed on from one place.
+-- The words of a pool, its desk and its gets that the proofs cite, passed on from one place, and a get at a stage.
+use Rattle.deadpool_replay.proofs.Basics.{Option, Some}
 pub use Rattle.deadpool_replay.specs.Image.{party_of, standing_of, IsCounted, has_ticket, queue_of, is_under_way, image}
 pub use Rattle.deadpool_replay.specs.Laws.{IsLawful, queue, is_queued, waits_at, MarksQueued}
 pub use Rattle.deadpool_replay.specs.Moves.{moved, by_party, resize, staying, give_up, retain_with, retain, by_handle, started, put_at, back_at, take_at, NobodyWaits, Polls, is_more, MakesMove, PoolRuns, WithinReach, stays}
@@ -9,6 +10,7 @@ pub use Rattle.deadpool_replay.specs.Steps.{fail, rest, go_on, with_slot, slot_n
 pub use Rattle.deadpool_replay.specs.TrialFields.{given, reply_to, IsTaken, reply_to_back, reply_to_take, reply_to_handle}
 pub use Rattle.deadpool_replay.specs.declared.moves.Move.{Move}
 pub use Rattle.deadpool_replay.specs.declared.moves.Reply.{Reply}
+pub use Rattle.deadpool_replay.specs.declared.trial.Fixed.{Fixed}
 pub use Rattle.deadpool_replay.specs.declared.trial.Keeping.{Keeping}
 pub use Rattle.deadpool_managed.proofs.CoreDesk.{core_desk, own_desk, makes_at_desk}
 pub use Rattle.deadpool_managed.proofs.CorePolls.{polls_at_desk}
@@ -59,3 +61,11 @@ pub use Rattle.deadpool_parts.specs.declared.replies.HandleReply.{HandleReply}
 pub use Rattle.deadpool_parts.specs.declared.replies.StepReply.{StepReply}
 pub use Rattle.futures.specs.Task.{Keeps}
 pub use Rattle.futures.specs.declared.task.Poll.{Poll}
+
+module _ {V C R S : Type 0} where
+  -- a get at a stage, with its own timeouts
+  abbrev pub get_at : Timeouts → Stage V C R S → Option (Getting V C R S)
+  get_at own s = Some record { timeouts = own; stage = s }
+
+  abbrev pub party_at : Timeouts → Stage V C R S → Party V C R S
+  party_at own s = record { timeouts = own; standing = standing_of s }

@@ -30,19 +30,27 @@ use futures::task::Context;
 use std::alloc::Global;
 use std::marker::Model;
 
+// What never changes in a trial.
+#[derive(Drop)]
+struct Fixed<M: Manager, F: SyncHook<M>, A: AsyncHook<M>> {
+    environment: Environment<M, F, A>,
+    // The configured ones.
+    timeouts: Timeouts,
+    most_parties: usize,
+    // The number of the first object.
+    first: usize,
+}
+
 /// A managed pool on one thread, with its parties and the objects that are out. The clock of its builder is kept and not
 /// asked: each move says its moment.
 #[derive(Drop)]
 pub struct Trial<M: Manager, F: SyncHook<M>, A: AsyncHook<M>, C: Drop> {
+    fixed: Fixed<M, F, A>,
     core: Core<M::Type>,
-    environment: Environment<M, F, A>,
-    timeouts: Timeouts,
     // By number; none if the party was cancelled.
     parties: Vec<Option<GetState<M, A>>>,
     // By rising number.
     out: Vec<Slot<M::Type>>,
-    most_parties: usize,
-    first: usize,
     clock: C,
     alloc: Global,
 }
@@ -56,14 +64,14 @@ impl<M: Manager, F: SyncHook<M>, A: AsyncHook<M>, C: Drop> Model for Trial<M, F,
     ghost use Rattle.deadpool_replay.specs.Image.{image, IsCounted};
     ghost use Rattle.deadpool_replay.specs.RunLaws.{IsWell};
 
-    ghost view = { λ t. record { pool = image t.environment.runtime t.environment.hooks t.timeouts t.first t.most_parties t.core.desk t.parties.items t.out.items; manager = t.environment.manager } };
+    ghost view = { λ t. record { pool = image t.fixed t.core.desk t.parties.items t.out.items; manager = t.fixed.environment.manager } };
 
     ghost invariant = { λ t. record {
       counted : IsCounted t.core.desk t.parties.items t.out.items;
-      well : IsWell (image t.environment.runtime t.environment.hooks t.timeouts t.first t.most_parties t.core.desk t.parties.items t.out.items);
-      parties : vec_len t.parties ≤ t.most_parties;
-      party_room : t.most_parties ≤ vec_capacity t.parties;
-      out_room : t.most_parties ≤ vec_capacity t.out;
+      well : IsWell (image t.fixed t.core.desk t.parties.items t.out.items);
+      parties : vec_len t.parties ≤ t.fixed.most_parties;
+      party_room : t.fixed.most_parties ≤ vec_capacity t.parties;
+      out_room : t.fixed.most_parties ≤ vec_capacity t.out;
     } };
 }
 
@@ -88,14 +96,17 @@ impl<M: Manager, F: SyncHook<M>, A: AsyncHook<M>, C: Drop> Trial<M, F, A, C> {
             clock,
             alloc,
         } = builder.open(first_number)?;
-        Ok(Trial {
-            core,
+        let fixed = Fixed {
             environment,
             timeouts,
-            parties: Vec::with_capacity(alloc, parties)?,
-            out: Vec::with_capacity(alloc, parties)?,
             most_parties: parties,
             first: first_number,
+        };
+        Ok(Trial {
+            fixed,
+            core,
+            parties: Vec::with_capacity(alloc, parties)?,
+            out: Vec::with_capacity(alloc, parties)?,
             clock,
             alloc,
         })
@@ -181,10 +192,10 @@ impl<M: Manager, F: SyncHook<M>, A: AsyncHook<M>, C: Drop> Trial<M, F, A, C> {
             return Reply::NoHandle;
         }
         let party = self.parties.len();
-        if party >= self.most_parties {
+        if party >= self.fixed.most_parties {
             return Reply::NoRoom;
         }
-        let timeouts = timeouts.unwrap_or(self.timeouts);
+        let timeouts = timeouts.unwrap_or(self.fixed.timeouts);
         append(&mut self.parties, Some(GetState::new(timeouts)));
         Reply::Started(party)
     }
@@ -206,7 +217,7 @@ impl<M: Manager, F: SyncHook<M>, A: AsyncHook<M>, C: Drop> Trial<M, F, A, C> {
         match &mut self.parties[party] {
             None => Reply::NoSuch,
             Some(get) => {
-                let turn = get.advance(&mut self.core, &self.environment, now, cx);
+                let turn = get.advance(&mut self.core, &self.fixed.environment, now, cx);
                 hand_out(&mut self.out, turn)
             }
         }
@@ -225,7 +236,7 @@ impl<M: Manager, F: SyncHook<M>, A: AsyncHook<M>, C: Drop> Trial<M, F, A, C> {
         match &mut self.parties[party] {
             None => Reply::NoSuch,
             Some(get) => {
-                let turn = get.poll_over(&mut self.core, &self.environment, now, cx);
+                let turn = get.poll_over(&mut self.core, &self.fixed.environment, now, cx);
                 hand_out(&mut self.out, turn)
             }
         }
@@ -242,7 +253,7 @@ impl<M: Manager, F: SyncHook<M>, A: AsyncHook<M>, C: Drop> Trial<M, F, A, C> {
         match self.parties[party].take() {
             None => Reply::NoSuch,
             Some(state) => {
-                state.cancel(&mut self.core, &self.environment);
+                state.cancel(&mut self.core, &self.fixed.environment);
                 Reply::Cancelled
             }
         }
@@ -271,7 +282,7 @@ impl<M: Manager, F: SyncHook<M>, A: AsyncHook<M>, C: Drop> Trial<M, F, A, C> {
             None => Reply::NoSuch,
             Some(slot) => {
                 let reply = self.core.back(slot);
-                after_back(&self.environment, reply)
+                after_back(&self.fixed.environment, reply)
             }
         }
     }
@@ -296,7 +307,7 @@ impl<M: Manager, F: SyncHook<M>, A: AsyncHook<M>, C: Drop> Trial<M, F, A, C> {
             None => Reply::NoSuch,
             Some(slot) => {
                 let reply = self.core.take();
-                after_take(&self.environment, slot, reply)
+                after_take(&self.fixed.environment, slot, reply)
             }
         }
     }
@@ -325,7 +336,7 @@ impl<M: Manager, F: SyncHook<M>, A: AsyncHook<M>, C: Drop> Trial<M, F, A, C> {
         }
         let mut keeping = Keeping {
             kept: kept.as_slice(),
-            manager: &self.environment.manager,
+            manager: &self.fixed.environment.manager,
         };
         match self.core.retain(&mut keeping) {
             Ok(retained) => Reply::Retained(retained),

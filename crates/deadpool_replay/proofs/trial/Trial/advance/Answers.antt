@@ -1,7 +1,6 @@
 use Rattle.deadpool_replay.proofs.Basics.{◌≡◌, ◌∙◌, Some, None, length, vec_len, vec_capacity, arith, rules, map, refl, ap, slice_get, length-map, slice_get_read, slice_get_past, slice_get-map, option_map, set-same}
 use Rattle.deadpool_replay.proofs.Words.{party_of}
 use Rattle.deadpool_replay.proofs.TrialSteps.{out_fits, advanced}
-use Rattle.deadpool_replay.proofs.Fixed.{fixed_as}
 use Rattle.deadpool_replay.proofs.trial.Trial.advance.Goals as goal
 
 pub returns-then-party-len-clause-made : goal.returns-then-party-len-clause-made
@@ -16,16 +15,16 @@ hand_out-requires g c =
     let f = c.self.inside in
     let here = slice_get_read f.parties.items (vec_len f.parties) c.args.party c.index_mut.result.now (search rules) (omega (arith, c.len.ensures, c.if-party-len.false)) c.index_mut.ensures.value in
     let made = c.advance-turn.ensures.advanced in
-    let all = advanced g.M.Manager g.F.SyncHook g.A.AsyncHook f.environment.manager (fixed_as f.environment.runtime f.environment.hooks f.timeouts f.first f.most_parties) f.core c.advance-turn.new.desk f.parties.items f.out.items
+    let all = advanced g.M.Manager g.F.SyncHook g.A.AsyncHook f.fixed.environment.manager f.fixed f.core c.advance-turn.new.desk f.parties.items f.out.items
     c.self.invariant.counted c.self.invariant.well c.args.party c.args.now c.in-Some.get c.advance-turn.new.self c.advance-turn.result (here ∙ ap Some c.in-Some.is) c.advance-turn.ensures.timeouts made.0 made.1.0 made.1.1 in
-    out_fits c.advance-turn.new.desk.desk f.parties.items c.args.party (Some c.advance-turn.new.self) _ (vec_len f.parties) f.most_parties (vec_capacity f.out) all.1 (search rules) c.self.invariant.parties c.self.invariant.out_room
+    out_fits c.advance-turn.new.desk.desk f.parties.items c.args.party (Some c.advance-turn.new.self) _ (vec_len f.parties) f.fixed.most_parties (vec_capacity f.out) all.1 (search rules) c.self.invariant.parties c.self.invariant.out_room
 
 pub invariant_of-self-in-Some : goal.invariant_of-self-in-Some
 invariant_of-self-in-Some g c =
     let f = c.self.inside in
     let here = slice_get_read f.parties.items (vec_len f.parties) c.args.party c.index_mut.result.now (search rules) (omega (arith, c.len.ensures, c.if-party-len.false)) c.index_mut.ensures.value in
     let made = c.advance-turn.ensures.advanced in
-    let all = advanced g.M.Manager g.F.SyncHook g.A.AsyncHook f.environment.manager (fixed_as f.environment.runtime f.environment.hooks f.timeouts f.first f.most_parties) f.core c.advance-turn.new.desk f.parties.items f.out.items
+    let all = advanced g.M.Manager g.F.SyncHook g.A.AsyncHook f.fixed.environment.manager f.fixed f.core c.advance-turn.new.desk f.parties.items f.out.items
     c.self.invariant.counted c.self.invariant.well c.args.party c.args.now c.in-Some.get c.advance-turn.new.self c.advance-turn.result (here ∙ ap Some c.in-Some.is) c.advance-turn.ensures.timeouts made.0 made.1.0 made.1.1 in
     record { counted = rw c.hand_out.ensures.out all.1; well = rw c.hand_out.ensures.out all.2; parties = c.self.invariant.parties; party_room = c.self.invariant.party_room; out_room = omega (arith, c.self.invariant.out_room, c.hand_out.ensures.capacity) }
 
@@ -34,7 +33,7 @@ returns-in-Some-clause-made g c =
     let f = c.self.inside in
     let here = slice_get_read f.parties.items (vec_len f.parties) c.args.party c.index_mut.result.now (search rules) (omega (arith, c.len.ensures, c.if-party-len.false)) c.index_mut.ensures.value in
     let made = c.advance-turn.ensures.advanced in
-    let all = advanced g.M.Manager g.F.SyncHook g.A.AsyncHook f.environment.manager (fixed_as f.environment.runtime f.environment.hooks f.timeouts f.first f.most_parties) f.core c.advance-turn.new.desk f.parties.items f.out.items
+    let all = advanced g.M.Manager g.F.SyncHook g.A.AsyncHook f.fixed.environment.manager f.fixed f.core c.advance-turn.new.desk f.parties.items f.out.items
     c.self.invariant.counted c.self.invariant.well c.args.party c.args.now c.in-Some.get c.advance-turn.new.self c.advance-turn.result (here ∙ ap Some c.in-Some.is) c.advance-turn.ensures.timeouts made.0 made.1.0 made.1.1 in
     rw (← c.self.view_is, c.hand_out.ensures.out, c.hand_out.ensures.reply) all.0
 

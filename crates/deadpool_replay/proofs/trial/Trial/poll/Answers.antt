@@ -1,7 +1,6 @@
 use Rattle.deadpool_replay.proofs.Basics.{◌≡◌, ◌∙◌, [], ◌∷◌, Some, None, length, vec_len, vec_capacity, arith, rules, map, refl, ap, slice_get, length-map, slice_get_read, slice_get_past, slice_get-map, option_map, set-same}
-use Rattle.deadpool_replay.proofs.Words.{party_of}
+use Rattle.deadpool_replay.proofs.Words.{party_of, image}
 use Rattle.deadpool_replay.proofs.TrialSteps.{out_fits, polled}
-use Rattle.deadpool_replay.proofs.Fixed.{fixed_as, image_of}
 use Rattle.deadpool_replay.proofs.trial.Trial.poll.Goals as goal
 
 pub returns-then-party-len-clause-made : goal.returns-then-party-len-clause-made
@@ -9,21 +8,21 @@ returns-then-party-len-clause-made g c =
     let f = c.self.inside in
     let len : vec_len f.parties ≡ length f.parties.items = search rules in
     let past = slice_get_past (map party_of f.parties.items) c.args.party (omega (arith, len, length-map f.parties.items party_of, c.len.ensures, c.if-party-len.true)) in
-    rw (← c.self.view_is) (image_of (fixed_as f.environment.runtime f.environment.hooks f.timeouts f.first f.most_parties) f.core.desk f.parties.items f.out.items ∷ [], rw past (refl, refl), refl)
+    rw (← c.self.view_is) (image f.fixed f.core.desk f.parties.items f.out.items ∷ [], rw past (refl, refl), refl)
 
 pub hand_out-requires : goal.hand_out-requires
 hand_out-requires g c =
     let f = c.self.inside in
     let here = slice_get_read f.parties.items (vec_len f.parties) c.args.party c.index_mut.result.now (search rules) (omega (arith, c.len.ensures, c.if-party-len.false)) c.index_mut.ensures.value in
-    let all = polled g.M.Manager g.F.SyncHook g.A.AsyncHook f.environment.manager (fixed_as f.environment.runtime f.environment.hooks f.timeouts f.first f.most_parties) f.core c.poll_over-turn.new.desk f.parties.items f.out.items
+    let all = polled g.M.Manager g.F.SyncHook g.A.AsyncHook f.fixed.environment.manager f.fixed f.core c.poll_over-turn.new.desk f.parties.items f.out.items
     c.self.invariant.counted c.self.invariant.well c.args.party c.args.now c.in-Some.get c.poll_over-turn.new.self c.poll_over-turn.result (here ∙ ap Some c.in-Some.is) c.poll_over-turn.ensures.timeouts c.poll_over-turn.ensures.polled in
-    out_fits c.poll_over-turn.new.desk.desk f.parties.items c.args.party (Some c.poll_over-turn.new.self) _ (vec_len f.parties) f.most_parties (vec_capacity f.out) all.1 (search rules) c.self.invariant.parties c.self.invariant.out_room
+    out_fits c.poll_over-turn.new.desk.desk f.parties.items c.args.party (Some c.poll_over-turn.new.self) _ (vec_len f.parties) f.fixed.most_parties (vec_capacity f.out) all.1 (search rules) c.self.invariant.parties c.self.invariant.out_room
 
 pub invariant_of-self-in-Some : goal.invariant_of-self-in-Some
 invariant_of-self-in-Some g c =
     let f = c.self.inside in
     let here = slice_get_read f.parties.items (vec_len f.parties) c.args.party c.index_mut.result.now (search rules) (omega (arith, c.len.ensures, c.if-party-len.false)) c.index_mut.ensures.value in
-    let all = polled g.M.Manager g.F.SyncHook g.A.AsyncHook f.environment.manager (fixed_as f.environment.runtime f.environment.hooks f.timeouts f.first f.most_parties) f.core c.poll_over-turn.new.desk f.parties.items f.out.items
+    let all = polled g.M.Manager g.F.SyncHook g.A.AsyncHook f.fixed.environment.manager f.fixed f.core c.poll_over-turn.new.desk f.parties.items f.out.items
     c.self.invariant.counted c.self.invariant.well c.args.party c.args.now c.in-Some.get c.poll_over-turn.new.self c.poll_over-turn.result (here ∙ ap Some c.in-Some.is) c.poll_over-turn.ensures.timeouts c.poll_over-turn.ensures.polled in
     record { counted = rw c.hand_out.ensures.out all.1; well = rw c.hand_out.ensures.out all.2; parties = c.self.invariant.parties; party_room = c.self.invariant.party_room; out_room = omega (arith, c.self.invariant.out_room, c.hand_out.ensures.capacity) }
 
@@ -31,7 +30,7 @@ pub returns-in-Some-clause-made : goal.returns-in-Some-clause-made
 returns-in-Some-clause-made g c =
     let f = c.self.inside in
     let here = slice_get_read f.parties.items (vec_len f.parties) c.args.party c.index_mut.result.now (search rules) (omega (arith, c.len.ensures, c.if-party-len.false)) c.index_mut.ensures.value in
-    let all = polled g.M.Manager g.F.SyncHook g.A.AsyncHook f.environment.manager (fixed_as f.environment.runtime f.environment.hooks f.timeouts f.first f.most_parties) f.core c.poll_over-turn.new.desk f.parties.items f.out.items
+    let all = polled g.M.Manager g.F.SyncHook g.A.AsyncHook f.fixed.environment.manager f.fixed f.core c.poll_over-turn.new.desk f.parties.items f.out.items
     c.self.invariant.counted c.self.invariant.well c.args.party c.args.now c.in-Some.get c.poll_over-turn.new.self c.poll_over-turn.result (here ∙ ap Some c.in-Some.is) c.poll_over-turn.ensures.timeouts c.poll_over-turn.ensures.polled in
     rw (← c.self.view_is, c.hand_out.ensures.out, c.hand_out.ensures.reply) all.0
 
@@ -49,4 +48,4 @@ returns-in-None-clause-made g c =
     let gone : slice_get f.parties.items c.args.party ≡ Some None = here ∙ ap Some c.in-None.is in
     let same = set-same f.parties.items c.args.party None gone in
     let none : slice_get (map party_of f.parties.items) c.args.party ≡ Some None = slice_get-map party_of f.parties.items c.args.party ∙ ap (option_map party_of) gone in
-    rw (← c.self.view_is, c.in-None.is, same) (image_of (fixed_as f.environment.runtime f.environment.hooks f.timeouts f.first f.most_parties) f.core.desk f.parties.items f.out.items ∷ [], rw none (refl, refl), refl)
+    rw (← c.self.view_is, c.in-None.is, same) (image f.fixed f.core.desk f.parties.items f.out.items ∷ [], rw none (refl, refl), refl)
