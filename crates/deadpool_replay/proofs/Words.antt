@@ -11,7 +11,7 @@ pub use Rattle.deadpool_replay.specs.TrialFields.{given, reply_to, IsTaken, repl
 pub use Rattle.deadpool_replay.specs.declared.moves.Move.{Move}
 pub use Rattle.deadpool_replay.specs.declared.moves.Reply.{Reply}
 pub use Rattle.deadpool_replay.specs.declared.trial.Fixed.{Fixed}
-pub use Rattle.deadpool_replay.specs.declared.trial.Keeping.{Keeping}
+pub use Rattle.deadpool_replay.specs.declared.trial.owner.Keeping.{Keeping}
 pub use Rattle.deadpool_managed.proofs.CoreDesk.{core_desk, own_desk, makes_at_desk}
 pub use Rattle.deadpool_managed.proofs.CorePolls.{polls_at_desk}
 pub use Rattle.deadpool_managed.proofs.IdleLists.{other_idle-shorter}
