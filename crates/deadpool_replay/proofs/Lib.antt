@@ -2,6 +2,7 @@ pub mod Advances
 pub mod AllMoves
 pub mod Basics
 pub mod Cancels
+pub mod Cited
 pub mod Computations
 pub mod DeskImage
 pub mod Entries

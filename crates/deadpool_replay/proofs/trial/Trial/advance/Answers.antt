@@ -1,6 +1,4 @@
-use Rattle.deadpool_replay.proofs.Basics.{◌≡◌, ◌∙◌, Some, None, length, vec_len, vec_capacity, arith, rules, map, refl, ap, slice_get, length-map, slice_get_read, slice_get_past, slice_get-map, option_map, set-same}
-use Rattle.deadpool_replay.proofs.Words.{party_of}
-use Rattle.deadpool_replay.proofs.TrialSteps.{out_fits, advanced}
+use Rattle.deadpool_replay.proofs.Cited.{◌≡◌, ◌∙◌, Some, None, length, vec_len, vec_capacity, arith, rules, map, refl, ap, slice_get, length-map, slice_get_read, slice_get_past, slice_get-map, option_map, set-same, party_of, out_fits, advanced}
 use Rattle.deadpool_replay.proofs.trial.Trial.advance.Goals as goal
 
 pub returns-then-party-len-clause-made : goal.returns-then-party-len-clause-made

@@ -1,7 +1,4 @@
-use Rattle.deadpool_replay.proofs.Basics.{◌≡◌, ◌∙◌, None, refl, sym, none_there}
-use Rattle.deadpool_replay.proofs.Words.{find_slot, slot_number}
-use Rattle.deadpool_replay.proofs.OutObjects.{back_counted}
-use Rattle.deadpool_replay.proofs.TrialSteps.{came_back}
+use Rattle.deadpool_replay.proofs.Cited.{◌≡◌, ◌∙◌, None, refl, sym, none_there, find_slot, slot_number, back_counted, came_back}
 use Rattle.deadpool_replay.proofs.trial.Trial.back.Goals as goal
 
 pub invariant_of-self : goal.invariant_of-self

@@ -1,6 +1,4 @@
-use Rattle.deadpool_replay.proofs.Basics.{◌≡◌, ◌∙◌, Some, None, length, vec_len, arith, rules, map, refl, ap, sym, slice_get, length-map, slice_get_read, slice_get_past, slice_get-map, option_map, set-same}
-use Rattle.deadpool_replay.proofs.Words.{party_of}
-use Rattle.deadpool_replay.proofs.TrialSteps.{cancelled}
+use Rattle.deadpool_replay.proofs.Cited.{◌≡◌, ◌∙◌, Some, None, length, vec_len, arith, rules, map, refl, ap, sym, slice_get, length-map, slice_get_read, slice_get_past, slice_get-map, option_map, set-same, party_of, cancelled}
 use Rattle.deadpool_replay.proofs.trial.Trial.cancel.Goals as goal
 
 pub returns-then-party-len-clause-made : goal.returns-then-party-len-clause-made

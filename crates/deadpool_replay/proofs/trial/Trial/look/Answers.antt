@@ -1,6 +1,4 @@
-use Rattle.deadpool_replay.proofs.Basics.{◌≡◌, ◌∙◌, refl, sym, ap, Some, None, slice_get, slice_get-map, slice_get-get_or, slice_get_past}
-use Rattle.deadpool_replay.proofs.Words.{party_of}
-use Rattle.deadpool_replay.proofs.Seen.{look_of-get}
+use Rattle.deadpool_replay.proofs.Cited.{◌≡◌, ◌∙◌, refl, sym, ap, Some, None, slice_get, slice_get-map, slice_get-get_or, slice_get_past, party_of, look_of-get}
 use Rattle.deadpool_replay.proofs.trial.Trial.look.Goals as goal
 
 pub returns-in-Some-Some-clause-look : goal.returns-in-Some-Some-clause-look

@@ -1,8 +1,4 @@
-use Rattle.deadpool_replay.proofs.Basics.{refl}
-use Rattle.deadpool_replay.proofs.Words.{may}
-use Rattle.deadpool_replay.specs.declared.moves.Move.TheVariants as move
-use Rattle.deadpool_replay.proofs.TrialSteps.{leads_to_well, some_handle, no_handle}
-use Rattle.deadpool_replay.proofs.OwnerSteps.{resized_ok, resized_err}
+use Rattle.deadpool_replay.proofs.Cited.{refl, may, leads_to_well, some_handle, no_handle, resized_ok, resized_err, Resize}
 use Rattle.deadpool_replay.proofs.trial.Trial.resize.Goals.{in-Ok, in-Err}
 use Rattle.deadpool_replay.proofs.trial.Trial.resize.Goals as goal
 
@@ -19,10 +15,10 @@ invariant_of-self g c =
     elim c.match-resize.branch [
       | in-Ok w ↦
           let all = resized_ok (may g.M.Manager g.F.SyncHook g.A.AsyncHook f.fixed.environment.manager) (λ found. tt) fixed f.core.desk c.resize.new.self.desk f.parties.items f.out.items c.self.invariant.counted c.args.limit some (rw w.in-Ok.is at c.resize.ensures).0 in
-          record { counted = all.1; well = leads_to_well g.M.Manager g.F.SyncHook g.A.AsyncHook f.fixed.environment.manager (move.Resize c.args.limit) _ _ _ c.self.invariant.well all.0; parties = c.self.invariant.parties; party_room = c.self.invariant.party_room; out_room = c.self.invariant.out_room }
+          record { counted = all.1; well = leads_to_well g.M.Manager g.F.SyncHook g.A.AsyncHook f.fixed.environment.manager (Resize c.args.limit) _ _ _ c.self.invariant.well all.0; parties = c.self.invariant.parties; party_room = c.self.invariant.party_room; out_room = c.self.invariant.out_room }
       | in-Err w ↦
           let all = resized_err (may g.M.Manager g.F.SyncHook g.A.AsyncHook f.fixed.environment.manager) (λ found. tt) fixed f.core.desk c.resize.new.self.desk f.parties.items f.out.items c.self.invariant.counted c.args.limit w.in-Err.field-0 some (rw w.in-Err.is at c.resize.ensures).0 in
-          record { counted = all.1; well = leads_to_well g.M.Manager g.F.SyncHook g.A.AsyncHook f.fixed.environment.manager (move.Resize c.args.limit) _ _ _ c.self.invariant.well all.0; parties = c.self.invariant.parties; party_room = c.self.invariant.party_room; out_room = c.self.invariant.out_room }
+          record { counted = all.1; well = leads_to_well g.M.Manager g.F.SyncHook g.A.AsyncHook f.fixed.environment.manager (Resize c.args.limit) _ _ _ c.self.invariant.well all.0; parties = c.self.invariant.parties; party_room = c.self.invariant.party_room; out_room = c.self.invariant.out_room }
     ]
 
 pub returns-clause-made : goal.returns-clause-made

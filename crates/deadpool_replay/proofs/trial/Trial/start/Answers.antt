@@ -1,9 +1,4 @@
-use Rattle.deadpool_replay.proofs.Basics.{◌≡◌, nat_lt, true, false, rules, ◌∷◌, [], ◌++◌, Some, length, vec_len, arith, refl, map, lt-ltb, le-ltb, length-map, unwrap_or}
-use Rattle.deadpool_replay.proofs.Words.{party_of, unpolled, image}
-use Rattle.deadpool_replay.specs.declared.moves.Reply.TheVariants as reply
-use Rattle.deadpool_replay.specs.declared.moves.Move.TheVariants as move
-use Rattle.deadpool_replay.proofs.DeskImage.{starts, newcomer}
-use Rattle.deadpool_replay.proofs.TrialSteps.{no_handle, some_handle, leads_to_well}
+use Rattle.deadpool_replay.proofs.Cited.{◌≡◌, nat_lt, true, false, rules, ◌∷◌, [], ◌++◌, Some, length, vec_len, arith, refl, map, lt-ltb, le-ltb, length-map, unwrap_or, party_of, unpolled, image, starts, newcomer, no_handle, some_handle, leads_to_well, Start, Started}
 use Rattle.deadpool_replay.proofs.trial.Trial.start.Goals as goal
 
 pub returns-then-not-has_handle-clause-made : goal.returns-then-not-has_handle-clause-made
@@ -42,8 +37,8 @@ invariant_of-self g c =
     let all = starts fixed f.core.desk f.parties.items f.out.items c.self.invariant.counted c.unwrap_or-timeouts.result in
     let pool = image fixed f.core.desk f.parties.items f.out.items in
     let begun = record pool { parties = pool.parties ++ Some (record { timeouts = unwrap_or c.args.timeouts f.fixed.timeouts; standing = unpolled }) ∷ [] } in
-    let led = leads_to_well g.M.Manager g.F.SyncHook g.A.AsyncHook f.fixed.environment.manager (move.Start c.args.timeouts) pool begun
-    (reply.Started (length (map party_of f.parties.items))) c.self.invariant.well (rw (some, few) refl) in
+    let led = leads_to_well g.M.Manager g.F.SyncHook g.A.AsyncHook f.fixed.environment.manager (Start c.args.timeouts) pool begun
+    (Started (length (map party_of f.parties.items))) c.self.invariant.well (rw (some, few) refl) in
     record {
       counted = rw items all.1;
       well = rw (items, all.0, c.unwrap_or-timeouts.ensures) led;

@@ -1,6 +1,4 @@
-use Rattle.deadpool_replay.proofs.Basics.{refl}
-use Rattle.deadpool_replay.proofs.DeskImage.{pool_status}
-use Rattle.deadpool_replay.proofs.TrialSteps.{no_handle, some_handle}
+use Rattle.deadpool_replay.proofs.Cited.{refl, pool_status, no_handle, some_handle}
 use Rattle.deadpool_replay.proofs.trial.Trial.status.Goals as goal
 
 pub returns-then-not-has_handle-clause-made : goal.returns-then-not-has_handle-clause-made
