@@ -1,6 +1,6 @@
 -- Advances of a get with a creation under way, with an object, or that has ended.
 use Rattle.deadpool_replay.proofs.Basics.{◌≡◌, ℕ, ◌+◌, ◌-◌, ◌≤◌, List, false, set, refl, ap, ◌∙◌, arith, inl, inr, Option, Some, None, Result, Ok, Err, slice_get, cond-true, cond-false, Return, ◌>>=◌, Gives, Gives-bind, set-same, owned-set, length-with_numbered, length}
-use Rattle.deadpool_replay.proofs.Words.{Poll, deadline_after, is_reached, lacks_runtime, Moment, Timeouts, PoolError, Timeout, Backend, NoRuntimeSpecified, PostCreateHook, start, new_metrics, DeskState, settled, Fails, Getting, May, create, prepare, post_create, with_value, Made, no_step, discarding, by_creation as creating, failing, refusing, Makes, AfterCreation, AfterPrepared, AfterChecked, AdvancesCreation, ended_by, Pool, fail, rest, go_on, with_slot, slot_number, created, reviewed, checked, hand_out, advance_at, party_of, standing_of, IsCounted, has_ticket, queue_of, given, reply_to, Slot, Position, Verdict, Preparation, Prepared, Stage, Turn, StepReply, Reply, core_desk}
+use Rattle.deadpool_replay.proofs.Words.{Poll, deadline_after, is_reached, lacks_runtime, Moment, Timeouts, PoolError, Timeout, Backend, NoRuntimeSpecified, PostCreateHook, start, new_metrics, DeskState, settled, Fails, Getting, May, create, prepare, post_create, with_value, Made, no_step, discarding, by_creation as creating, failing, refusing, Makes, AfterCreation, AfterPrepared, AfterChecked, AdvancesCreation, ended_by, Pool, fail, rest, go_on, with_slot, slot_number, created, reviewed, checked, hand_out, advance_at, party_of, standing_of, IsCounted, has_ticket, queue_of, given, reply_to, Slot, Position, Verdict, Preparation, Prepared, Stage, Turn, StepReply, Reply, core_desk, Fixed, image, get_at, party_at}
 use Rattle.futures.specs.declared.task.Poll.TheVariants as poll
 use Rattle.deadpool_parts.specs.declared.errors.TimeoutType.TheVariants as phase
 use Rattle.deadpool_managed.specs.declared.calls.Verdict.TheVariants as verdict
@@ -10,23 +10,22 @@ use Rattle.deadpool_parts.specs.declared.replies.StepReply.TheVariants as step
 use Rattle.deadpool_desk.specs.declared.desk.CreatedReply.TheVariants as numbered
 use Rattle.deadpool_replay.specs.declared.moves.Reply.TheVariants as reply
 use Rattle.deadpool_replay.proofs.DeskImage.{NoTicket, owned-same, goes, creates, prepares, lasts, Shifts, put, put_off, IsCounted-set, put-image, put_off-image, Gives-same, holds_creation, holds_object, ends_free}
-use Rattle.deadpool_replay.proofs.Fixed.{Fixed, image_of, get_at, party_at}
 
-module _ {V E C R S F A : Type 0} (may : May V E C R S F A) (fixed : Fixed F A) (n : ℕ) (now : Moment)
+module _ {M V E C R S F A : Type 0} (may : May V E C R S F A) (fixed : Fixed M F A V E C R S) (n : ℕ) (now : Moment)
     (core core' : DeskState (Slot V)) (gets : List (Option (Getting V C R S))) (out : List (Slot V)) (own : Timeouts) (k : IsCounted core gets out) where
   abbrev pool : Pool V C R S F A
-  pool = image_of fixed core gets out
+  pool = image fixed core gets out
 
   -- the pool and the counts after an advance
   abbrev Pairs : DeskState (Slot V) → Stage V C R S → Turn V E → Reply V E × Pool V C R S F A → Type 0
   Pairs d s t x =
-      (x ≡ (reply_to t, image_of fixed d (set gets n (get_at own s)) (given t out)))
+      (x ≡ (reply_to t, image fixed d (set gets n (get_at own s)) (given t out)))
       × IsCounted d (set gets n (get_at own s)) (given t out)
 
   -- what is to be shown of an advance from one stage to another
   abbrev Goal : Stage V C R S → DeskState (Slot V) → Stage V C R S → Turn V E → Type 0
   Goal old d s t =
-      Gives may (advance_at (standing_of old) n (party_at own old) now pool) (reply_to t, image_of fixed d (set gets n (get_at own s)) (given t out))
+      Gives may (advance_at (standing_of old) n (party_at own old) now pool) (reply_to t, image fixed d (set gets n (get_at own s)) (given t out))
       × IsCounted d (set gets n (get_at own s)) (given t out)
 
   module _ (old : Stage V C R S) (h : slice_get gets n ≡ Some (get_at own old)) (none : NoTicket (get_at own old)) where
@@ -37,11 +36,11 @@ module _ {V E C R S F A : Type 0} (may : May V E C R S F A) (fixed : Fixed F A) 
         IsCounted-set core d gets n (get_at own old) (get_at own s) out out' h k
         (owned-same core d (set gets n (get_at own s)) (owned-set has_ticket (queue_of core) gets k.tickets n (get_at own old) (get_at own s) h none no_new) e f) shifts
 
-    put_as : (s : Stage V C R S) → NoTicket (get_at own s) → put n (party_of (get_at own s)) pool ≡ image_of fixed core (set gets n (get_at own s)) out
+    put_as : (s : Stage V C R S) → NoTicket (get_at own s) → put n (party_of (get_at own s)) pool ≡ image fixed core (set gets n (get_at own s)) out
     put_as s no_new = put-image fixed core gets out k.tickets n (get_at own old) (get_at own s) h none no_new
 
     -- and is in no queue
-    put_off_as : (s : Stage V C R S) → NoTicket (get_at own s) → put_off n (party_of (get_at own s)) pool ≡ image_of fixed core (set gets n (get_at own s)) out
+    put_off_as : (s : Stage V C R S) → NoTicket (get_at own s) → put_off n (party_of (get_at own s)) pool ≡ image fixed core (set gets n (get_at own s)) out
     put_off_as s no_new = put_off-image fixed core gets out k.tickets n (get_at own old) (get_at own s) h none no_new
 
   module _ (begun : Option C) (until : Option Moment) (h : slice_get gets n ≡ Some (get_at own (stage.Creating begun until))) where
@@ -100,7 +99,7 @@ module _ {V E C R S F A : Type 0} (may : May V E C R S F A) (fixed : Fixed F A) 
   creation_made : (begun : Option C) (until deadline : Option Moment) (made : Made V) (s : Stage V C R S) (t : Turn V E) → slice_get gets n ≡ Some (get_at own (stage.Creating begun until))
       → Makes core_desk core made core' → (x : Poll (Result V E) × C) → Gives may (create begun) x → AfterCreation now deadline x made s t
       → Gives may (create begun >>= λ y. Return (created n (party_at own (stage.Creating begun until)) now deadline pool y))
-      (reply_to t, image_of fixed core' (set gets n (get_at own s)) (given t out))
+      (reply_to t, image fixed core' (set gets n (get_at own s)) (given t out))
       × IsCounted core' (set gets n (get_at own s)) (given t out)
   creation_made begun until deadline made s t h e x g a =
       let all = creation_answered begun until h deadline x made s t e a in
@@ -108,21 +107,21 @@ module _ {V E C R S F A : Type 0} (may : May V E C R S F A) (fixed : Fixed F A) 
 
   -- a creation that was not begun, if something serves its timeout, or it has none
   creation_begins : (until : Option Moment) (made : Made V) (s : Stage V C R S) (t : Turn V E) → slice_get gets n ≡ Some (get_at own (stage.Creating None until))
-      → Makes core_desk core made core' → lacks_runtime fixed.runtime own.create ≡ false
+      → Makes core_desk core made core' → lacks_runtime fixed.environment.runtime own.create ≡ false
       → (x : Poll (Result V E) × C) → Gives may (create None) x → AfterCreation now (deadline_after now own.create) x made s t → Goal (stage.Creating None until) core' s t
   creation_begins until made s t h e runs x g a =
       let all = creation_made None until (deadline_after now own.create) made s t h e x g a in
-      (Gives-same may _ _ _ (cond-false (lacks_runtime fixed.runtime own.create) _ _ runs) all.0, all.1)
+      (Gives-same may _ _ _ (cond-false (lacks_runtime fixed.environment.runtime own.create) _ _ runs) all.0, all.1)
 
   -- a get with a creation under way
   pub from_creating : (begun : Option C) (until : Option Moment) (made : Made V) (s : Stage V C R S) (t : Turn V E) → slice_get gets n ≡ Some (get_at own (stage.Creating begun until))
-      → Makes core_desk core made core' → AdvancesCreation may fixed.runtime now own.create begun until made s t → Goal (stage.Creating begun until) core' s t
+      → Makes core_desk core made core' → AdvancesCreation may fixed.environment.runtime now own.create begun until made s t → Goal (stage.Creating begun until) core' s t
   from_creating (Some c) until made s t h e a = creation_made (Some c) until until made s t h e a.0 a.1.0 a.1.1
   from_creating None until (failing reply) s t h e a =
       elim a [
         | inl b ↦
             let all = creation_failed None until h NoRuntimeSpecified reply s t e b.1 b.2 in
-            (Gives-same may _ _ _ (cond-true (lacks_runtime fixed.runtime own.create) _ _ b.0) all.0, all.1)
+            (Gives-same may _ _ _ (cond-true (lacks_runtime fixed.environment.runtime own.create) _ _ b.0) all.0, all.1)
         | inr b ↦ creation_begins until (failing reply) s t h e b.0 b.1.0 b.1.1.0 b.1.1.1
       ]
   from_creating None until made s t h e a = creation_begins until made s t h e a.0 a.1.0 a.1.1.0 a.1.1.1
@@ -181,7 +180,7 @@ module _ {V E C R S F A : Type 0} (may : May V E C R S F A) (fixed : Fixed F A) 
   prepared_answered : (preparation : Preparation V R S) (allowance : Option ℕ) (x : Prepared V R S) (made : Made V) (s : Stage V C R S) (t : Turn V E)
       → slice_get gets n ≡ Some (get_at own (stage.Recycling preparation allowance)) → Makes core_desk core made core' → AfterPrepared may allowance x made s t
       → Gives may (reviewed n (party_at own (stage.Recycling preparation allowance)) allowance pool x)
-      (reply_to t, image_of fixed core' (set gets n (get_at own s)) (given t out))
+      (reply_to t, image fixed core' (set gets n (get_at own s)) (given t out))
       × IsCounted core' (set gets n (get_at own s)) (given t out)
   prepared_answered preparation allowance (Prepared.Accepted slot) no_step s t h e a =
       rw (a.0, a.1, e) (object_given (stage.Recycling preparation allowance) h (λ u. refl) refl refl refl refl slot)
@@ -198,17 +197,17 @@ module _ {V E C R S F A : Type 0} (may : May V E C R S F A) (fixed : Fixed F A) 
   -- a get with an idle object
   pub from_recycling : (preparation : Preparation V R S) (allowance : Option ℕ) (made : Made V) (s : Stage V C R S) (t : Turn V E)
       → slice_get gets n ≡ Some (get_at own (stage.Recycling preparation allowance)) → Makes core_desk core made core'
-      → (x : Prepared V R S) → Gives may (prepare now fixed.runtime own.recycle fixed.hooks preparation) x → AfterPrepared may allowance x made s t
+      → (x : Prepared V R S) → Gives may (prepare now fixed.environment.runtime own.recycle fixed.environment.hooks preparation) x → AfterPrepared may allowance x made s t
       → Goal (stage.Recycling preparation allowance) core' s t
   from_recycling preparation allowance made s t h e x g a =
       let all = prepared_answered preparation allowance x made s t h e a in
-      (Gives-bind may (prepare now fixed.runtime own.recycle fixed.hooks preparation) (reviewed n (party_at own (stage.Recycling preparation allowance)) allowance pool) x _ g all.0, all.1)
+      (Gives-bind may (prepare now fixed.environment.runtime own.recycle fixed.environment.hooks preparation) (reviewed n (party_at own (stage.Recycling preparation allowance)) allowance pool) x _ g all.0, all.1)
 
   -- what the hooks that see a new object came to
   checked_answered : (slot : Slot V) (at : Position S) (x : Verdict S E × V) (made : Made V) (s : Stage V C R S) (t : Turn V E)
       → slice_get gets n ≡ Some (get_at own (stage.Checking slot at)) → Makes core_desk core made core' → AfterChecked may slot x made s t
       → Gives may (checked n (party_at own (stage.Checking slot at)) slot pool x)
-      (reply_to t, image_of fixed core' (set gets n (get_at own s)) (given t out))
+      (reply_to t, image fixed core' (set gets n (get_at own s)) (given t out))
       × IsCounted core' (set gets n (get_at own s)) (given t out)
   checked_answered slot at (verdict.Accepted, v) no_step s t h e a =
       rw (a.0, a.1, e) (object_given (stage.Checking slot at) h (λ u. refl) refl refl refl refl (with_value v slot))
@@ -224,10 +223,10 @@ module _ {V E C R S F A : Type 0} (may : May V E C R S F A) (fixed : Fixed F A) 
 
   -- a get with a new object
   pub from_checking : (slot : Slot V) (at : Position S) (made : Made V) (s : Stage V C R S) (t : Turn V E) → slice_get gets n ≡ Some (get_at own (stage.Checking slot at))
-      → Makes core_desk core made core' → (x : Verdict S E × V) → Gives may (post_create fixed.hooks slot at) x → AfterChecked may slot x made s t → Goal (stage.Checking slot at) core' s t
+      → Makes core_desk core made core' → (x : Verdict S E × V) → Gives may (post_create fixed.environment.hooks slot at) x → AfterChecked may slot x made s t → Goal (stage.Checking slot at) core' s t
   from_checking slot at made s t h e x g a =
       let all = checked_answered slot at x made s t h e a in
-      (Gives-bind may (post_create fixed.hooks slot at) (checked n (party_at own (stage.Checking slot at)) slot pool) x _ g all.0, all.1)
+      (Gives-bind may (post_create fixed.environment.hooks slot at) (checked n (party_at own (stage.Checking slot at)) slot pool) x _ g all.0, all.1)
 
   pub from_finished : (s : Stage V C R S) (t : Turn V E) → slice_get gets n ≡ Some (get_at own stage.Finished) → core' ≡ core → s ≡ stage.Finished → t ≡ turn.Pending → Goal stage.Finished core' s t
   from_finished s t h e is_s is_t = rw (is_s, is_t, e, set-same gets n (get_at own stage.Finished) h) (refl, k)

@@ -1,7 +1,7 @@
 -- What every move has, whatever the outside answers: a lawful pool within the reach, the numbers of the objects, the object that
 -- the reply gives or keeps, and how many stay idle.
-use Rattle.deadpool_replay.proofs.Basics.{one_if, count-push, held-push, get-append, length-without_numbered, count-cons, count-append, count-without, count-found, order_same, Always-bind, Always-Gives, has_number, most_handles, Return, Gives, Always, ◌≡◌, ℕ, ◌+◌, ◌-◌, ◌≤◌, List, true, false, refl, ap, ◌∙◌, arith, inl, inr, Option, Some, None, [], ◌∷◌, ◌++◌, ◌==◌, nat_le, sym, ◌<◌, Bool, not, min, length, length-drop, nat_lt, unwrap_or, max, take, drop, length-append, zero, suc, if◌then◌else◌, cond_both, cases_Bool, leb-true, nat_tests, slice_get, filter}
-use Rattle.deadpool_replay.proofs.Words.{IsLawful, queue, is_queued, moved, by_party, resize, staying, give_up, retain_with, retain, by_handle, started, put_at, back_at, take_at, cancel, advance, Pool, Party, size, prepared_at, is_going, is_creating, prepared_by, settle, least_idle, unpolled, reach, status_of, rank_of, rank_at, LeavesEnough, IsOutIfGiven, IsIdleIfKept, HasFewIdle, prepared_in, sets_limit, named, may_leave, slot_number, find_slot, without_slot, given_up, resized, with_put, closed, cloned, handle_dropped, Move, Reply, May, Asking, may, Slot, Timeouts, Moment, grants}
+use Rattle.deadpool_replay.proofs.Basics.{one_if, count-push, held-push, get-append, length-without_numbered, count-cons, count-append, count-without, count-found, order_same, Always-bind, has_number, most_handles, Return, Always, ◌≡◌, ℕ, ◌+◌, ◌-◌, ◌≤◌, List, true, false, refl, ap, ◌∙◌, arith, inl, inr, Option, Some, None, [], ◌∷◌, ◌++◌, ◌==◌, nat_le, sym, Bool, not, min, length, length-drop, nat_lt, unwrap_or, max, take, drop, length-append, zero, suc, if◌then◌else◌, cond_both, cases_Bool, leb-true, nat_tests, slice_get, filter}
+use Rattle.deadpool_replay.proofs.Words.{IsLawful, queue, is_queued, moved, by_party, resize, staying, give_up, retain_with, retain, by_handle, started, put_at, back_at, take_at, cancel, advance, Pool, Party, size, prepared_at, is_going, is_creating, prepared_by, settle, least_idle, unpolled, reach, status_of, LeavesEnough, IsOutIfGiven, IsIdleIfKept, HasFewIdle, prepared_in, sets_limit, named, may_leave, slot_number, find_slot, without_slot, given_up, resized, with_put, closed, cloned, handle_dropped, Move, Reply, Asking, Slot, Timeouts, grants}
 use Rattle.deadpool_replay.specs.declared.moves.Move.TheVariants as move
 use Rattle.deadpool_replay.specs.declared.moves.Reply.TheVariants as reply
 use Rattle.deadpool_replay.proofs.NumberCounts.{held, held-with_put, held-drop, held-split, has_number-held, find_slot-number}
@@ -236,15 +236,3 @@ module _ {V C R S F A : Type 0} (E : Type 0) (p : Pool V C R S F A) (l : IsLawfu
   moved_has move.Upgrade =
       cond_both (p.handles == 0) _ _ (Moved {E = E} p move.Upgrade) (λ none. unchanged move.Upgrade (reply.Upgraded false) tt tt tt) (λ some. let all = cloned_step p l in (all.0, all.1, tt, tt, tt))
   moved_has move.Status = by_handle_moved move.Status (λ q. (reply.Stands (status_of q), q)) tt tt (λ some. unchanged move.Status (reply.Stands (status_of p)) tt tt tt)
-
-  -- an advance after which there is more to do takes its party nearer to its end
-  by_party_falls : (n : ℕ) (now : Moment) (found : Option (Option (Party V C R S))) → slice_get p.parties n ≡ found
-      → Always (λ (x : Reply V E × Pool V C R S F A). x.0 ≡ reply.More → rank_at n x.1 < rank_of found + (length p.idle + length p.idle)) (by_party found (advance n now) p)
-  by_party_falls n now (Some (Some party)) e =
-      Always-more (Advanced E (move.Advance n now) n party.timeouts p party.standing) _ (λ x h. h.3) (advance n now party p) (advanced E (move.Advance n now) n party.timeouts p l now party.standing e)
-  by_party_falls n now _ e = λ clash. cc
-
-  pub advance_falls : (may : May V E C R S F A) (after : Pool V C R S F A) (n : ℕ) (now : Moment) (answer : Reply V E)
-      → Gives may (moved (move.Advance n now) p) (answer, after) → answer ≡ reply.More → rank_at n after < rank_at n p
-  advance_falls may after n now answer =
-      Always-Gives (λ (x : Reply V E × Pool V C R S F A). x.0 ≡ reply.More → rank_at n x.1 < rank_at n p) may (moved (move.Advance n now) p) (answer, after) (by_party_falls n now _ refl)

@@ -15,7 +15,7 @@ pub use Rattle.deadpool_gate.specs.Owners.{owner, IsOwned}
 pub use Rattle.deadpool_parts.specs.Program.{Return, ◌>>=◌, Gives, Always, Program, Ask, ask}
 pub use Rattle.deadpool_gate.specs.Queue.{Queue}
 pub use Rattle.deadpool_parts.specs.Runs.{last_of, all_states, Each, Neighbours, Later}
-pub use Rattle.std.proofs.Common.{◌≡◌, ℕ, ◌+◌, ◌-◌, ◌≤◌, List, false, set, refl, ap, ◌∙◌, arith, inl, inr, Option, Some, None, Result, Ok, Err, length, true, [], ◌∷◌, ◌++◌, ◌==◌, nat_le, sym, ◌<◌, Bool, not, min, length-drop, nat_lt, unwrap_or, max, take, drop, length-append, zero, suc, if◌then◌else◌, subst, eq-eqb, eqb, map, cond, append-nil, is_some, ◌&&◌, is_none, option_map, lt-ltb, le-ltb, get_or, ◌≢◌, ◌||◌, append_assoc, ◌⊎◌, length-take, vec_len, vec_capacity, rules}
+pub use Rattle.std.proofs.Common.{◌≡◌, ℕ, ◌+◌, ◌-◌, ◌≤◌, List, false, set, refl, ap, ◌∙◌, arith, inl, inr, Option, Some, None, Result, Ok, Err, length, true, [], ◌∷◌, ◌++◌, ◌==◌, nat_le, sym, ◌<◌, Bool, not, min, length-drop, nat_lt, unwrap_or, max, take, drop, length-append, zero, suc, if◌then◌else◌, subst, eq-eqb, eqb, map, cond, append-nil, is_some, ◌&&◌, is_none, option_map, lt-ltb, le-ltb, get_or, ◌≢◌, ◌||◌, append_assoc, ◌⊎◌, length-take, set-set, vec_len, vec_capacity, rules}
 pub use Rattle.std.proofs.Math.Bool.{and-true, and-false, or-true, or-false}
 pub use Rattle.std.proofs.Math.ListN.{length-set as length-set_n}
 pub use Rattle.std.proofs.Math.Numerals.{one-add}

@@ -1,30 +1,29 @@
 -- A get that is cancelled over the desk is a party that is cancelled in the pool.
 use Rattle.deadpool_replay.proofs.Basics.{◌≡◌, ℕ, ◌-◌, ◌≤◌, List, true, false, set, refl, sym, ap, ◌∙◌, subst, arith, Option, Some, None, eq-eqb, slice_get, Gives, owner, owned-set, owned-leaves}
-use Rattle.deadpool_replay.proofs.Words.{given, Moment, Timeouts, DeskState, settled, is_listed, desk_unqueued as unqueued, Fails, Refuses, DeskCancels, Getting, May, object_of, Made, no_step, cancelling, Makes, CancelsFrom, GivesUp, Pool, prepared_at, removed, cancel, NobodyWaits, standing_of, has_ticket, queue_of, IsCounted, Slot, Stage, StepReply, Held, core_desk}
+use Rattle.deadpool_replay.proofs.Words.{given, Moment, Timeouts, DeskState, settled, is_listed, desk_unqueued as unqueued, Fails, Refuses, DeskCancels, Getting, May, object_of, Made, no_step, cancelling, Makes, CancelsFrom, GivesUp, Pool, prepared_at, removed, cancel, NobodyWaits, standing_of, has_ticket, queue_of, IsCounted, Slot, Stage, StepReply, Held, core_desk, Fixed, image, get_at}
 use Rattle.deadpool_managed.specs.Stages as stage
 use Rattle.deadpool_parts.specs.declared.replies.StepReply.TheVariants as step
 use Rattle.deadpool_desk.specs.declared.desk.Held.TheVariants as held
 use Rattle.deadpool_replay.specs.declared.moves.Reply.TheVariants as reply
 use Rattle.deadpool_replay.proofs.DeskImage.{NoTicket, goes, creates, prepares, Shifts, IsCounted-set, put_off-unqueued, put_off-image, holds_place, holds_creation, holds_object, ends_free, ends_empty}
-use Rattle.deadpool_replay.proofs.Fixed.{Fixed, image_of, get_at}
 
-module _ {V E C R S F A : Type 0} (may : May V E C R S F A) (fixed : Fixed F A) (n : ℕ)
+module _ {M V E C R S F A : Type 0} (may : May V E C R S F A) (fixed : Fixed M F A V E C R S) (n : ℕ)
     (core core' : DeskState (Slot V)) (gets : List (Option (Getting V C R S))) (out : List (Slot V)) (own : Timeouts)
-    (k : IsCounted core gets out) (nobody : NobodyWaits (image_of fixed core gets out)) where
+    (k : IsCounted core gets out) (nobody : NobodyWaits (image fixed core gets out)) where
   abbrev pool : Pool V C R S F A
-  pool = image_of fixed core gets out
+  pool = image fixed core gets out
 
   abbrev gone : List (Option (Getting V C R S))
   gone = set gets n None
 
   -- the pool without the party, and its counts
   abbrev Removes : DeskState (Slot V) → Type 0
-  Removes d = (removed n pool ≡ image_of fixed d gone out) × IsCounted d gone out
+  Removes d = (removed n pool ≡ image fixed d gone out) × IsCounted d gone out
 
   -- what is to be shown of a get that is cancelled at a stage
   abbrev Goal : Stage V C R S → DeskState (Slot V) → Type 0
   Goal old d =
-      Gives may (cancel n (record { timeouts = own; standing = standing_of old }) pool) (reply.Cancelled, image_of fixed d gone out)
+      Gives may (cancel n (record { timeouts = own; standing = standing_of old }) pool) (reply.Cancelled, image fixed d gone out)
       × IsCounted d gone out
 
   -- a get that held a place, and is counted no more

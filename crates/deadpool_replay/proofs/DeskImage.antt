@@ -1,8 +1,7 @@
 -- The pool that a desk, its gets and the objects out stand for: as it settles, as one get changes, ends or starts, and its counts.
 use Rattle.deadpool_replay.proofs.Basics.{cond_both, ◌≡◌, ℕ, List, ◌∷◌, [], ◌++◌, false, eqb, Option, IsOwned, ◌+◌, length, map, take, drop, refl, ◌∙◌, arith, take-map, drop-map, map-append, length-map, owner, owned-granting, ◌≤◌, cond, set, sym, ap, inl, inr, Some, append-nil, is_some, slice_get, cases_lt, map-set, length-set, slice_get-map, Queue, absent, renamed-set, renamed-leaves, renamed-joins, one_if, count-set, held-set, ◌<◌, true, subst, None, has_number, without_number, Program, Gives, without_number-same, length-append, owned-push, renamed-push, count-push, held-push}
-use Rattle.deadpool_replay.proofs.Words.{may, Slot, DeskState, Getting, has_ticket, queue_of, desk_places as places, desk_grants as grants, settled, Pool, Party, is_going, is_creating, prepared_by, places as pool_places, grants as pool_grants, settle, party_of, IsCounted, is_listed, desk_unqueued as unqueued, unqueued as pool_unqueued, NobodyWaits, is_under_way, Timeouts, unpolled, desk_size as size, desk_pending as pending, desk_status_of as status_of, size as pool_size, pending as pool_pending, status_of as pool_status_of}
+use Rattle.deadpool_replay.proofs.Words.{may, Slot, DeskState, Getting, has_ticket, queue_of, desk_places as places, desk_grants as grants, settled, Pool, Party, is_going, is_creating, prepared_by, places as pool_places, grants as pool_grants, settle, party_of, IsCounted, is_listed, desk_unqueued as unqueued, unqueued as pool_unqueued, NobodyWaits, is_under_way, Timeouts, unpolled, desk_size as size, desk_pending as pending, desk_status_of as status_of, size as pool_size, pending as pool_pending, status_of as pool_status_of, Fixed, image}
 use Rattle.deadpool_managed.specs.Stages as stage
-use Rattle.deadpool_replay.proofs.Fixed.{Fixed, image_of}
 
 module _ {V : Type 0} where
   -- the queue with one more ticket
@@ -49,19 +48,19 @@ module _ {V C R S : Type 0} where
   counted_settled d gets out k =
       record { tickets = owned-granting has_ticket (queue_of d) gets k.tickets (grants d); going = k.going; creations = k.creations; outside = k.outside; room = k.room }
 
-module _ {V C R S F A : Type 0} (fixed : Fixed F A) where
+module _ {M V E C R S F A : Type 0} (fixed : Fixed M F A V E C R S) where
   -- the pool has as many places held as the desk
-  pub places-image : (d : DeskState (Slot V)) (gets : List (Option (Getting V C R S))) (out : List (Slot V)) → IsCounted d gets out → pool_places (image_of fixed d gets out) ≡ places d
+  pub places-image : (d : DeskState (Slot V)) (gets : List (Option (Getting V C R S))) (out : List (Slot V)) → IsCounted d gets out → pool_places (image fixed d gets out) ≡ places d
   places-image d gets out k =
       let l : length (map (owner has_ticket gets) d.granted) ≡ length d.granted = length-map d.granted (owner has_ticket gets) in
       omega (arith, l, k.creations, k.outside, k.going)
 
   -- if the counts agree, the image of a settled desk is the image, settled
   pub settles : (core : DeskState (Slot V)) (gets : List (Option (Getting V C R S))) (out : List (Slot V)) → IsCounted core gets out
-      → image_of fixed (settled core) gets out ≡ settle (image_of fixed core gets out)
+      → image fixed (settled core) gets out ≡ settle (image fixed core gets out)
   settles core gets out k =
       let l2 : length (map (owner has_ticket gets) core.waiting) ≡ length core.waiting = length-map core.waiting (owner has_ticket gets) in
-      let p : Pool V C R S F A = image_of fixed core gets out in
+      let p : Pool V C R S F A = image fixed core gets out in
       let same_places : places core ≡ pool_places p = sym (places-image core gets out k) in
       let same : grants core ≡ pool_grants p = rw (l2, ← same_places) refl in
       rw (map-append (owner has_ticket gets) core.granted (take (grants core) core.waiting), ← take-map (owner has_ticket gets) (grants core) core.waiting, ← drop-map (owner has_ticket gets) (grants core) core.waiting, same) refl
@@ -126,10 +125,10 @@ put n party p = record p { parties = set p.parties n party }
 abbrev pub put_off : {V C R S F A : Type 0} → ℕ → Option (Party V C R S) → Pool V C R S F A → Pool V C R S F A
 put_off n party p = put n party (pool_unqueued n p)
 
-module _ {V C R S F A : Type 0} (fixed : Fixed F A)
+module _ {M V E C R S F A : Type 0} (fixed : Fixed M F A V E C R S)
     (d : DeskState (Slot V)) (gets : List (Option (Getting V C R S))) (out : List (Slot V)) (o : Owns d gets) (n : ℕ) (old new : Option (Getting V C R S)) (h : slice_get gets n ≡ Some old) where
   abbrev in_pool : DeskState (Slot V) → List (Option (Getting V C R S)) → Pool V C R S F A
-  in_pool d' gets' = image_of fixed d' gets' out
+  in_pool d' gets' = image fixed d' gets' out
 
   -- the pool with another queue and other parties
   abbrev with : Queue → List (Option (Party V C R S)) → Pool V C R S F A
@@ -182,13 +181,13 @@ module _ {V C R S : Type 0} (d : DeskState (Slot V)) (gets : List (Option (Getti
   pub holds_object : prepares old ≤ d.outside
   holds_object = let c = held-set prepared_by (map party_of gets) n (party_of old) None here in omega (arith, c, k.outside)
 
-module _ {V C R S F A : Type 0} (fixed : Fixed F A)
+module _ {M V E C R S F A : Type 0} (fixed : Fixed M F A V E C R S)
     (core : DeskState (Slot V)) (gets : List (Option (Getting V C R S))) (out : List (Slot V)) (n : ℕ) (new : Option (Getting V C R S)) where
   abbrev pool : Pool V C R S F A
-  pool = image_of fixed core gets out
+  pool = image fixed core gets out
 
   abbrev after : DeskState (Slot V) → Pool V C R S F A
-  after d = image_of fixed d (set gets n new) out
+  after d = image fixed d (set gets n new) out
 
   -- what a get held is free
   pub ends_free : (d : DeskState (Slot V)) → put_off n (party_of new) pool ≡ after d → IsCounted d (set gets n new) out
@@ -248,11 +247,11 @@ module _ {V C R S : Type 0} where
         room = omega (arith, count-push is_under_way gets (Some (newcomer t)), k.room, longer);
       }
 
-module _ {V C R S F A : Type 0} (fixed : Fixed F A) where
+module _ {M V E C R S F A : Type 0} (fixed : Fixed M F A V E C R S) where
   -- a new get is a new party in the image, and is counted
   pub starts : (core : DeskState (Slot V)) (gets : List (Option (Getting V C R S))) (out : List (Slot V)) → IsCounted core gets out → (t : Timeouts)
-      → (image_of fixed core (gets ++ Some (newcomer t) ∷ []) out
-      ≡ record (image_of fixed core gets out) { parties = map party_of gets ++ Some (record { timeouts = t; standing = unpolled }) ∷ [] })
+      → (image fixed core (gets ++ Some (newcomer t) ∷ []) out
+      ≡ record (image fixed core gets out) { parties = map party_of gets ++ Some (record { timeouts = t; standing = unpolled }) ∷ [] })
       × IsCounted core (gets ++ Some (newcomer t) ∷ []) out
   starts core gets out k t =
       let named = renamed-push has_ticket (queue_of core) gets k.tickets (Some (newcomer t)) in (
@@ -262,11 +261,11 @@ module _ {V C R S F A : Type 0} (fixed : Fixed F A) where
 
   -- a desk says of itself what its pool does
   pub pool_status : (core : DeskState (Slot V)) (gets : List (Option (Getting V C R S))) (out : List (Slot V)) → IsCounted core gets out
-      → pool_status_of (image_of fixed core gets out) ≡ status_of core
+      → pool_status_of (image fixed core gets out) ≡ status_of core
   pool_status core gets out k =
       let l1 : length (map (owner has_ticket gets) core.granted) ≡ length core.granted = length-map core.granted (owner has_ticket gets) in
       let l2 : length (map (owner has_ticket gets) core.waiting) ≡ length core.waiting = length-map core.waiting (owner has_ticket gets) in
-      let p : Pool V C R S F A = image_of fixed core gets out in
+      let p : Pool V C R S F A = image fixed core gets out in
       let sizes : pool_size p ≡ size core = omega (arith, k.outside) in
       let pendings : pool_pending p ≡ pending core = omega (arith, l1, l2, k.going, k.creations) in
       rw (sizes, pendings) refl

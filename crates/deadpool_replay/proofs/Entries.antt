@@ -1,6 +1,6 @@
 -- Advances of a get that was not polled, that is in the queue, or that holds a place and nothing else.
 use Rattle.deadpool_replay.proofs.Basics.{◌+◌, cond-true, cond-false, ◌≡◌, ℕ, ◌-◌, ◌<◌, ◌≤◌, List, Bool, true, false, not, ◌&&◌, set, map, refl, sym, ap, ◌∙◌, subst, arith, Option, Some, None, Err, is_none, nat_lt, option_map, eq-eqb, lt-ltb, le-ltb, slice_get, slice_get-map, has_number, without_number, Gives, owner, set-same, owned-set, owned-joins, owned-leaves, granted-renamed, not-true, not-false}
-use Rattle.deadpool_replay.proofs.Words.{Standing, deadline_after, is_reached, is_positive, Moment, Timeouts, PoolError, Timeout, Closed, NoRuntimeSpecified, OutOfMemory, DeskState, desk_places as places, is_listed, desk_unqueued as unqueued, Enters, Asks, AsksAgain, Getting, May, Reserve, AfterEntered, AfterAsked, AfterAskedAgain, Pool, unpolled, queued, going, places as pool_places, unqueued as pool_unqueued, fail, advance_at, NobodyWaits, party_of, standing_of, has_ticket, queue_of, IsCounted, given, reply_to, Slot, Stage, Turn, EnterReply, AskReply, AgainReply, Reply}
+use Rattle.deadpool_replay.proofs.Words.{Standing, deadline_after, is_reached, is_positive, Moment, Timeouts, PoolError, Timeout, Closed, NoRuntimeSpecified, OutOfMemory, DeskState, desk_places as places, is_listed, desk_unqueued as unqueued, Enters, Asks, AsksAgain, Getting, May, Reserve, AfterEntered, AfterAsked, AfterAskedAgain, Pool, unpolled, queued, going, places as pool_places, unqueued as pool_unqueued, fail, advance_at, NobodyWaits, party_of, standing_of, has_ticket, queue_of, IsCounted, given, reply_to, Slot, Stage, Turn, EnterReply, AskReply, AgainReply, Reply, Fixed, image, get_at, party_at}
 use Rattle.deadpool_parts.specs.declared.errors.TimeoutType.TheVariants as phase
 use Rattle.deadpool_managed.specs.Stages as stage
 use Rattle.deadpool_managed.specs.declared.get.Turn.TheVariants as turn
@@ -11,17 +11,16 @@ use Rattle.deadpool_replay.specs.declared.moves.Reply.TheVariants as reply
 use Rattle.deadpool_replay.proofs.NumberLists.{without-twice}
 use Rattle.deadpool_replay.proofs.DeskImage.{Owns, NoTicket, queueing, put_off, IsCounted-set, put_off-unqueued, put-queueing, unqueued-none, places-image, put-image, Gives-same, holds_place, ends_quietly, ends_empty, nobody_waits-closed, nobody_waits-unqueued, goes, creates, prepares, lasts}
 use Rattle.deadpool_replay.proofs.Serving.{HasLeft, serves}
-use Rattle.deadpool_replay.proofs.Fixed.{Fixed, image_of, get_at, party_at}
 
-module _ {V E C R S F A : Type 0} (may : May V E C R S F A) (fixed : Fixed F A) (n : ℕ) (now : Moment)
+module _ {M V E C R S F A : Type 0} (may : May V E C R S F A) (fixed : Fixed M F A V E C R S) (n : ℕ) (now : Moment)
     (core core' : DeskState (Slot V)) (gets : List (Option (Getting V C R S))) (out : List (Slot V)) (own : Timeouts)
-    (k : IsCounted core gets out) (nobody : NobodyWaits (image_of fixed core gets out)) where
+    (k : IsCounted core gets out) (nobody : NobodyWaits (image fixed core gets out)) where
   abbrev pool : Pool V C R S F A
-  pool = image_of fixed core gets out
+  pool = image fixed core gets out
 
   -- the pool when it stands elsewhere, and no object is given out
   abbrev after : DeskState (Slot V) → Stage V C R S → Pool V C R S F A
-  after d s = image_of fixed d (set gets n (get_at own s)) out
+  after d s = image fixed d (set gets n (get_at own s)) out
 
   abbrev Counted : DeskState (Slot V) → Stage V C R S → Type 0
   Counted d s = IsCounted d (set gets n (get_at own s)) out
@@ -29,7 +28,7 @@ module _ {V E C R S F A : Type 0} (may : May V E C R S F A) (fixed : Fixed F A) 
   -- what is to be shown of an advance from one stage to another, if no object is given out
   abbrev Goal : Stage V C R S → DeskState (Slot V) → Stage V C R S → Turn V E → Type 0
   Goal old d s t =
-      Gives may (advance_at (standing_of old) n (party_at own old) now pool) (reply_to t, image_of fixed d (set gets n (get_at own s)) (given t out))
+      Gives may (advance_at (standing_of old) n (party_at own old) now pool) (reply_to t, image fixed d (set gets n (get_at own s)) (given t out))
       × IsCounted d (set gets n (get_at own s)) (given t out)
 
   -- a get that is in no queue, and held a place at most, is in no count of the desk without its place
@@ -62,7 +61,7 @@ module _ {V E C R S F A : Type 0} (may : May V E C R S F A) (fixed : Fixed F A) 
         ap (λ (q : Pool V C R S F A). (reply.Failed cause, q))
         (ends_empty fixed core gets out n (get_at own stage.Finished) k nobody (get_at own stage.Unpolled) h (λ u. refl) (λ u. refl) entry_counted)
 
-    module _ (runs : (is_positive own.wait && is_none fixed.runtime) ≡ false) where
+    module _ (runs : (is_positive own.wait && is_none fixed.environment.runtime) ≡ false) where
       -- the pool is full if the desk is
       full_as : core.limit ≤ places core → nat_lt (pool_places pool) core.limit ≡ false
       full_as full = le-ltb (pool_places pool) core.limit (subst (λ m. core.limit ≤ m) (sym (places-image fixed core gets out k)) full)
@@ -111,7 +110,7 @@ module _ {V E C R S F A : Type 0} (may : May V E C R S F A) (fixed : Fixed F A) 
             rw (a.0, a.1, e.3) (entry_finds_none e.0 e.1 (not-true _ (sym w ∙ e.2)))
 
     -- a timeout without a runtime ends a get before its entry
-    pub from_unrun : (s : Stage V C R S) (t : Turn V E) → core' ≡ core → (is_positive own.wait && is_none fixed.runtime) ≡ true → s ≡ stage.Finished → t ≡ turn.Done (Err NoRuntimeSpecified)
+    pub from_unrun : (s : Stage V C R S) (t : Turn V E) → core' ≡ core → (is_positive own.wait && is_none fixed.environment.runtime) ≡ true → s ≡ stage.Finished → t ≡ turn.Done (Err NoRuntimeSpecified)
         → Goal stage.Unpolled core' s t
     from_unrun s t e lacks is_s is_t =
         rw (is_s, is_t, e) (Gives-same may _ _ _ (cond-true _ _ _ lacks) (entry_refused NoRuntimeSpecified), entry_counted)
@@ -142,7 +141,7 @@ module _ {V E C R S F A : Type 0} (may : May V E C R S F A) (fixed : Fixed F A) 
 
     -- the pool when it has left the queue
     left_named : (new : Option (Getting V C R S)) → NoTicket new
-        → put_off n (party_of new) pool ≡ image_of fixed without_ticket (set gets n new) out
+        → put_off n (party_of new) pool ≡ image fixed without_ticket (set gets n new) out
     left_named new none = put_off-unqueued fixed core gets out k.tickets n waiter new h ticket is_ours.1 (λ u. refl) none
 
     -- the owners of the other tickets

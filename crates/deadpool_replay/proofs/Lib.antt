@@ -2,10 +2,10 @@ pub mod Advances
 pub mod AllMoves
 pub mod Basics
 pub mod Cancels
+pub mod Cited
 pub mod Computations
 pub mod DeskImage
 pub mod Entries
-pub mod Fixed
 pub mod NumberCounts
 pub mod NumberLists
 pub mod NumbersAndOrder

@@ -1,11 +1,10 @@
 -- Objects that are out: one gets another value, leaves the pool for good, or comes back.
 use Rattle.deadpool_replay.proofs.Basics.{◌≡◌, ℕ, suc, List, [], ◌∷◌, ◌==◌, length, set, refl, ap, inl, inr, Some, get_or, position, position_or_len, one-add, cases_Bool, place_is, found_at_place, arith, Option, ◌+◌, ◌-◌, length-without_numbered, ◌++◌, true, false, nat_le, sym, le-leb, lt-leb, eq-eqb, ne_eqb, Gives}
-use Rattle.deadpool_replay.proofs.Words.{find_slot, with_put, Slot, DeskState, Getting, IsCounted, settled, settle, without_slot, slot_number, May, TakesBack, Pool, size, moved, IsTaken, reply_to_back, BackReply, Reply}
+use Rattle.deadpool_replay.proofs.Words.{find_slot, with_put, Slot, DeskState, Getting, IsCounted, settled, settle, without_slot, slot_number, May, TakesBack, Pool, size, moved, IsTaken, reply_to_back, BackReply, Reply, Fixed, image}
 use Rattle.deadpool_desk.specs.declared.desk.BackReply.TheVariants as back
 use Rattle.deadpool_replay.specs.declared.moves.Move.TheVariants as move
 use Rattle.deadpool_replay.specs.declared.moves.Reply.TheVariants as reply
 use Rattle.deadpool_replay.proofs.DeskImage.{settles, counted_settled}
-use Rattle.deadpool_replay.proofs.Fixed.{Fixed, image_of}
 
 module _ {V : Type 0} where
   -- a value put at the first place with the number
@@ -58,11 +57,11 @@ module _ {V C R S : Type 0} (core : DeskState (Slot V)) (gets : List (Option (Ge
         room = omega (arith, less, k.room);
       }
 
-module _ {V C R S F A : Type 0} (fixed : Fixed F A)
+module _ {M V E C R S F A : Type 0} (fixed : Fixed M F A V E C R S)
     (core core' : DeskState (Slot V)) (gets : List (Option (Getting V C R S))) (out : List (Slot V)) (n : ℕ) (slot : Slot V) (k : IsCounted core gets out) (h : find_slot n out ≡ Some slot) where
   -- an object that leaves the pool for good takes its place with it
   pub takes : core' ≡ settled (record core { outside = core.outside - 1 })
-      → (image_of fixed core' gets (without_slot n out) ≡ settle (record (image_of fixed core gets out) { out = without_slot n out }))
+      → (image fixed core' gets (without_slot n out) ≡ settle (record (image fixed core gets out) { out = without_slot n out }))
       × IsCounted core' gets (without_slot n out)
   takes e =
       let counted = taken_counted core gets out n slot k h core.idle in
@@ -81,16 +80,16 @@ module _ {V C R S : Type 0} (core core' : DeskState (Slot V)) (gets : List (Opti
   back_counted (back.Detach given) e = rw e.4 (counted_settled (record core { outside = core.outside - 1 }) gets (without_slot n out) (taken_counted core gets out n slot k h core.idle), tt)
   back_counted (back.Unknown given) e = absurd (omega (arith, one_outside core gets out n slot k h, e.0))
 
-module _ {V E C R S F A : Type 0} (may : May V E C R S F A) (fixed : Fixed F A)
+module _ {M V E C R S F A : Type 0} (may : May V E C R S F A) (fixed : Fixed M F A V E C R S)
     (core core' : DeskState (Slot V)) (gets : List (Option (Getting V C R S))) (out : List (Slot V)) (n : ℕ) (slot : Slot V) (k : IsCounted core gets out) (h : find_slot n out ≡ Some slot) where
   -- what the desk makes of an object that comes back is what the pool makes of it
   pub backs : (r : BackReply (Slot V)) (answer : Reply V E) → TakesBack core slot r core' → Gives may (reply_to_back r) answer
-      → Gives may (moved (move.Back n) (image_of fixed core gets out)) (answer, image_of fixed core' gets (without_slot n out))
+      → Gives may (moved (move.Back n) (image fixed core gets out)) (answer, image fixed core' gets (without_slot n out))
   backs back.Kept answer e g =
       let core1 : DeskState (Slot V) = record core { idle = core.idle ++ slot ∷ []; outside = core.outside - 1 } in
       let counted = taken_counted core gets out n slot k h (core.idle ++ slot ∷ []) in
       let has_handle : (core.handles == 0) ≡ false = ne_eqb core.handles 0 (omega (arith, e.1)) in
-      let fits : nat_le (size (image_of fixed core gets out)) core.limit ≡ true = le-leb _ _ (omega (arith, k.outside, e.2)) in
+      let fits : nat_le (size (image fixed core gets out)) core.limit ≡ true = le-leb _ _ (omega (arith, k.outside, e.2)) in
       rw (h, ← g, e.3) (rw (has_handle, fits)
       (ap (λ (p : Pool V C R S F A). (reply.Kept, p)) (sym (settles fixed core1 gets (without_slot n out) counted))))
   backs (back.Dropped given) answer e g =
@@ -99,7 +98,7 @@ module _ {V E C R S F A : Type 0} (may : May V E C R S F A) (fixed : Fixed F A)
       rw (h, ← g) (rw no_handle (ap (λ (p : Pool V C R S F A). (reply.Dropped, p)) (sym left.0)))
   backs (back.Detach given) answer e g =
       let has_handle : (core.handles == 0) ≡ false = ne_eqb core.handles 0 (omega (arith, e.1)) in
-      let full : nat_le (size (image_of fixed core gets out)) core.limit ≡ false = lt-leb _ _ (omega (arith, k.outside, e.2)) in
+      let full : nat_le (size (image fixed core gets out)) core.limit ≡ false = lt-leb _ _ (omega (arith, k.outside, e.2)) in
       let left = takes fixed core core' gets out n slot k h e.4 in
       let allowed = rw e.3 at g.1.0 in
       rw (h, ← g.1.1) (rw (has_handle, full) (g.0, (allowed, ap (λ (p : Pool V C R S F A). (reply.Detached, p)) (sym left.0))))

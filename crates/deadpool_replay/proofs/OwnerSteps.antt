@@ -1,12 +1,11 @@
 -- The steps of a pool's owner: another limit, a close and handles, and a take, at the desk and in the pool.
 use Rattle.deadpool_replay.proofs.Basics.{eq-eqb, ne_eqb, ◌≡◌, ℕ, ◌+◌, ◌-◌, List, [], Bool, true, false, ◌==◌, length, drop, min, max, refl, ap, ◌∙◌, arith, Option, if◌then◌else◌, append-nil, drop_all, most_handles, ◌≢◌, cond, not, nat_lt, Some, Ok, Err, sym, subst, inl, inr, nat_tests, cases_Bool, Gives, Return, ask, ◌>>=◌}
-use Rattle.deadpool_replay.proofs.Words.{DeskState, desk_size as size, settled, desk_given_up as given_up_core, Getting, Pool, places, size as pool_size, settle, given_up, resized, closed, cloned, handle_dropped, IsCounted, Slot, given, Asking, May, Reserve, Takes, Resizes, Closes, Clones, DropsHandle, Upgrades, desk_resized as resized_core, find_slot, without_slot, moved, by_handle, reply_to_take, reply_to_handle, TakeReply, HandleReply, Reply}
+use Rattle.deadpool_replay.proofs.Words.{DeskState, desk_size as size, settled, desk_given_up as given_up_core, Getting, Pool, places, size as pool_size, settle, given_up, resized, closed, cloned, handle_dropped, IsCounted, Slot, given, Asking, May, Reserve, Takes, Resizes, Closes, Clones, DropsHandle, Upgrades, desk_resized as resized_core, find_slot, without_slot, moved, by_handle, reply_to_take, reply_to_handle, TakeReply, HandleReply, Reply, Fixed, image}
 use Rattle.deadpool_desk.specs.declared.desk.TakeReply.TheVariants as taking
 use Rattle.deadpool_parts.specs.declared.replies.HandleReply.TheVariants as handle
 use Rattle.deadpool_replay.specs.declared.moves.Move.TheVariants as move
 use Rattle.deadpool_replay.specs.declared.moves.Reply.TheVariants as reply
 use Rattle.deadpool_replay.proofs.DeskImage.{settles, same_counted, counted_settled, Gives-same}
-use Rattle.deadpool_replay.proofs.Fixed.{Fixed, image_of}
 use Rattle.deadpool_replay.proofs.OutObjects.{takes, one_outside}
 use Rattle.deadpool_replay.proofs.TrialSteps.{no_handle, some_handle}
 
@@ -15,12 +14,12 @@ none_free : (b : Bool) (n m : ℕ) → (if b then min n (0 - m) else 0) ≡ 0
 none_free true n m = omega arith
 none_free false n m = refl
 
-module _ {V C R S F A : Type 0} (fixed : Fixed F A)
+module _ {M V E C R S F A : Type 0} (fixed : Fixed M F A V E C R S)
     (core core' : DeskState (Slot V)) (gets : List (Option (Getting V C R S))) (out : List (Slot V)) (k : IsCounted core gets out) where
   pub resizes : (n : ℕ) → core' ≡ settled (record core { limit = n; reserve = max core.reserve n; idle = drop (given_up_core n core) core.idle })
-      → (image_of fixed core' gets out ≡ resized n (image_of fixed core gets out)) × IsCounted core' gets out
+      → (image fixed core' gets out ≡ resized n (image fixed core gets out)) × IsCounted core' gets out
   resizes n e =
-      let p : Pool V C R S F A = image_of fixed core gets out in
+      let p : Pool V C R S F A = image fixed core gets out in
       let core1 : DeskState (Slot V) = record core { limit = n; reserve = max core.reserve n; idle = drop (given_up_core n core) core.idle } in
       let counted = same_counted core core1 gets out k refl refl refl refl refl in
       let sizes : size core ≡ pool_size p = omega (arith, k.outside) in
@@ -31,9 +30,9 @@ module _ {V C R S F A : Type 0} (fixed : Fixed F A)
       )
 
   pub closes : core' ≡ record core { limit = 0; is_open = false; idle = [] }
-      → (image_of fixed core' gets out ≡ closed (image_of fixed core gets out)) × IsCounted core' gets out
+      → (image fixed core' gets out ≡ closed (image fixed core gets out)) × IsCounted core' gets out
   closes e =
-      let p : Pool V C R S F A = image_of fixed core gets out in
+      let p : Pool V C R S F A = image fixed core gets out in
       let all : given_up 0 p ≡ length core.idle = omega arith in
       let room : max core.reserve 0 ≡ core.reserve = omega arith in
       rw e (
@@ -42,23 +41,23 @@ module _ {V C R S F A : Type 0} (fixed : Fixed F A)
       )
 
   pub clones : core' ≡ record core { handles = min (core.handles + 1) most_handles }
-      → (image_of fixed core' gets out ≡ cloned (image_of fixed core gets out)) × IsCounted core' gets out
+      → (image fixed core' gets out ≡ cloned (image fixed core gets out)) × IsCounted core' gets out
   clones e = rw e (refl, same_counted core (record core { handles = min (core.handles + 1) most_handles }) gets out k refl refl refl refl refl)
 
   -- one handle less: the last takes the idle objects with it
   pub drops_handle : (left : ℕ) → left ≡ (if core.handles == most_handles then most_handles else core.handles - 1) → core' ≡ record core { handles = left; idle = if left == 0 then [] else core.idle }
-      → (image_of fixed core' gets out ≡ handle_dropped (image_of fixed core gets out)) × IsCounted core' gets out
+      → (image fixed core' gets out ≡ handle_dropped (image fixed core gets out)) × IsCounted core' gets out
   drops_handle left l e =
       let left' : ℕ = if core.handles == most_handles then most_handles else core.handles - 1 in
       rw (e, l) (refl, same_counted core (record core { handles = left'; idle = if left' == 0 then [] else core.idle }) gets out k refl refl refl refl refl)
 
-module _ {V E C R S F A : Type 0} (may : May V E C R S F A) (memory : (found : Bool) → may Reserve found) (fixed : Fixed F A)
+module _ {M V E C R S F A : Type 0} (may : May V E C R S F A) (memory : (found : Bool) → may Reserve found) (fixed : Fixed M F A V E C R S)
     (core core' : DeskState (Slot V)) (gets : List (Option (Getting V C R S))) (out : List (Slot V)) (counted : IsCounted core gets out) where
   abbrev before : Pool V C R S F A
-  before = image_of fixed core gets out
+  before = image fixed core gets out
 
   abbrev after : Pool V C R S F A
-  after = image_of fixed core' gets out
+  after = image fixed core' gets out
 
   -- an object that is out is known
   pub taken_known : (n : ℕ) (slot : Slot V) (r : TakeReply) → find_slot n out ≡ Some slot → Takes core r core' → r ≢ taking.Unknown
@@ -67,15 +66,15 @@ module _ {V E C R S F A : Type 0} (may : May V E C R S F A) (memory : (found : B
       absurd (omega (arith, one_outside core gets out n slot counted here, t.0))
 
   pub taken : (n : ℕ) (slot : Slot V) (r : TakeReply) (answer : Reply V E) → find_slot n out ≡ Some slot → Takes core r core' → Gives may (reply_to_take slot.value r) answer
-      → Gives may (moved (move.Take n) before) (answer, image_of fixed core' gets (without_slot n out)) × IsCounted core' gets (without_slot n out)
+      → Gives may (moved (move.Take n) before) (answer, image fixed core' gets (without_slot n out)) × IsCounted core' gets (without_slot n out)
   taken n slot (taking.Taken true) answer here t given =
       let all = takes fixed core core' gets out n slot counted here t.2 in
       let some = some_handle true core.handles t.1 refl in
-      rw (here, some) ((given.0, (given.1.0, ap (λ (q : Pool V C R S F A). (reply.Taken given.0, q)) (sym all.0) ∙ ap (λ (x : Reply V E). (x, image_of fixed core' gets (without_slot n out))) given.1.1)), all.1)
+      rw (here, some) ((given.0, (given.1.0, ap (λ (q : Pool V C R S F A). (reply.Taken given.0, q)) (sym all.0) ∙ ap (λ (x : Reply V E). (x, image fixed core' gets (without_slot n out))) given.1.1)), all.1)
   taken n slot (taking.Taken false) answer here t given =
       let all = takes fixed core core' gets out n slot counted here t.2 in
       let none = no_handle false core.handles t.1 refl in
-      rw (here, none) (ap (λ (q : Pool V C R S F A). (reply.Taken slot.value, q)) (sym all.0) ∙ ap (λ (x : Reply V E). (x, image_of fixed core' gets (without_slot n out))) given, all.1)
+      rw (here, none) (ap (λ (q : Pool V C R S F A). (reply.Taken slot.value, q)) (sym all.0) ∙ ap (λ (x : Reply V E). (x, image fixed core' gets (without_slot n out))) given, all.1)
   taken n slot taking.Unknown answer here t given =
       absurd (omega (arith, one_outside core gets out n slot counted here, t.0))
 
@@ -100,7 +99,7 @@ module _ {V E C R S F A : Type 0} (may : May V E C R S F A) (memory : (found : B
             (Gives-same may _ (resizing n false true) _ (ap (λ b. resizing n b core.is_open) some ∙ ap (resizing n false) open_) (grows n (nat_lt before.reserve n) all.0), all.1)
         | inr closed_ ↦
             let is : core' ≡ core = r ∙ ap (λ b. cond b (resized_core n core) core) closed_ in
-            let same : before ≡ after = ap (λ (d : DeskState (Slot V)). image_of fixed d gets out) (sym is) in (
+            let same : before ≡ after = ap (λ (d : DeskState (Slot V)). image fixed d gets out) (sym is) in (
               Gives-same may _ (resizing n false false) _ (ap (λ b. resizing n b core.is_open) some ∙ ap (resizing n false) closed_) (ap (λ (q : Pool V C R S F A). (reply.Done, q)) same),
               subst (λ (d : DeskState (Slot V)). IsCounted d gets out) (sym is) counted,
             )
@@ -110,7 +109,7 @@ module _ {V E C R S F A : Type 0} (may : May V E C R S F A) (memory : (found : B
   pub resized_err : (n : ℕ) (e : _) → (core.handles == 0) ≡ false → Resizes core n (Err e) core' → Gives may (moved (move.Resize n) before) (reply.OutOfMemory, after) × IsCounted core' gets out
   resized_err n e some r =
       let more : nat_lt before.reserve n ≡ true = grind (arith, nat_tests, r.1) in
-      let same : before ≡ after = ap (λ (d : DeskState (Slot V)). image_of fixed d gets out) (sym r.2) in (
+      let same : before ≡ after = ap (λ (d : DeskState (Slot V)). image fixed d gets out) (sym r.2) in (
         Gives-same may _ (resizing n false true) _ (ap (λ b. resizing n b core.is_open) some ∙ ap (resizing n false) r.0)
             (rw more (false, (memory false, ap (λ (q : Pool V C R S F A). (reply.OutOfMemory, q)) same))),
         subst (λ (d : DeskState (Slot V)). IsCounted d gets out) (sym r.2) counted,
@@ -126,7 +125,7 @@ module _ {V E C R S F A : Type 0} (may : May V E C R S F A) (memory : (found : B
   unchanged : (step : Pool V C R S F A → Pool V C R S F A) → core.handles ≡ 0 → core' ≡ core
       → Gives may (Return (by_handle {E = E} (λ q. (reply.Done, step q)) before)) (reply.NoHandle, after) × IsCounted core' gets out
   unchanged step none same = (
-    ap (λ b. cond b (reply.NoHandle, before) (reply.Done, step before)) (eq-eqb core.handles 0 none) ∙ ap (λ (d : DeskState (Slot V)). (reply.NoHandle, image_of fixed d gets out)) (sym same),
+    ap (λ b. cond b (reply.NoHandle, before) (reply.Done, step before)) (eq-eqb core.handles 0 none) ∙ ap (λ (d : DeskState (Slot V)). (reply.NoHandle, image fixed d gets out)) (sym same),
     subst (λ (d : DeskState (Slot V)). IsCounted d gets out) (sym same) counted,
   )
 
@@ -146,6 +145,6 @@ module _ {V E C R S F A : Type 0} (may : May V E C R S F A) (memory : (found : B
       let all = clones fixed core core' gets out counted u.1 in
       (ap (λ c. cond c (reply.Upgraded false, before) (reply.Upgraded true, cloned before)) (ne_eqb core.handles 0 (omega (arith, u.0))) ∙ ap (λ (q : Pool V C R S F A). (reply.Upgraded true, q)) (sym all.0), all.1)
   upgraded false u = (
-    ap (λ c. cond c (reply.Upgraded false, before) (reply.Upgraded true, cloned before)) (eq-eqb core.handles 0 u.0) ∙ ap (λ (d : DeskState (Slot V)). (reply.Upgraded false, image_of fixed d gets out)) (sym u.1),
+    ap (λ c. cond c (reply.Upgraded false, before) (reply.Upgraded true, cloned before)) (eq-eqb core.handles 0 u.0) ∙ ap (λ (d : DeskState (Slot V)). (reply.Upgraded false, image fixed d gets out)) (sym u.1),
     subst (λ (d : DeskState (Slot V)). IsCounted d gets out) (sym u.1) counted,
   )

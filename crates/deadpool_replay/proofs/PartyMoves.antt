@@ -1,7 +1,7 @@
--- What an advance of a party has, and its cancelling: a lawful pool within the reach, the numbers of the objects, the object that
--- the reply gives, and how near the party's end is.
-use Rattle.deadpool_replay.proofs.Basics.{one_if, get-set_same, length-with_numbered, count-with, count-cons_option, is_at, IsOnce-push, order_same, Always-bind, has_number, without_number, largest_usize, KeepsOrder, Return, Always, ◌≡◌, ℕ, ◌+◌, ◌-◌, ◌≤◌, List, true, false, set, refl, ap, ◌∙◌, arith, inl, inr, Option, Some, None, Result, Ok, Err, [], ◌∷◌, ◌++◌, ◌==◌, sym, eq-eqb, ◌<◌, Bool, not, length, nat_lt, ◌&&◌, is_none, unwrap_or, max, append_assoc, ◌⊎◌, cond_both, ltb-true, ltb-false, slice_get-get_or, slice_get}
-use Rattle.deadpool_replay.proofs.Words.{IsLawful, queue, waits_at, is_queued, created, reviewed, checked, hand_out, advance_at, enter, inquire, joined, go_on_creating, cancel_with, Pool, Party, prepared_at, is_going, is_creating, prepared_by, places, settle, unpolled, queued, going, Standing, creating, recycling, checking, finished, creating_count, goes, creates, reach, rank, rank_of, rank_at, IsOutIfGiven, prepared_in, fail, with_slot, slot_number, removed, serve_from, to, Move, Reply, other_idle-shorter, start, next_idle, other_idle, new_metrics, Asking, create, prepare, post_create, with_value, object_of, Position, Preparation, PreRecycle, Prepared, Verdict, Slot, deadline_after, is_reached, lacks_runtime, is_positive, QueueMode, Fifo, Lifo, Timeouts, PoolError, Timeout, Backend, NoRuntimeSpecified, PostCreateHook, Closed, OutOfMemory, NumbersExhausted, Moment, Poll}
+-- What an advance of a party has, and its cancelling: a lawful pool within the reach, the numbers of the objects, and the object
+-- that the reply gives.
+use Rattle.deadpool_replay.proofs.Basics.{one_if, length-with_numbered, count-with, count-cons_option, is_at, IsOnce-push, order_same, Always-bind, has_number, without_number, largest_usize, KeepsOrder, Return, Always, ◌≡◌, ℕ, ◌+◌, ◌-◌, ◌≤◌, List, true, false, set, refl, ap, ◌∙◌, arith, inl, inr, Option, Some, None, Result, Ok, Err, [], ◌∷◌, ◌++◌, ◌==◌, sym, eq-eqb, ◌<◌, Bool, not, length, nat_lt, ◌&&◌, is_none, unwrap_or, max, append_assoc, ◌⊎◌, cond_both, ltb-true, ltb-false, slice_get-get_or, slice_get}
+use Rattle.deadpool_replay.proofs.Words.{IsLawful, queue, waits_at, is_queued, created, reviewed, checked, hand_out, advance_at, enter, inquire, joined, go_on_creating, cancel_with, Pool, Party, prepared_at, is_going, is_creating, prepared_by, places, settle, unpolled, queued, going, Standing, creating, recycling, checking, finished, creating_count, goes, creates, reach, IsOutIfGiven, prepared_in, fail, with_slot, slot_number, removed, serve_from, to, Move, Reply, other_idle-shorter, start, next_idle, other_idle, new_metrics, Asking, create, prepare, post_create, with_value, object_of, Position, Preparation, PreRecycle, Prepared, Verdict, Slot, deadline_after, is_reached, lacks_runtime, is_positive, QueueMode, Fifo, Lifo, Timeouts, PoolError, Timeout, Backend, NoRuntimeSpecified, PostCreateHook, Closed, OutOfMemory, NumbersExhausted, Moment, Poll}
 use Rattle.deadpool_replay.specs.declared.moves.Reply.TheVariants as reply
 use Rattle.futures.specs.declared.task.Poll.TheVariants as poll
 use Rattle.deadpool_parts.specs.declared.errors.TimeoutType.TheVariants as phase
@@ -36,27 +36,20 @@ module _ {V C R S F A : Type 0} (E : Type 0) (m : Move V) (n : ℕ) (timeouts : 
   abbrev pub Advanced : Standing V C R S → Reply V E × Pool V C R S F A → Type 0
   Advanced old x =
       Follows (reach p) x.1 × Passes false (Some n) (its_object (standing_at timeouts old)) p x.1 × IsOutIfGiven m x.0 x.1
-      × (x.0 ≡ reply.More → rank_at n x.1 < rank old + (length p.idle + length p.idle))
 
   module _ (l : IsLawful p) where
-    -- it stands nearer to its end
-    nearer : (old new : Standing V C R S) (idle : List (Slot V)) → Stands old → rank new + (length idle + length idle) < rank old + (length p.idle + length p.idle)
-        → rank_of (slice_get (set p.parties n (Some (standing_at timeouts new))) n) + (length idle + length idle) < rank old + (length p.idle + length p.idle)
-    nearer old new idle h less = rw (get-set_same p.parties n (Some (standing_at timeouts old)) (Some (standing_at timeouts new)) h) less
-
     -- The party stands elsewhere, with as many places and no more objects.
     goes_on : (old new : Standing V C R S) (answer : Reply V E) (grows : Bool) (next : ℕ) (out : List (Slot V)) → Stands old → next ≡ p.next + one_if grows
         → waits_at old ≡ waits_at new → holds new + length out ≡ holds old + length p.out → makes new + length out ≤ makes old + length p.out
         → ((j : ℕ) → one_if (prepares j (Some (standing_at timeouts new))) + held j out ≤ one_if (prepares j (Some (standing_at timeouts old))) + held j p.out + one_if (grows && (p.next == j)))
         → ((j : ℕ) → held j p.out ≤ held j out) → IsOutIfGiven m answer (to n (standing_at timeouts old) new (record p { next = next; out = out }))
-        → (answer ≡ reply.More → rank new < rank old) → Advanced old (answer, to n (standing_at timeouts old) new (record p { next = next; out = out }))
-    goes_on old new answer grows next out h e waits same few fewer more gives less =
+        → Advanced old (answer, to n (standing_at timeouts old) new (record p { next = next; out = out }))
+    goes_on old new answer grows next out h e waits same few fewer more gives =
         let before : Party V C R S = standing_at timeouts old in (
           same_places_follow (reach p) n timeouts old new next p.idle out p (Follows-self p l) h waits same (omega (arith, few)),
           party_passes n (Some before) (Some (standing_at timeouts new)) grows next p.idle out p.granted p.waiting (its_object before) p h e (omega arith) (order_same (queue p))
               (λ j. omega (arith, fewer j)) (λ j. omega (arith, held-its_object j before, more j)),
           gives,
-          λ is. nearer old new p.idle h (omega (arith, less is)),
         )
 
     -- It leaves what it held and the queue, which is so.
@@ -79,7 +72,7 @@ module _ {V C R S F A : Type 0} (E : Type 0) (m : Move V) (n : ℕ) (timeouts : 
         → IsOrderly (reach p) (record p { granted = granted; waiting = waiting }) → MarksOthers n (record p { granted = granted; waiting = waiting })
         → Advanced old (fail n (standing_at timeouts old) cause (record p { granted = granted; waiting = waiting }))
     fails_from old cause granted waiting h order k marks =
-        let all = leaves old (Some (standing_at timeouts finished)) granted waiting h order k marks refl refl refl refl in (all.0, all.1, tt, λ clash. cc)
+        let all = leaves old (Some (standing_at timeouts finished)) granted waiting h order k marks refl refl refl refl in (all.0, all.1, tt)
 
     -- and from the queue that there was
     fails : (old : Standing V C R S) (cause : PoolError E) → Stands old → Advanced old (fail n (standing_at timeouts old) cause p)
@@ -87,12 +80,12 @@ module _ {V C R S F A : Type 0} (E : Type 0) (m : Move V) (n : ℕ) (timeouts : 
 
     gone : (old : Standing V C R S) → Stands old → Advanced old (reply.Cancelled, removed n p)
     gone old h =
-        let all = leaves old None p.granted p.waiting h (order_same (queue p)) (Follows-self p l).orderly (λ j other. l.marks j) refl refl refl refl in (all.0, all.1, tt, λ clash. cc)
+        let all = leaves old None p.granted p.waiting h (order_same (queue p)) (Follows-self p l).orderly (λ j other. l.marks j) refl refl refl refl in (all.0, all.1, tt)
 
     -- A party that holds a place, or may take a free one, is served, from a queue that is so.
     module _ (old : Standing V C R S) (h : Stands old) (granted waiting : List ℕ) (order : KeepsOrder (queue p) (granted ++ waiting))
         (k : IsOrderly (reach p) (record p { granted = granted; waiting = waiting })) (marks : MarksOthers n (record p { granted = granted; waiting = waiting }))
-        (out_of_it : has_number n (granted ++ waiting) ≡ false) (f1 : creates old ≡ false) (f2 : prepared_at old ≡ None) (r : rank old ≡ 3)
+        (out_of_it : has_number n (granted ++ waiting) ≡ false) (f1 : creates old ≡ false) (f2 : prepared_at old ≡ None)
         (room : places (record p { granted = granted; waiting = waiting }) + 1 ≤ max p.limit (reach p) + one_if (goes old))
         (waits : p.is_open ≡ true → places (record p { granted = granted; waiting = waiting }) + 1 < p.limit + one_if (goes old) → waiting ≡ []) where
       -- it stands elsewhere with one place, and so many are idle
@@ -100,9 +93,8 @@ module _ {V C R S F A : Type 0} (E : Type 0) (m : Move V) (n : ℕ) (timeouts : 
           → length idle ≤ length p.idle → (length idle + makes new ≤ length p.idle) ⊎ (length idle ≡ 0)
           → ((j : ℕ) → held j idle + one_if (prepares j (Some (standing_at timeouts new))) ≡ held j p.idle)
           → IsOutIfGiven m answer (to n (standing_at timeouts old) new (record p { idle = idle; granted = granted; waiting = waiting }))
-          → (answer ≡ reply.More → rank new + (length idle + length idle) < 3 + (length p.idle + length p.idle))
           → Advanced old (answer, to n (standing_at timeouts old) new (record p { idle = idle; granted = granted; waiting = waiting }))
-      placed new answer idle served one shorter few same gives less =
+      placed new answer idle served one shorter few same gives =
           let before : Party V C R S = standing_at timeouts old in
           let after : Party V C R S = standing_at timeouts new in
           let c = rw (f1, f2) at (counts p.parties n (Some before) (Some after) h) in (
@@ -118,7 +110,6 @@ module _ {V C R S F A : Type 0} (E : Type 0) (m : Move V) (n : ℕ) (timeouts : 
             party_passes n (Some before) (Some after) false p.next idle p.out granted waiting (its_object before) p h (omega arith) shorter order
                 (λ j. omega (arith, same j)) (λ j. omega (arith, same j, held-its_object j before)),
             gives,
-            λ is. nearer old new idle h (omega (arith, less is, r)),
           )
 
       -- by the object that is served, or none
@@ -127,11 +118,11 @@ module _ {V C R S F A : Type 0} (E : Type 0) (m : Move V) (n : ℕ) (timeouts : 
           let less = other_idle-shorter p.mode p.idle slot e in
           cond_both (nat_lt 0 allowed) _ _ (Advanced old)
           (λ some. placed (recycling (PreRecycle slot start) (Some (allowed - 1))) reply.More (other_idle p.mode p.idle) refl refl (omega (arith, less)) (inl (omega (arith, less)))
-          (λ j. held-served j p.mode p.idle slot e) tt (λ more. omega (arith, less)))
-          (λ none. placed (going None) reply.Pending p.idle refl refl (omega arith) (inl (omega arith)) (λ j. omega arith) tt (λ clash. cc))
+          (λ j. held-served j p.mode p.idle slot e) tt)
+          (λ none. placed (going None) reply.Pending p.idle refl refl (omega arith) (inl (omega arith)) (λ j. omega arith) tt)
       served_has None allowed e =
           cond_both (nat_lt (p.next + creating_count p) largest_usize) _ _ (Advanced old)
-          (λ few. placed (creating None None) reply.More p.idle refl refl (omega arith) (inr (next_idle-none p.mode p.idle e)) (λ j. omega arith) tt (λ more. omega arith))
+          (λ few. placed (creating None None) reply.More p.idle refl refl (omega arith) (inr (next_idle-none p.mode p.idle e)) (λ j. omega arith) tt)
           (λ full. fails_from old NumbersExhausted granted waiting h order k marks)
 
     -- who joins the queue if no place is free
@@ -156,7 +147,6 @@ module _ {V C R S F A : Type 0} (E : Type 0) (m : Move V) (n : ℕ) (timeouts : 
           party_passes n (Some before) (Some after) false p.next p.idle p.out p.granted (p.waiting ++ n ∷ []) [] p h (omega arith) (omega arith)
               (order_pushed n p.granted p.waiting out_of_it) (λ j. omega arith) (λ j. omega arith),
           tt,
-          λ clash. cc,
         )
     joined_has deadline false h full = fails unpolled OutOfMemory h
 
@@ -165,7 +155,7 @@ module _ {V C R S F A : Type 0} (E : Type 0) (m : Move V) (n : ℕ) (timeouts : 
         → Advanced (going allowance) (serve_from (next_idle p.mode p.idle) (unwrap_or allowance (length p.idle)) n (standing_at timeouts (going allowance)) p)
     going_has allowance h =
         let k = (Follows-self p l).orderly in
-        served_has (going allowance) h p.granted p.waiting (order_same (queue p)) k (λ j other. l.marks j) (not_queued n (standing_at timeouts (going allowance)) p l.marks h refl) refl refl refl
+        served_has (going allowance) h p.granted p.waiting (order_same (queue p)) k (λ j other. l.marks j) (not_queued n (standing_at timeouts (going allowance)) p l.marks h refl) refl refl
         (omega (arith, k.few_places)) (λ is_open free. l.nobody_waits is_open (omega (arith, free))) (next_idle p.mode p.idle) (unwrap_or allowance (length p.idle)) refl
 
     -- the object that was under preparation is handed out
@@ -179,7 +169,7 @@ module _ {V C R S F A : Type 0} (E : Type 0) (m : Move V) (n : ℕ) (timeouts : 
         let equal : one_if (prepares j (Some (standing_at timeouts old))) ≡ one_if (slot.number == j) = ap (λ o. one_if (is_at slot_number j o)) e ∙ ap (λ i. one_if (i == j)) (sym same) in
         omega (arith, count-with slot_number j slot p.out, equal))
         (λ j. omega (arith, count-with slot_number j slot p.out))
-        (has_number-held slot.number (with_slot slot p.out) (omega (arith, count-with slot_number slot.number slot p.out, here))) (λ clash. cc)
+        (has_number-held slot.number (with_slot slot p.out) (omega (arith, count-with slot_number slot.number slot p.out, here)))
 
     -- by what came of a preparation
     reviewed_has : (preparation : Preparation V R S) (allowance : Option ℕ) (x : Prepared V R S) → Stands (recycling preparation allowance) → IsNumber (object_of preparation).number x
@@ -187,15 +177,15 @@ module _ {V C R S F A : Type 0} (E : Type 0) (m : Move V) (n : ℕ) (timeouts : 
     reviewed_has preparation allowance (prepared.Accepted slot) h same = handed_has (recycling preparation allowance) (object_of preparation) slot h refl refl refl refl same
     reviewed_has preparation allowance (prepared.Pending next) h same =
         goes_on (recycling preparation allowance) (recycling next None) reply.Pending false p.next p.out h (omega arith) refl refl (omega arith)
-        (λ j. let equal : one_if ((object_of next).number == j) ≡ one_if ((object_of preparation).number == j) = ap (λ i. one_if (i == j)) same in omega (arith, equal)) (λ j. omega arith) tt (λ clash. cc)
+        (λ j. let equal : one_if ((object_of next).number == j) ≡ one_if ((object_of preparation).number == j) = ap (λ i. one_if (i == j)) same in omega (arith, equal)) (λ j. omega arith) tt
     reviewed_has preparation allowance (prepared.GivenUp slot) h same =
-        λ left. goes_on (recycling preparation allowance) (going allowance) reply.More false p.next p.out h (omega arith) refl refl (omega arith) (λ j. omega arith) (λ j. omega arith) tt (λ more. omega arith)
+        λ left. goes_on (recycling preparation allowance) (going allowance) reply.More false p.next p.out h (omega arith) refl refl (omega arith) (λ j. omega arith) (λ j. omega arith) tt
 
     -- by what came of the hooks that see a new object
     checked_has : (slot : Slot V) (at : Position S) (x : Verdict S E × V) → Stands (checking slot at) → Always (Advanced (checking slot at)) (checked n (standing_at timeouts (checking slot at)) slot p x)
     checked_has slot at (verdict.Accepted, v) h = handed_has (checking slot at) slot (with_value v slot) h refl refl refl refl refl
     checked_has slot at (verdict.Pending next, v) h =
-        goes_on (checking slot at) (checking (with_value v slot) next) reply.Pending false p.next p.out h (omega arith) refl refl (omega arith) (λ j. omega arith) (λ j. omega arith) tt (λ clash. cc)
+        goes_on (checking slot at) (checking (with_value v slot) next) reply.Pending false p.next p.out h (omega arith) refl refl (omega arith) (λ j. omega arith) (λ j. omega arith) tt
     checked_has slot at (verdict.Refused cause, v) h = λ left. fails (checking slot at) (PostCreateHook cause) h
 
     -- it is cancelled, by the object that it prepared, or none
@@ -213,7 +203,7 @@ module _ {V C R S F A : Type 0} (E : Type 0) (m : Move V) (n : ℕ) (timeouts : 
           cond_both (nat_lt (places p) p.limit) _ _ P
           (λ few.
           let free = ltb-true (places p) p.limit few in
-          served_has unpolled h p.granted p.waiting (order_same (queue p)) k (λ j other. l.marks j) (not_queued n (standing_at timeouts unpolled) p l.marks h refl) refl refl refl (omega (arith, free))
+          served_has unpolled h p.granted p.waiting (order_same (queue p)) k (λ j other. l.marks j) (not_queued n (standing_at timeouts unpolled) p l.marks h refl) refl refl (omega (arith, free))
           (λ is_open more. l.nobody_waits is_open free) (next_idle p.mode p.idle) (length p.idle) refl)
           (λ full.
           cond_both (is_reached (deadline_after now timeouts.wait) now) _ _ P (λ late. fails unpolled (Timeout phase.Wait) h)
@@ -229,22 +219,22 @@ module _ {V C R S F A : Type 0} (E : Type 0) (m : Move V) (n : ℕ) (timeouts : 
           (λ granted.
           let fewer = without_number-once n p.granted (IsOnce-left p.granted p.waiting k.once) granted in
           served_has (queued deadline) h (without_number n p.granted) (without_number n p.waiting) (order_left n (queue p) p.granted p.waiting (order_same (queue p)))
-          (unqueued_orderly (reach p) n p k) (unqueued_marks n p (λ j other. l.marks j)) (unqueued_gone n p) refl refl refl (omega (arith, fewer, k.few_places))
+          (unqueued_orderly (reach p) n p k) (unqueued_marks n p (λ j other. l.marks j)) (unqueued_gone n p) refl refl (omega (arith, fewer, k.few_places))
           (λ is_open free. ap (without_number n) (l.nobody_waits is_open (omega (arith, fewer, free)))) (next_idle p.mode p.idle) (length p.idle) refl)
           (λ waits.
           cond_both (is_reached deadline now) _ _ P (λ late. fails (queued deadline) (Timeout phase.Wait) h)
-          (λ early. goes_on (queued deadline) (queued deadline) reply.Pending false p.next p.out h (omega arith) refl refl (omega arith) (λ j. omega arith) (λ j. omega arith) tt (λ clash. cc))))
+          (λ early. goes_on (queued deadline) (queued deadline) reply.Pending false p.next p.out h (omega arith) refl refl (omega arith) (λ j. omega arith) (λ j. omega arith) tt)))
 
       -- by a creation's answer: the new object has the next number
       created_has : (begun : Option C) (before deadline : Option Moment) (x : Poll (Result V E) × C) → Stands (creating begun before)
           → Advanced (creating begun before) (created n (standing_at timeouts (creating begun before)) now deadline p x)
       created_has begun before deadline (poll.Ready (Ok value), c) h =
           goes_on (creating begun before) (checking record { number = p.next; value = value; metrics = new_metrics now } start) reply.More true (p.next + 1) p.out h refl refl refl (omega arith)
-          (λ j. omega arith) (λ j. omega arith) tt (λ more. omega arith)
+          (λ j. omega arith) (λ j. omega arith) tt
       created_has begun before deadline (poll.Ready (Err cause), c) h = fails (creating begun before) (Backend cause) h
       created_has begun before deadline (poll.Pending, c) h =
           cond_both (is_reached deadline now) _ _ (Advanced (creating begun before)) (λ late. fails (creating begun before) (Timeout phase.Create) h)
-          (λ early. goes_on (creating begun before) (creating (Some c) deadline) reply.Pending false p.next p.out h (omega arith) refl refl (omega arith) (λ j. omega arith) (λ j. omega arith) tt (λ clash. cc))
+          (λ early. goes_on (creating begun before) (creating (Some c) deadline) reply.Pending false p.next p.out h (omega arith) refl refl (omega arith) (λ j. omega arith) (λ j. omega arith) tt)
 
       creating_has : (begun : Option C) (deadline : Option Moment) → Stands (creating begun deadline)
           → Always (Advanced (creating begun deadline)) (go_on_creating n (standing_at timeouts (creating begun deadline)) now begun deadline p)
@@ -270,4 +260,4 @@ module _ {V C R S F A : Type 0} (E : Type 0) (m : Move V) (n : ℕ) (timeouts : 
           (λ x same. reviewed_has preparation allowance x h same)
       advanced (checking slot at) h =
           Always-bind (Advanced (checking slot at)) (post_create p.hooks slot at) (λ x. checked n (standing_at timeouts (checking slot at)) slot p x) (λ x. checked_has slot at x h)
-      advanced finished h = (Follows-self p l, passes_self false (Some n) [] p, tt, λ clash. cc)
+      advanced finished h = (Follows-self p l, passes_self false (Some n) [] p, tt)

@@ -1,6 +1,6 @@
 -- Runs, move by move: their states, and what each move keeps, which holds of every state and of each two neighbours.
-use Rattle.deadpool_replay.proofs.Basics.{◌≡◌, List, [], ◌∷◌, ◌++◌, refl, ap, last_of, all_states, Each, Neighbours, ℕ, false, subst, Gives, sym, Always, Later, Always-Gives}
-use Rattle.deadpool_replay.proofs.Words.{Moment, May, Pool, moved, Polls, is_more, Reply, MakesMove, PoolRuns, Move, rest, given}
+use Rattle.deadpool_replay.proofs.Basics.{◌≡◌, List, [], ◌∷◌, ◌++◌, refl, ap, last_of, all_states, Each, Neighbours, ℕ, subst, Gives, sym, Always, Later, Always-Gives}
+use Rattle.deadpool_replay.proofs.Words.{Moment, May, Pool, moved, Polls, Reply, MakesMove, PoolRuns, Move, rest, given}
 use Rattle.deadpool_replay.specs.declared.moves.Move.TheVariants as move
 use Rattle.deadpool_replay.specs.declared.moves.Reply.TheVariants as reply
 
@@ -34,23 +34,12 @@ module _ {X : Type 0} where
   Neighbours-append P x [] ys h k = k
   Neighbours-append P x (y ∷ xs) ys h k = (h.0, Neighbours-append P y xs ys h.1 k)
 
-module _ {V E : Type 0} where
-  -- a reply that is not More ends a poll
-  not_more : (r : Reply V E) → (r ≡ reply.More → ⊥) → is_more r ≡ false
-  not_more reply.More h = absurd (h refl)
-  not_more _ h = refl
-
 module _ {V E C R S F A : Type 0} (may : May V E C R S F A) (n : ℕ) (now : Moment) where
   -- an advance with more to do, before the advances of a poll
-  pub polls_more : (p q : Pool V C R S F A) (r answer : Reply V E) (passed : List (Pool V C R S F A))
-      → Gives may (moved (move.Advance n now) p) (r, q) → r ≡ reply.More → Polls may n now q passed answer → Polls may n now p (q ∷ passed) answer
-  polls_more p q r answer [] g is rest = absurd rest
-  polls_more p q r answer (t ∷ ss) g is rest = (subst (λ (s : Reply V E). Gives may (moved (move.Advance n now) p) (s, q)) is g, rest)
-
-  -- the last advance of a poll
-  pub polls_last : (p q : Pool V C R S F A) (answer : Reply V E)
-      → Gives may (moved (move.Advance n now) p) (answer, q) → (answer ≡ reply.More → ⊥) → Polls may n now p (q ∷ []) answer
-  polls_last p q answer g is = (g, not_more answer is)
+  pub polls_more : (p q : Pool V C R S F A) (answer : Reply V E) (passed : List (Pool V C R S F A))
+      → Gives may (moved (move.Advance n now) p) (reply.More, q) → Polls may n now q passed answer → Polls may n now p (q ∷ passed) answer
+  polls_more p q answer [] g rest = absurd rest
+  polls_more p q answer (t ∷ ss) g rest = (g, rest)
 
 module _ {V E C R S F A : Type 0} (may : May V E C R S F A) where
   -- one move, before the others of a run

@@ -1,11 +1,11 @@
 -- What is true of every state of every run of a managed pool that begins well, and of each two neighbours.
 use Rattle.deadpool_replay.proofs.Basics.{◌≡◌, ℕ, ◌≤◌, List, false, max, arith, inl, inr, refl, cases_Bool, has_number, all_states, Each, Neighbours}
-use Rattle.deadpool_replay.proofs.Words.{WithinReach, EachReply, Moment, May, Pool, size, reach, moved, PoolRuns, numbers, IsWell, Succeeds, sets_limit, NoneReturns, EachState, EachStep, EachLater, EachMove, EndsWell, StaysWithin, Move, Reply}
+pub use Rattle.deadpool_replay.proofs.Words.{WithinReach, EachReply, Moment, May, Pool, size, reach, moved, PoolRuns, numbers, IsWell, Succeeds, sets_limit, NoneReturns, EachState, EachStep, EachLater, EachMove, EndsWell, StaysWithin, Move, Reply, may, IsEmptyIfClosed, KeepsFloor, LeavesEnough, HasFewIdle, CountsOn, may_leave, OthersStayInPool, OthersStayQueued, OthersStand, IsNumbered, IsOutIfGiven, IsIdleIfKept, IsListedOnce, MarksQueued, KeepsQueue}
 use Rattle.deadpool_replay.specs.declared.moves.Move.TheVariants as move
 use Rattle.deadpool_replay.proofs.Computations.{Always-more}
 use Rattle.deadpool_replay.proofs.AllMoves.{Moved, moved_has}
 use Rattle.deadpool_replay.proofs.Runs.{Each-more, each_of, Neighbours-more, Later-of, Later-more, makes_next, makes_reply, runs_have}
-use Rattle.deadpool_replay.proofs.Well.{WellAfter, well_after, moved_well}
+pub use Rattle.deadpool_replay.proofs.Well.{WellAfter, well_after, moved_well, others_stay, others_stay_queued, opened_well}
 
 module _ {V C R S F A : Type 0} where
   -- what is gone stays gone, and more numbers were given

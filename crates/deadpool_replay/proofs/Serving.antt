@@ -1,11 +1,10 @@
 -- A get that holds a place is served at the desk as its party is in the pool.
 use Rattle.deadpool_replay.proofs.Basics.{cond-true, cond-false, ◌≡◌, ◌≢◌, ℕ, ◌+◌, ◌-◌, ◌<◌, ◌≤◌, List, [], ◌∷◌, length, set, refl, sym, ap, ◌∙◌, subst, arith, Option, Some, None, nat_lt, unwrap_or, lt-ltb, le-ltb, slice_get, slice_get-get_or, largest_usize}
-use Rattle.deadpool_replay.proofs.Words.{QueueMode, Fifo, Lifo, Timeouts, NumbersExhausted, start, DeskState, next_idle, other_idle, settled, Serves, Getting, AfterServing, Pool, Party, Standing, recycling, creating_count, settle, unqueued as pool_unqueued, go_on, serve_from, serve, party_of, IsCounted, given, reply_to, Slot, PreRecycle, Stage, Turn, Serving, Reply}
+use Rattle.deadpool_replay.proofs.Words.{QueueMode, Fifo, Lifo, Timeouts, NumbersExhausted, start, DeskState, next_idle, other_idle, settled, Serves, Getting, AfterServing, Pool, Party, Standing, recycling, creating_count, settle, unqueued as pool_unqueued, go_on, serve_from, serve, party_of, IsCounted, given, reply_to, Slot, PreRecycle, Stage, Turn, Serving, Reply, Fixed, image, get_at}
 use Rattle.deadpool_managed.specs.Stages as stage
 use Rattle.deadpool_desk.specs.declared.desk.Serving.TheVariants as serving
 use Rattle.deadpool_replay.specs.declared.moves.Reply.TheVariants as reply
 use Rattle.deadpool_replay.proofs.DeskImage.{Owns, NoTicket, settles, counted_settled, goes, creates, prepares, lasts, IsCounted-set, put}
-use Rattle.deadpool_replay.proofs.Fixed.{Fixed, image_of, get_at}
 
 module _ {T : Type 0} where
   -- if nothing is idle, nothing is next
@@ -20,14 +19,14 @@ module _ {T : Type 0} where
   next_idle-some Lifo (s ∷ ss) some = (_, slice_get-get_or (s ∷ ss) (length (s ∷ ss) - 1) s (omega arith))
 
 -- core: the desk before; d: the desk without the place of the get at n; granted, waiting: the queue of the pool without the get
-module _ {V C R S F A : Type 0} (fixed : Fixed F A) (n : ℕ) (core d : DeskState (Slot V))
+module _ {M V E C R S F A : Type 0} (fixed : Fixed M F A V E C R S) (n : ℕ) (core d : DeskState (Slot V))
     (gets : List (Option (Getting V C R S))) (out : List (Slot V)) (own : Timeouts) (old : Stage V C R S) (standing : Standing V C R S) (granted waiting : List ℕ)
     (h : slice_get gets n ≡ Some (Some record { timeouts = own; stage = old })) (k : IsCounted core gets out) where
   abbrev pool : Pool V C R S F A
-  pool = record (image_of fixed d gets out) { granted = granted; waiting = waiting }
+  pool = record (image fixed d gets out) { granted = granted; waiting = waiting }
 
   abbrev after : DeskState (Slot V) → Stage V C R S → Pool V C R S F A
-  after d' s = image_of fixed d' (set gets n (get_at own s)) out
+  after d' s = image fixed d' (set gets n (get_at own s)) out
 
   abbrev party : Party V C R S
   party = record { timeouts = own; standing = standing }
@@ -59,7 +58,7 @@ module _ {V C R S F A : Type 0} (fixed : Fixed F A) (n : ℕ) (core d : DeskStat
     room = omega (arith, left.lasts_still, room);
   }
 
-  module _ {E : Type 0} (left : HasLeft) where
+  module _ (left : HasLeft) where
     -- the get is served an idle object
     served_object : (allowance : Option ℕ) (slot : Slot V) (more : ℕ) → next_idle d.mode d.idle ≡ Some slot → more + 1 ≡ unwrap_or allowance (length d.idle)
         → (serve {E = E} n party allowance pool
@@ -115,7 +114,7 @@ module _ {V C R S F A : Type 0} (fixed : Fixed F A) (n : ℕ) (core d : DeskStat
     -- what serving does at the desk, it does in the pool
     pub serves : (d' : DeskState (Slot V)) (allowance : Option ℕ) (served : Serving (Slot V)) (s : Stage V C R S) (t : Turn V E)
         → Serves d allowance served d' → AfterServing served s t
-        → (serve {E = E} n party allowance pool ≡ (reply_to t, image_of fixed d' (set gets n (get_at own s)) (given t out)))
+        → (serve {E = E} n party allowance pool ≡ (reply_to t, image fixed d' (set gets n (get_at own s)) (given t out)))
         × IsCounted d' (set gets n (get_at own s)) (given t out)
     serves d' allowance (serving.Object slot more) s t e a = rw (a.0, a.1, e.2) (served_object allowance slot more e.0 e.1)
     serves d' allowance serving.Going s t e a = rw (a.0, a.1, e.2) (served_going allowance e.0 e.1)

@@ -1,22 +1,21 @@
 -- Each advance of a get over the desk is an advance of its party in the pool.
 use Rattle.deadpool_replay.proofs.Basics.{◌≡◌, ℕ, List, Bool, set, subst, Option, Some, slice_get, Gives}
-use Rattle.deadpool_replay.proofs.Words.{named, Moment, Timeouts, DeskState, Asks, AsksAgain, Getting, May, Reserve, Made, no_step, entering, asking, asking_again, Makes, AdvancesFrom, Pool, advance_at, NobodyWaits, standing_of, IsCounted, given, reply_to, Slot, Stage, Turn, core_desk}
+use Rattle.deadpool_replay.proofs.Words.{named, Moment, Timeouts, DeskState, Asks, AsksAgain, Getting, May, Reserve, Made, no_step, entering, asking, asking_again, Makes, AdvancesFrom, Pool, advance_at, NobodyWaits, standing_of, IsCounted, given, reply_to, Slot, Stage, Turn, core_desk, Fixed, image, get_at}
 use Rattle.deadpool_managed.specs.Stages as stage
 use Rattle.deadpool_replay.proofs.Entries.{from_entered, from_unrun, from_going, from_queued}
 use Rattle.deadpool_replay.proofs.Advances.{from_creating, from_recycling, from_checking, from_finished}
-use Rattle.deadpool_replay.proofs.Fixed.{Fixed, image_of, get_at}
 
 -- memory: the allocator may find memory for the queue, and may find none
-module _ {V E C R S F A : Type 0} (may : May V E C R S F A) (memory : (found : Bool) → may Reserve found)
-    (fixed : Fixed F A) (n : ℕ) (now : Moment)
+module _ {M V E C R S F A : Type 0} (may : May V E C R S F A) (memory : (found : Bool) → may Reserve found)
+    (fixed : Fixed M F A V E C R S) (n : ℕ) (now : Moment)
     (core core' : DeskState (Slot V)) (gets : List (Option (Getting V C R S))) (out : List (Slot V)) where
   abbrev pool : Pool V C R S F A
-  pool = image_of fixed core gets out
+  pool = image fixed core gets out
 
   pub get_advanced : (own : Timeouts) (old s : Stage V C R S) (t : Turn V E) (made : Made V) → IsCounted core gets out → NobodyWaits pool
-      → slice_get gets n ≡ Some (get_at own old) → Makes core_desk core made core' → AdvancesFrom may fixed.runtime fixed.hooks now own old made s t
+      → slice_get gets n ≡ Some (get_at own old) → Makes core_desk core made core' → AdvancesFrom may fixed.environment.runtime fixed.environment.hooks now own old made s t
       → Gives may (advance_at (standing_of old) n record { timeouts = own; standing = standing_of old } now pool)
-      (reply_to t, image_of fixed core' (set gets n (get_at own s)) (given t out))
+      (reply_to t, image fixed core' (set gets n (get_at own s)) (given t out))
       × IsCounted core' (set gets n (get_at own s)) (given t out)
   get_advanced own stage.Unpolled s t no_step k nobody h e a = from_unrun may fixed n now core core' gets out own k nobody h s t e a.0 a.1 a.2
   get_advanced own stage.Unpolled s t (entering wait reply) k nobody h e a = from_entered may fixed n now core core' gets out own k nobody h a.0 memory wait reply s t a.1 e a.2

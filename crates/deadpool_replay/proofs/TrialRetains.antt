@@ -1,9 +1,8 @@
 -- A retain of a trial: the objects with some numbers are kept, and the manager is told of the others.
 use Rattle.deadpool_replay.proofs.Basics.{◌≡◌, ◌≢◌, ℕ, ◌-◌, List, [], ◌∷◌, Bool, true, false, cond, length, ◌==◌, arith, Option, Ok, Err, refl, sym, ap, ◌∙◌, subst, inl, inr, nat_le, AllocError, nat_tests, has_number, Gives, Return, ask, ◌>>=◌, Gives-bind}
-use Rattle.deadpool_replay.proofs.Words.{May, Asking, Detach, Reserve, DeskState, desk_least_idle as least_idle_core, Retained, Reviews, Retains, Getting, Pool, staying, give_up, retain, retain_with, IsCounted, RetainerOf, Slot, Reply}
+use Rattle.deadpool_replay.proofs.Words.{May, Asking, Detach, Reserve, DeskState, desk_least_idle as least_idle_core, Retained, Reviews, Retains, Getting, Pool, staying, give_up, retain, retain_with, IsCounted, RetainerOf, Slot, Reply, Fixed, image}
 use Rattle.deadpool_replay.specs.declared.moves.Reply.TheVariants as reply
 use Rattle.deadpool_replay.proofs.DeskImage.{Gives-same, same_counted}
-use Rattle.deadpool_replay.proofs.Fixed.{Fixed, image_of}
 
 -- a list of one or more is not empty
 busy : {V : Type 0} (s : Slot V) (ss : List (Slot V)) → (length (s ∷ ss) == 0) ≡ false
@@ -35,16 +34,16 @@ module _ {V E C R S F A K : Type 0} (may : May V E C R S F A) (memory : (found :
       let goes : nat_le idle least ≡ false = grind (arith, nat_tests, more) in
       rw (no, goes) (later.0, (left, (told.0, Gives-bind may (give_up kept least (idle - 1) ss) (λ vs. Return (left ∷ vs)) others removed later.1 (sym is))))
 
-  module _ (fixed : Fixed F A)
+  module _ {M : Type 0} (fixed : Fixed M F A V E C R S)
       (core core' : DeskState (Slot V)) (gets : List (Option (Getting V C R S))) (out : List (Slot V)) (counted : IsCounted core gets out) (some : (core.handles == 0) ≡ false) (r r' : K) (same : stays r) where
     abbrev before : Pool V C R S F A
-    before = image_of fixed core gets out
+    before = image fixed core gets out
 
     abbrev least : ℕ
     least = least_idle_core core.limit core
 
     abbrev after : Pool V C R S F A
-    after = image_of fixed core' gets out
+    after = image fixed core' gets out
 
     -- what a retain asks, whether a handle is left or not, and whether something is idle or not
     abbrev retaining : Bool → Bool → Asking V E C R S F A (Reply V E × Pool V C R S F A)
@@ -61,7 +60,7 @@ module _ {V E C R S F A K : Type 0} (may : May V E C R S F A) (memory : (found :
         let unchanged : core' ≡ core = is ∙ ap (λ (xs : List (Slot V)). let d : DeskState (Slot V) = record core { idle = xs } in d) (nothing ∙ sym e) in
         let as_given : record { retained = 0; removed = [] } ≡ given =
         ap (λ n. let x : Retained V = record { retained = n; removed = [] } in x) (sym (count ∙ ap length nothing)) ∙ ap (λ (vs : List V). let x : Retained V = record { retained = given.retained; removed = vs } in x) (sym ran.1) in
-        ap (λ (x : Retained V). (reply.Retained x, before)) as_given ∙ ap (λ (d : DeskState (Slot V)). (reply.Retained given, image_of fixed d gets out)) (sym unchanged)
+        ap (λ (x : Retained V). (reply.Retained x, before)) as_given ∙ ap (λ (d : DeskState (Slot V)). (reply.Retained given, image fixed d gets out)) (sym unchanged)
     kept_some (s ∷ ss) e given stay ran count is =
         let all = reviewed least (length (s ∷ ss)) (s ∷ ss) r stay given.removed r' same ran in
         let left : List (Slot V) = staying kept least (length core.idle) core.idle in
@@ -70,7 +69,7 @@ module _ {V E C R S F A K : Type 0} (may : May V E C R S F A) (memory : (found :
         let as_given : record { retained = length left; removed = given.removed } ≡ given =
         ap (λ n. let x : Retained V = record { retained = n; removed = given.removed } in x) (ap length stays ∙ sym count) in
         let as_after : record before { idle = left } ≡ after =
-        ap (λ (xs : List (Slot V)). let p : Pool V C R S F A = record before { idle = xs } in p) stays ∙ ap (λ (d : DeskState (Slot V)). image_of fixed d gets out) (sym is) in
+        ap (λ (xs : List (Slot V)). let p : Pool V C R S F A = record before { idle = xs } in p) stays ∙ ap (λ (d : DeskState (Slot V)). image fixed d gets out) (sym is) in
         rw (busy s ss) (
           true,
           (
@@ -88,7 +87,7 @@ module _ {V E C R S F A K : Type 0} (may : May V E C R S F A) (memory : (found :
 
     refused_some : (idle : List (Slot V)) → idle ≢ [] → core' ≡ core → Gives may (retaining false (length idle == 0)) (reply.OutOfMemory, after)
     refused_some [] nonempty unchanged = absurd (nonempty refl)
-    refused_some (s ∷ ss) nonempty unchanged = rw (busy s ss) (false, (memory false, ap (λ (d : DeskState (Slot V)). (reply.OutOfMemory, image_of fixed d gets out)) (sym unchanged)))
+    refused_some (s ∷ ss) nonempty unchanged = rw (busy s ss) (false, (memory false, ap (λ (d : DeskState (Slot V)). (reply.OutOfMemory, image fixed d gets out)) (sym unchanged)))
 
     pub retained_err : (e : AllocError) → Retains asks core r (Err e) core' r' → Gives may (retain kept before) (reply.OutOfMemory, after) × IsCounted core' gets out
     retained_err e ran = (

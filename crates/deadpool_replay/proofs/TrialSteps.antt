@@ -1,14 +1,15 @@
 -- What a step of a trial keeps: the counts, and the laws that each move keeps.
-use Rattle.deadpool_replay.proofs.Basics.{◌∙◌, option_map, slice_get-map, ◌≡◌, ℕ, ◌≤◌, List, Bool, true, false, nat_lt, ◌==◌, length, set, Option, Some, None, sym, ap, arith, slice_get, nat_tests, length-set_n as length-set, Gives, Always-Gives, set-same}
-use Rattle.deadpool_replay.proofs.Words.{party_of, by_party, cancel, advance, Makes, Moment, Timeouts, may, DeskState, TakesBack, Getting, Made, CancelsFrom, Pool, find_slot, without_slot, moved, IsWell, IsCounted, AdvancesGet, given, reply_to, reply_to_back, Slot, ManagerOf, SyncHookOf, AsyncHookOf, Turn, BackReply, Move, Reply, CoreState, own_desk, makes_at_desk}
+use Rattle.deadpool_replay.proofs.Basics.{◌∙◌, option_map, slice_get-map, ◌≡◌, ◌≢◌, ℕ, ◌≤◌, List, [], ◌∷◌, Bool, true, false, nat_lt, ◌==◌, length, map, set, set-set, get-set_same, Option, Some, None, Ok, Err, refl, sym, ap, arith, slice_get, nat_tests, length-set_n as length-set, last_of, Gives, Always-Gives}
+use Rattle.deadpool_replay.proofs.Words.{party_of, by_party, cancel, advance, Makes, AdvancesFrom, Advanced, Advances, PollsOver, Moment, Timeouts, may, DeskState, TakesBack, Getting, Made, CancelsFrom, Pool, find_slot, without_slot, moved, Polls, is_more, IsWell, IsCounted, given, reply_to, reply_to_back, Slot, ManagerOf, SyncHookOf, AsyncHookOf, Stage, Turn, BackReply, Move, Reply, CoreState, core_desk, own_desk, makes_at_desk, polls_at_desk, Fixed, image, get_at}
+use Rattle.deadpool_managed.specs.declared.get.Turn.TheVariants as turn
 use Rattle.deadpool_replay.specs.declared.moves.Move.TheVariants as move
 use Rattle.deadpool_replay.specs.declared.moves.Reply.TheVariants as reply
 use Rattle.deadpool_replay.proofs.Simulation.{get_advanced}
 use Rattle.deadpool_replay.proofs.Cancels.{get_cancelled}
 use Rattle.deadpool_replay.proofs.OutObjects.{backs}
 use Rattle.deadpool_replay.proofs.Well.{WellAfter, moved_well}
+use Rattle.deadpool_replay.proofs.Runs.{polls_more}
 use Rattle.deadpool_replay.proofs.DeskImage.{Gives-same}
-use Rattle.deadpool_replay.proofs.Fixed.{Fixed, image_of}
 
 -- whether a pool has a handle
 pub no_handle : (b : Bool) (n : ℕ) → b ≡ nat_lt 0 n → b ≡ false → (n == 0) ≡ true
@@ -23,54 +24,95 @@ pub out_fits : {V C R S : Type 0} (core : DeskState (Slot V)) (gets : List (Opti
 out_fits core gets n x out len most capacity k e l c =
     omega (arith, k.room, length-set gets n x, e, l, c)
 
+-- a turn with nothing more to do ends a poll
+ends_poll : {V E : Type 0} (t : Turn V E) → t ≢ turn.More → is_more (reply_to t) ≡ false
+ends_poll turn.More more = absurd (more refl)
+ends_poll turn.Pending more = refl
+ends_poll (turn.Done (Ok slot)) more = refl
+ends_poll (turn.Done (Err cause)) more = refl
+
+-- the party n of the get that is there
+party_here : {V C R S : Type 0} (gets : List (Option (Getting V C R S))) (n : ℕ) (get : Option (Getting V C R S)) → slice_get gets n ≡ Some get → slice_get (map party_of gets) n ≡ Some (party_of get)
+party_here gets n get here = slice_get-map party_of gets n ∙ ap (option_map party_of) here
+
 module _ {M V E C R S F A : Type 0} (m : ManagerOf M V E C R) (f : SyncHookOf F M V E C R) (a : AsyncHookOf A M S V E C R) (manager : M) where
   -- what a move leads to is well
   pub leads_to_well : (mv : Move V) (p q : Pool V C R S F A) (answer : Reply V E) → IsWell p → Gives (may m f a manager) (moved mv p) (answer, q) → IsWell q
   leads_to_well mv p q answer well given = (Always-Gives (WellAfter p) (may m f a manager) (moved mv p) (answer, q) (moved_well E mv p well) given).0
 
-  module _ (fixed : Fixed F A) (core core' : CoreState V) (gets : List (Option (Getting V C R S))) (out : List (Slot V)) (counted : IsCounted core.desk gets out)
-      (well : IsWell (image_of fixed core.desk gets out)) (n : ℕ) where
+  module _ (fixed : Fixed M F A V E C R S) (n : ℕ) (now : Moment) (own : Timeouts) (out : List (Slot V)) where
+    -- the pool after a turn of the get that the party n has
+    abbrev after : DeskState (Slot V) → List (Option (Getting V C R S)) → Stage V C R S → Turn V E → Pool V C R S F A
+    after core gets s t = image fixed core (set gets n (get_at own s)) (given t out)
+
+    -- one advance of it
+    advance_leads : (core core' : DeskState (Slot V)) (gets : List (Option (Getting V C R S))) (old s : Stage V C R S) (t : Turn V E) (made : Made V) → IsCounted core gets out
+        → IsWell (image fixed core gets out) → slice_get gets n ≡ Some (get_at own old) → Makes core_desk core made core'
+        → AdvancesFrom (may m f a manager) fixed.environment.runtime fixed.environment.hooks now own old made s t
+        → Gives (may m f a manager) (moved (move.Advance n now) (image fixed core gets out)) (reply_to t, after core' gets s t)
+        × IsCounted core' (set gets n (get_at own s)) (given t out) × IsWell (after core' gets s t)
+    advance_leads core core' gets old s t made counted well here makes advances =
+        let all = get_advanced (may m f a manager) (λ found. tt) fixed n now core core' gets out own old s t made counted well.lawful.nobody_waits here makes advances in
+        let pool = image fixed core gets out in
+        let gives = Gives-same (may m f a manager) _ _ _ (ap (λ y. by_party y (advance n now) pool) (party_here gets n (get_at own old) here)) all.0 in
+        (gives, all.1, leads_to_well (move.Advance n now) _ _ _ well gives)
+
+    -- a poll of it, by the states that its advances pass
+    poll_leads : (core core' : DeskState (Slot V)) (gets : List (Option (Getting V C R S))) (old s : Stage V C R S) (t : Turn V E) (steps : List (Advanced (DeskState (Slot V)) V C R S))
+        → IsCounted core gets out → IsWell (image fixed core gets out) → slice_get gets n ≡ Some (get_at own old)
+        → Advances core_desk (may m f a manager) fixed.environment.runtime fixed.environment.hooks now own core old steps core' s t
+        → ((passed : List (Pool V C R S F A)) × Polls (may m f a manager) n now (image fixed core gets out) passed (reply_to t)
+        × (after core' gets s t ≡ last_of (image fixed core gets out) passed))
+        × IsCounted core' (set gets n (get_at own s)) (given t out) × IsWell (after core' gets s t)
+    poll_leads core core' gets old s t [] counted well here ran = absurd ran
+    poll_leads core core' gets old s t (x ∷ []) counted well here ran =
+        let all = advance_leads core x.desk gets old x.stage t x.made counted well here ran.0 ran.1 in
+        rw (ran.3, ran.4) ((_ ∷ [], (all.0, ends_poll t ran.2), refl), all.1, all.2)
+    poll_leads core core' gets old s t (x ∷ y ∷ zs) counted well here ran =
+        let all = advance_leads core x.desk gets old x.stage turn.More x.made counted well here ran.0 ran.1 in
+        let later = set gets n (get_at own x.stage) in
+        let rest = rw (set-set gets n (get_at own x.stage) (get_at own s)) at (poll_leads x.desk core' later x.stage s t (y ∷ zs) all.1 all.2 (get-set_same gets n _ _ here) ran.2) in
+        ((_ ∷ rest.0.0, polls_more (may m f a manager) n now _ _ (reply_to t) rest.0.0 all.0 rest.0.1, rest.0.2), rest.1, rest.2)
+
+  module _ (fixed : Fixed M F A V E C R S) (core core' : CoreState V) (gets : List (Option (Getting V C R S))) (out : List (Slot V)) (counted : IsCounted core.desk gets out)
+      (well : IsWell (image fixed core.desk gets out)) (n : ℕ) where
     abbrev pool : Pool V C R S F A
-    pool = image_of fixed core.desk gets out
+    pool = image fixed core.desk gets out
 
-    -- the party n of the get that is there
-    party_here : (get : Option (Getting V C R S)) → slice_get gets n ≡ Some get → slice_get pool.parties n ≡ Some (party_of get)
-    party_here get here = slice_get-map party_of gets n ∙ ap (option_map party_of) here
+    -- A get that is there, and keeps its timeouts
+    module _ (now : Moment) (g g' : Getting V C R S) (t : Turn V E) (here : slice_get gets n ≡ Some (Some g)) (same : g'.timeouts ≡ g.timeouts) where
+      still : record g { stage = g'.stage } ≡ g'
+      still = ap (λ (ts : Timeouts). let h : Getting V C R S = record { timeouts = ts; stage = g'.stage } in h) (sym same)
 
-    -- a turn of the get that the party n has
-    pub turned : (now : Moment) (get get' : Option (Getting V C R S)) (turn : Option (Turn V E)) (t : Turn V E) → slice_get gets n ≡ Some get
-        → AdvancesGet own_desk (may m f a manager) fixed.runtime fixed.hooks now get core get' core' turn → turn ≡ Some t
-        → Gives (may m f a manager) (moved (move.Advance n now) (image_of fixed core.desk gets out)) (reply_to t, image_of fixed core'.desk (set gets n get') (given t out))
-        × IsCounted core'.desk (set gets n get') (given t out) × IsWell (image_of fixed core'.desk (set gets n get') (given t out))
-    turned now None get' turn t here x is = let none = x.2 in cc
-    turned now (Some g) get' turn t here x is =
-        let same : x.came_to ≡ t = let twice = x.turn_is in cc in
-        let still : record g { stage = x.after.stage } ≡ x.after = ap (λ (ts : Timeouts). let h : Getting V C R S = record { timeouts = ts; stage = x.after.stage } in h) (sym x.timeouts) in
-        let all = rw still at (get_advanced (may m f a manager) (λ found. tt) fixed n now core.desk core'.desk gets out g.timeouts g.stage x.after.stage x.came_to x.made counted
-        well.lawful.nobody_waits here (makes_at_desk core core' x.made x.makes) x.advances) in
-        let made = Gives-same (may m f a manager) _ _ _ (ap (λ y. by_party y (advance n now) pool) (party_here (Some g) here)) all.0 in
-        rw (x.get_is, ← same) (made, all.1, leads_to_well (move.Advance n now) _ _ _ well made)
+      -- is advanced
+      pub advanced : (made : Made V) → Makes own_desk core made core' → AdvancesFrom (may m f a manager) fixed.environment.runtime fixed.environment.hooks now g.timeouts g.stage made g'.stage t
+          → Gives (may m f a manager) (moved (move.Advance n now) (image fixed core.desk gets out)) (reply_to t, image fixed core'.desk (set gets n (Some g')) (given t out))
+          × IsCounted core'.desk (set gets n (Some g')) (given t out) × IsWell (image fixed core'.desk (set gets n (Some g')) (given t out))
+      advanced made makes advances =
+          rw still at (advance_leads fixed n now g.timeouts out core.desk core'.desk gets g.stage g'.stage t made counted well here (makes_at_desk core core' made makes) advances)
 
-    -- none, if the party was cancelled: nothing has changed
-    pub not_turned : (now : Moment) (get get' : Option (Getting V C R S)) (turn : Option (Turn V E)) → slice_get gets n ≡ Some get
-        → AdvancesGet own_desk (may m f a manager) fixed.runtime fixed.hooks now get core get' core' turn → turn ≡ None
-        → (slice_get gets n ≡ Some None) × (set gets n get' ≡ gets) × (core'.desk ≡ core.desk)
-    not_turned now None get' turn here x is = (here, rw x.0 (set-same gets n None here), ap (λ c. c.desk) x.1)
-    not_turned now (Some g) get' turn here x is = let some = x.turn_is in cc
+      -- or polled
+      pub polled : PollsOver own_desk (may m f a manager) fixed.environment.runtime fixed.environment.hooks now g.timeouts core g.stage core' g'.stage t
+          → ((passed : List (Pool V C R S F A)) × Polls (may m f a manager) n now (image fixed core.desk gets out) passed (reply_to t)
+          × (image fixed core'.desk (set gets n (Some g')) (given t out) ≡ last_of (image fixed core.desk gets out) passed))
+          × IsCounted core'.desk (set gets n (Some g')) (given t out) × IsWell (image fixed core'.desk (set gets n (Some g')) (given t out))
+      polled ran =
+          let steps = polls_at_desk (may m f a manager) fixed.environment.runtime fixed.environment.hooks now g.timeouts g'.stage t core core' g.stage ran in
+          rw still at (poll_leads fixed n now g.timeouts out core.desk core'.desk gets g.stage g'.stage t steps.0 counted well here steps.1)
 
     -- the party n is cancelled
     pub cancelled : (g : Getting V C R S) (made : Made V) → slice_get gets n ≡ Some (Some g) → Makes own_desk core made core' → CancelsFrom (may m f a manager) g.stage made
-        → Gives (may m f a manager) (moved (move.Cancel n) (image_of fixed core.desk gets out)) (reply.Cancelled, image_of fixed core'.desk (set gets n None) out)
-        × IsCounted core'.desk (set gets n None) out × IsWell (image_of fixed core'.desk (set gets n None) out)
+        → Gives (may m f a manager) (moved (move.Cancel n) (image fixed core.desk gets out)) (reply.Cancelled, image fixed core'.desk (set gets n None) out)
+        × IsCounted core'.desk (set gets n None) out × IsWell (image fixed core'.desk (set gets n None) out)
     cancelled g made here makes gives_back =
         let all = get_cancelled (may m f a manager) fixed n core.desk core'.desk gets out g.timeouts counted well.lawful.nobody_waits g.stage made here (makes_at_desk core core' made makes) gives_back in
-        let done = Gives-same (may m f a manager) _ _ _ (ap (λ y. by_party y (cancel n) pool) (party_here (Some g) here)) all.0 in
+        let done = Gives-same (may m f a manager) _ _ _ (ap (λ y. by_party y (cancel n) pool) (party_here gets n (Some g) here)) all.0 in
         (done, all.1, leads_to_well (move.Cancel n) _ _ _ well done)
 
     -- the object with the number n has come back
     pub came_back : (slot : Slot V) (r : BackReply (Slot V)) (answer : Reply V E) → find_slot n out ≡ Some slot → TakesBack core.desk slot r core'.desk → Gives (may m f a manager) (reply_to_back r) answer
-        → Gives (may m f a manager) (moved (move.Back n) (image_of fixed core.desk gets out)) (answer, image_of fixed core'.desk gets (without_slot n out))
-        × IsWell (image_of fixed core'.desk gets (without_slot n out))
+        → Gives (may m f a manager) (moved (move.Back n) (image fixed core.desk gets out)) (answer, image fixed core'.desk gets (without_slot n out))
+        × IsWell (image fixed core'.desk gets (without_slot n out))
     came_back slot r answer here back given =
         let all = backs (may m f a manager) fixed core.desk core'.desk gets out n slot counted here r answer back given in
         (all, leads_to_well (move.Back n) _ _ _ well all)

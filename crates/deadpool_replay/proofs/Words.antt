@@ -1,24 +1,26 @@
--- The words of a pool, its desk and its gets that the proofs cite, passed on from one place.
+-- The words of a pool, its desk and its gets that the proofs cite, passed on from one place, and a get at a stage.
+use Rattle.deadpool_replay.proofs.Basics.{Option, Some}
 pub use Rattle.deadpool_replay.specs.Image.{party_of, standing_of, IsCounted, has_ticket, queue_of, is_under_way, image}
 pub use Rattle.deadpool_replay.specs.Laws.{IsLawful, queue, is_queued, waits_at, MarksQueued}
 pub use Rattle.deadpool_replay.specs.Moves.{moved, by_party, resize, staying, give_up, retain_with, retain, by_handle, started, put_at, back_at, take_at, NobodyWaits, Polls, is_more, MakesMove, PoolRuns, WithinReach, stays}
 pub use Rattle.deadpool_replay.specs.Party.{created, reviewed, checked, hand_out, advance_at, cancel, advance, enter, inquire, joined, go_on_creating, cancel_with}
 pub use Rattle.deadpool_replay.specs.Pool.{Pool, Party, size, prepared_at, is_going, is_creating, prepared_by, settle, least_idle, unpolled, reach, status_of, grants, places, pending, Standing, queued, going, preparing, goes, creates, creating, recycling, checking, finished, creating_count, opened}
-pub use Rattle.deadpool_replay.specs.Rank.{rank_of, rank_at, rank}
 pub use Rattle.deadpool_replay.specs.RunLaws.{LeavesEnough, IsOutIfGiven, IsIdleIfKept, HasFewIdle, prepared_in, sets_limit, named, may_leave, numbers, places_from, is_preparing, listed, IsListedOnce, EachReply, IsWell, Succeeds, NoneReturns, EachState, EachStep, EachLater, EachMove, EndsWell, StaysWithin, IsNumbered, CountsOn, OthersStayQueued, OthersStand, IsEmptyIfClosed, KeepsFloor, OthersStayInPool, KeepsQueue}
 pub use Rattle.deadpool_replay.specs.Steps.{fail, rest, go_on, with_slot, slot_number, find_slot, without_slot, given_up, resized, with_put, closed, cloned, handle_dropped, removed, unqueued, serve_from, to, serve}
-pub use Rattle.deadpool_replay.specs.TrialFields.{given, reply_to, IsTaken, reply_to_back, reply_to_take, reply_to_handle, AdvancesGet}
+pub use Rattle.deadpool_replay.specs.TrialFields.{given, reply_to, IsTaken, reply_to_back, reply_to_take, reply_to_handle}
 pub use Rattle.deadpool_replay.specs.declared.moves.Move.{Move}
 pub use Rattle.deadpool_replay.specs.declared.moves.Reply.{Reply}
-pub use Rattle.deadpool_replay.specs.declared.trial.Keeping.{Keeping}
+pub use Rattle.deadpool_replay.specs.declared.trial.Fixed.{Fixed}
+pub use Rattle.deadpool_replay.specs.declared.trial.owner.Keeping.{Keeping}
 pub use Rattle.deadpool_managed.proofs.CoreDesk.{core_desk, own_desk, makes_at_desk}
+pub use Rattle.deadpool_managed.proofs.CorePolls.{polls_at_desk}
 pub use Rattle.deadpool_managed.proofs.IdleLists.{other_idle-shorter}
 pub use Rattle.deadpool_managed.specs.Answers.{LeavesOrKeeps}
 pub use Rattle.deadpool_managed.specs.Calls.{start, ask_hooks}
 pub use Rattle.deadpool_desk.specs.CoreState.{CoreState}
 pub use Rattle.deadpool_desk.specs.DeskState.{DeskState, settled, places as desk_places, grants as desk_grants, size as desk_size, pending as desk_pending, status_of as desk_status_of, next_idle, other_idle, least_idle as desk_least_idle}
 pub use Rattle.deadpool_desk.specs.DeskSteps.{Fails, is_listed, unqueued as desk_unqueued, Refuses, Cancels as DeskCancels, Enters, Asks, AsksAgain, TakesBack, given_up as desk_given_up, Takes, Resizes, Closes, Clones, DropsHandle, Upgrades, resized as desk_resized, Serves}
-pub use Rattle.deadpool_managed.specs.Get.{Made, no_step, discarding, creating as by_creation, failing, refusing, Makes, AfterCreation, AfterPrepared, AfterChecked, AdvancesCreation, ended_by, cancelling, CancelsFrom, GivesUp, AfterEntered, AfterAsked, AfterAskedAgain, AfterServing, entering, asking, asking_again, AdvancesFrom}
+pub use Rattle.deadpool_managed.specs.Get.{Made, no_step, discarding, creating as by_creation, failing, refusing, Makes, AfterCreation, AfterPrepared, AfterChecked, AdvancesCreation, ended_by, cancelling, CancelsFrom, GivesUp, AfterEntered, AfterAsked, AfterAskedAgain, AfterServing, entering, asking, asking_again, AdvancesFrom, Advanced, Advances, PollsOver}
 pub use Rattle.deadpool_managed.specs.HookLists.{HookLists}
 pub use Rattle.deadpool_desk.specs.Metrics.{new_metrics}
 pub use Rattle.deadpool_managed.specs.Outside.{May, Asking, may, Reserve, Detach}
@@ -54,3 +56,11 @@ pub use Rattle.deadpool_parts.specs.declared.replies.HandleReply.{HandleReply}
 pub use Rattle.deadpool_parts.specs.declared.replies.StepReply.{StepReply}
 pub use Rattle.futures.specs.Task.{Keeps}
 pub use Rattle.futures.specs.declared.task.Poll.{Poll}
+
+module _ {V C R S : Type 0} where
+  -- a get at a stage, with its own timeouts
+  abbrev pub get_at : Timeouts → Stage V C R S → Option (Getting V C R S)
+  get_at own s = Some record { timeouts = own; stage = s }
+
+  abbrev pub party_at : Timeouts → Stage V C R S → Party V C R S
+  party_at own s = record { timeouts = own; standing = standing_of s }

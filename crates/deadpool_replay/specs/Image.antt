@@ -3,14 +3,12 @@ use Rattle.std.specs.Prelude.{ℕ, ◌+◌, ◌≤◌, ◌≡◌, List, length, 
 use Rattle.std.specs.List.{filter, filter_map}
 use Rattle.deadpool_gate.specs.Owners.{owner, IsOwned}
 use Rattle.deadpool_gate.specs.Queue.{Queue}
-use Rattle.deadpool_parts.specs.declared.moment.Runtime.{Runtime}
-use Rattle.deadpool_parts.specs.declared.config.Timeouts.{Timeouts}
-use Rattle.deadpool_managed.specs.HookLists.{HookLists}
 use Rattle.deadpool_desk.specs.DeskState.{DeskState}
 use Rattle.deadpool_managed.specs.Stages.{Getting, Stage}
 use Rattle.deadpool_replay.specs.Pool.{Pool, Party, Standing, unpolled, queued, going, creating, recycling, checking, finished, is_going, is_creating, prepared_by}
 use Rattle.deadpool_desk.specs.declared.slot.Slot.{Slot}
 use Rattle.deadpool_managed.specs.Stages as stage
+use Rattle.deadpool_replay.specs.declared.trial.Fixed.{Fixed}
 
 module _ {V : Type 0} where
   -- a desk's queue
@@ -57,24 +55,24 @@ module _ {V C R S : Type 0} where
     pub outside : d.outside ≡ length (filter_map prepared_by (map party_of gets)) + length out
     pub room : length out + length (filter is_under_way gets) ≤ length gets
 
-module _ {V C R S F A : Type 0} (runtime : Option Runtime) (hooks : HookLists F A) (timeouts : Timeouts) (first most : ℕ) where
-  abbrev pub image : DeskState (Slot V) → List (Option (Getting V C R S)) → List (Slot V) → Pool V C R S F A
-  image d gets out = record {
-    limit = d.limit;
-    is_open = d.is_open;
-    mode = d.mode;
-    runtime = runtime;
-    hooks = hooks;
-    floor = d.floor;
-    handles = d.handles;
-    first = first;
-    next = d.next;
-    reserve = d.reserve;
-    timeouts = timeouts;
-    most_parties = most;
-    parties = map party_of gets;
-    idle = d.idle;
-    waiting = map (owner has_ticket gets) d.waiting;
-    granted = map (owner has_ticket gets) d.granted;
-    out = out;
-  }
+-- the pool of a desk, of its gets and of the objects out, with what never changes
+abbrev pub image : {M V E C R S F A : Type 0} → Fixed M F A V E C R S → DeskState (Slot V) → List (Option (Getting V C R S)) → List (Slot V) → Pool V C R S F A
+image fixed d gets out = record {
+  limit = d.limit;
+  is_open = d.is_open;
+  mode = d.mode;
+  runtime = fixed.environment.runtime;
+  hooks = fixed.environment.hooks;
+  floor = d.floor;
+  handles = d.handles;
+  first = fixed.first;
+  next = d.next;
+  reserve = d.reserve;
+  timeouts = fixed.timeouts;
+  most_parties = fixed.most_parties;
+  parties = map party_of gets;
+  idle = d.idle;
+  waiting = map (owner has_ticket gets) d.waiting;
+  granted = map (owner has_ticket gets) d.granted;
+  out = out;
+}

@@ -5,7 +5,6 @@ pub mod Pool
 pub mod Steps
 pub mod Party
 pub mod Moves
-pub mod Rank
 pub mod Laws
 pub mod RunLaws
 -- What a trial shows of it.

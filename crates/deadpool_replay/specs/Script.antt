@@ -3,7 +3,7 @@
 --
 -- The values are numbers. Each of the pool's three lists has one hook, which may be pending, and no state of a creation, of a
 -- recycling or of a hook says anything.
-use Rattle.std.specs.Prelude.{◌≡◌, ℕ, zero, suc, ◌+◌, ◌/◌, ◌%◌, min, Bool, true, List, [], ◌∷◌, ◌++◌, map, Option, Some, None, Result, Ok, Err, if◌then◌else◌, codes}
+use Rattle.std.specs.Prelude.{◌≡◌, ℕ, zero, suc, ◌+◌, ◌/◌, ◌%◌, min, Bool, true, List, [], ◌∷◌, ◌++◌, length, map, Option, Some, None, Result, Ok, Err, if◌then◌else◌, codes}
 use Rattle.std.specs.Option.{option_map}
 use Rattle.std.specs.declared.alloc.Global.{Global}
 use Rattle.std.specs.declared.borrow.CowStr.{CowStr}
@@ -22,7 +22,6 @@ use Rattle.deadpool_parts.specs.declared.errors.RecycleError.TheVariants.{Backen
 use Rattle.deadpool_replay.specs.Moves.{moved, is_more, retain}
 use Rattle.deadpool_managed.specs.Outside.{Question, Answer, Asking, BeginCreation, PollCreation, BeginRecycling, PollRecycling, CallHook, BeginHook, PollHook, Detach, Reserve}
 use Rattle.deadpool_replay.specs.Pool.{Pool, opened}
-use Rattle.deadpool_replay.specs.Rank.{rank_at}
 use Rattle.deadpool_replay.specs.Steps.{find_slot}
 use Rattle.deadpool_managed.specs.declared.hooks.Hook.TheVariants.{AsyncFn}
 use Rattle.deadpool_desk.specs.declared.slot.Slot.{Slot}
@@ -296,8 +295,9 @@ polled (suc left) n now p s =
     let x = played (moved (move.Advance n now) p) s in
     if is_more x.0.0 then polled left n now x.0.1 x.1 else x
 
+-- a poll has two advances for each idle object, which a get takes and gives up, and a few more
 abbrev pub by_move : Move ℕ → ScriptPool → Script → Played
-by_move (move.Poll n now) p s = polled (rank_at n p) n now p s
+by_move (move.Poll n now) p s = polled (4 + (length p.idle + length p.idle)) n now p s
 by_move m p s = played (moved m p) s
 
 abbrev pub done : Event → ScriptPool → Script → Played

@@ -1,14 +1,8 @@
 -- What a trial makes of a turn and of an object that comes back, and what is seen of a get.
-use Rattle.std.specs.Prelude.{◌≡◌, ℕ, true, false, List, Option, Some, None, Ok, Err, ⊤, if◌then◌else◌}
+use Rattle.std.specs.Prelude.{ℕ, true, false, List, Ok, Err, ⊤, if◌then◌else◌}
 use Rattle.deadpool_gate.specs.Numbers.{has_number}
-use Rattle.deadpool_parts.specs.declared.moment.Moment.{Moment}
-use Rattle.deadpool_parts.specs.declared.moment.Runtime.{Runtime}
-use Rattle.deadpool_managed.specs.HookLists.{HookLists}
-use Rattle.deadpool_managed.specs.Stages.{Getting}
-use Rattle.deadpool_managed.specs.Get.{Made, Makes, AdvancesFrom}
-use Rattle.deadpool_desk.specs.declared.desk.Desk.{Ghosts as DeskOf}
 use Rattle.deadpool_parts.specs.Program.{Return, ask, ◌>>=◌}
-use Rattle.deadpool_managed.specs.Outside.{Asking, May, Detach}
+use Rattle.deadpool_managed.specs.Outside.{Asking, Detach}
 use Rattle.deadpool_replay.specs.Steps.{with_slot}
 use Rattle.deadpool_desk.specs.declared.slot.Slot.{Slot}
 use Rattle.deadpool_managed.specs.declared.get.Turn.{Turn}
@@ -75,20 +69,3 @@ look_as granted kind.Creating = look.Creating
 look_as granted (kind.Recycling number) = look.Recycling number
 look_as granted (kind.Checking number) = look.Checking number
 look_as granted kind.Finished = look.Finished
-
--- one advance of a get by its two states: what it made of the desk, and its turn
-pub record AdvancedGet {D V E C R S F A : Type 0} (d : DeskOf D V) (may : May V E C R S F A) (runtime : Option Runtime) (hooks : HookLists F A) (now : Moment)
-    (g : Getting V C R S) (desk : D) (get' : Option (Getting V C R S)) (desk' : D) (turn : Option (Turn V E)) : Type 0 where
-  pub after : Getting V C R S
-  pub came_to : Turn V E
-  pub made : Made V
-  pub makes : Makes d desk made desk'
-  pub advances : AdvancesFrom may runtime hooks now g.timeouts g.stage made after.stage came_to
-  pub timeouts : after.timeouts ≡ g.timeouts
-  pub get_is : get' ≡ Some after
-  pub turn_is : turn ≡ Some came_to
-
--- an advance of a get that was cancelled changes nothing
-abbrev pub AdvancesGet : {D V E C R S F A : Type 0} → DeskOf D V → May V E C R S F A → Option Runtime → HookLists F A → Moment → Option (Getting V C R S) → D → Option (Getting V C R S) → D → Option (Turn V E) → Type 0
-AdvancesGet d may runtime hooks now None desk get' desk' turn = (get' ≡ None) × (desk' ≡ desk) × (turn ≡ None)
-AdvancesGet d may runtime hooks now (Some g) desk get' desk' turn = AdvancedGet d may runtime hooks now g desk get' desk' turn

@@ -1,50 +1,52 @@
 //! A managed pool on one thread, with its parties and the objects that are out.
-ghost use Rattle.std.specs.Prelude.{◌≡◌, ◌≢◌, ◌==◌, ◌<◌, ◌≤◌, ◌+◌, List, length, Option, MatchResult, IfOk, vec_len, vec_capacity, ◌↔◌, true, []};
+ghost use Rattle.std.specs.Prelude.{◌≡◌, ◌↔◌, true, List, MatchResult, IfOk};
 ghost use Rattle.std.specs.Option.{option_map};
 ghost use Rattle.futures.specs.Task.{Keeps};
-ghost use Rattle.deadpool_parts.specs.Program.{Gives};
 ghost use Rattle.deadpool_parts.specs.Runs.{last_of, all_states, Each, Neighbours};
 ghost use Rattle.deadpool_parts.specs.declared.errors.BuildError.{BuildError};
-ghost use Rattle.deadpool_desk.specs.declared.desk.Holding.{Holding};
 ghost use Rattle.deadpool_shared.specs.Building.{lacks_any_runtime};
 ghost use Rattle.deadpool_managed.specs.Outside.{may};
 ghost use Rattle.deadpool_replay.specs.Pool.{Pool, opened};
 ghost use Rattle.deadpool_replay.specs.Steps.{find_slot};
-ghost use Rattle.deadpool_replay.specs.Moves.{moved, Polls, MakesMove, PoolRuns, NobodyWaits, WithinReach};
-ghost use Rattle.deadpool_replay.specs.Rank.{rank_at};
+ghost use Rattle.deadpool_replay.specs.Moves.{MakesMove, PoolRuns, NobodyWaits, WithinReach};
 ghost use Rattle.deadpool_replay.specs.RunLaws.{IsWell};
-ghost use Rattle.deadpool_replay.specs.TrialFields.{AdvancesGet, given, reply_to, IsTaken, reply_to_back, reply_to_take, reply_to_handle};
-ghost use Rattle.deadpool_gate.specs.Numbers.{has_number};
-ghost use Rattle.deadpool_managed.specs.Answers.{LeavesOrKeeps};
-ghost use Rattle.deadpool_replay.specs.declared.moves.Move.TheVariants as move;
 
+mod objects;
+mod owner;
+mod parties;
 mod seen;
 
 use crate::{Move, Reply};
 use deadpool_managed::{
-    AsyncHook, BackReply, BuildError, Core, Desk, Environment, GetState, HandleReply, Manager,
-    Metrics, OwnerDesk, Retainer, Slot, SyncHook, TakeReply, Timeouts, Turn,
+    AsyncHook, BuildError, Core, Environment, GetState, Manager, Slot, SyncHook, Timeouts,
 };
-use deadpool_parts::Moment;
-use deadpool_parts::tables::{append, index_of, put_in, take_out};
+use deadpool_parts::tables::append;
 use deadpool_shared::{OpenPool, PoolBuilder};
 use futures::task::Context;
 use std::alloc::Global;
 use std::marker::Model;
 
+// What never changes in a trial.
+#[derive(Drop)]
+struct Fixed<M: Manager, F: SyncHook<M>, A: AsyncHook<M>> {
+    environment: Environment<M, F, A>,
+    // The configured ones.
+    timeouts: Timeouts,
+    most_parties: usize,
+    // The number of the first object.
+    first: usize,
+}
+
 /// A managed pool on one thread, with its parties and the objects that are out. The clock of its builder is kept and not
 /// asked: each move says its moment.
 #[derive(Drop)]
 pub struct Trial<M: Manager, F: SyncHook<M>, A: AsyncHook<M>, C: Drop> {
+    fixed: Fixed<M, F, A>,
     core: Core<M::Type>,
-    environment: Environment<M, F, A>,
-    timeouts: Timeouts,
     // By number; none if the party was cancelled.
     parties: Vec<Option<GetState<M, A>>>,
     // By rising number.
     out: Vec<Slot<M::Type>>,
-    most_parties: usize,
-    first: usize,
     clock: C,
     alloc: Global,
 }
@@ -58,14 +60,14 @@ impl<M: Manager, F: SyncHook<M>, A: AsyncHook<M>, C: Drop> Model for Trial<M, F,
     ghost use Rattle.deadpool_replay.specs.Image.{image, IsCounted};
     ghost use Rattle.deadpool_replay.specs.RunLaws.{IsWell};
 
-    ghost view = { λ t. record { pool = image t.environment.runtime t.environment.hooks t.timeouts t.first t.most_parties t.core.desk t.parties.items t.out.items; manager = t.environment.manager } };
+    ghost view = { λ t. record { pool = image t.fixed t.core.desk t.parties.items t.out.items; manager = t.fixed.environment.manager } };
 
     ghost invariant = { λ t. record {
       counted : IsCounted t.core.desk t.parties.items t.out.items;
-      well : IsWell (image t.environment.runtime t.environment.hooks t.timeouts t.first t.most_parties t.core.desk t.parties.items t.out.items);
-      parties : vec_len t.parties ≤ t.most_parties;
-      party_room : t.most_parties ≤ vec_capacity t.parties;
-      out_room : t.most_parties ≤ vec_capacity t.out;
+      well : IsWell (image t.fixed t.core.desk t.parties.items t.out.items);
+      parties : vec_len t.parties ≤ t.fixed.most_parties;
+      party_room : t.fixed.most_parties ≤ vec_capacity t.parties;
+      out_room : t.fixed.most_parties ≤ vec_capacity t.out;
     } };
 }
 
@@ -90,14 +92,17 @@ impl<M: Manager, F: SyncHook<M>, A: AsyncHook<M>, C: Drop> Trial<M, F, A, C> {
             clock,
             alloc,
         } = builder.open(first_number)?;
-        Ok(Trial {
-            core,
+        let fixed = Fixed {
             environment,
             timeouts,
-            parties: Vec::with_capacity(alloc, parties)?,
-            out: Vec::with_capacity(alloc, parties)?,
             most_parties: parties,
             first: first_number,
+        };
+        Ok(Trial {
+            fixed,
+            core,
+            parties: Vec::with_capacity(alloc, parties)?,
+            out: Vec::with_capacity(alloc, parties)?,
             clock,
             alloc,
         })
@@ -172,316 +177,5 @@ impl<M: Manager, F: SyncHook<M>, A: AsyncHook<M>, C: Drop> Trial<M, F, A, C> {
             Move::DropHandle => self.drop_handle(),
             Move::Upgrade => self.upgrade(),
         }
-    }
-
-    fn start(&mut self, timeouts: Option<Timeouts>) -> Reply<M::Type, M::Error>
-        ensures made { Gives (may M.Manager F.SyncHook A.AsyncHook self.old.manager)
-            (moved (move.Start timeouts) self.old.pool) (result, self.new.pool) }
-        ensures manager { self.new.manager ≡ self.old.manager }
-    {
-        if !self.core.has_handle() {
-            return Reply::NoHandle;
-        }
-        let party = self.parties.len();
-        if party >= self.most_parties {
-            return Reply::NoRoom;
-        }
-        let timeouts = timeouts.unwrap_or(self.timeouts);
-        append(&mut self.parties, Some(GetState::new(timeouts)));
-        Reply::Started(party)
-    }
-
-    fn advance(
-        &mut self,
-        party: usize,
-        now: Moment,
-        cx: &mut Context<'_>,
-    ) -> Reply<M::Type, M::Error>
-        ensures made { Gives (may M.Manager F.SyncHook A.AsyncHook self.old.manager)
-            (moved (move.Advance party now) self.old.pool) (result, self.new.pool) }
-        ensures falls { result ≡ Reply.More
-            → rank_at party self.new.pool < rank_at party self.old.pool }
-        ensures manager { self.new.manager ≡ self.old.manager }
-        ensures kept { Keeps cx.old cx.new }
-    {
-        if party >= self.parties.len() {
-            return Reply::NoSuch;
-        }
-        let get = &mut self.parties[party];
-        match advance_get(get, &mut self.core, &self.environment, now, cx) {
-            None => Reply::NoSuch,
-            Some(turn) => hand_out(&mut self.out, turn),
-        }
-    }
-
-    fn poll(&mut self, party: usize, now: Moment, cx: &mut Context<'_>) -> Reply<M::Type, M::Error>
-        ensures made { (passed : List (Pool M.Type M.Creating M.Recycling A.State F A))
-            × Polls (may M.Manager F.SyncHook A.AsyncHook self.old.manager)
-            party now self.old.pool passed result × (self.new.pool ≡ last_of self.old.pool passed) }
-        ensures manager { self.new.manager ≡ self.old.manager }
-        ensures kept { Keeps cx.old cx.new }
-    {
-        loop {
-            match self.advance(party, now, cx) {
-                Reply::More => {}
-                reply => return reply,
-            }
-        }
-    }
-
-    fn cancel(&mut self, party: usize) -> Reply<M::Type, M::Error>
-        ensures made { Gives (may M.Manager F.SyncHook A.AsyncHook self.old.manager)
-            (moved (move.Cancel party) self.old.pool) (result, self.new.pool) }
-        ensures manager { self.new.manager ≡ self.old.manager }
-    {
-        if party >= self.parties.len() {
-            return Reply::NoSuch;
-        }
-        match self.parties[party].take() {
-            None => Reply::NoSuch,
-            Some(state) => {
-                state.cancel(&mut self.core, &self.environment);
-                Reply::Cancelled
-            }
-        }
-    }
-
-    fn put(&mut self, number: usize, value: M::Type) -> Reply<M::Type, M::Error>
-        ensures made { Gives (may M.Manager F.SyncHook A.AsyncHook self.old.manager)
-            (moved (move.Put number value) self.old.pool) (result, self.new.pool) }
-        ensures manager { self.new.manager ≡ self.old.manager }
-    {
-        match index_of(&self.out, number) {
-            None => Reply::NoSuch,
-            Some(at) => {
-                self.out[at].value = value;
-                Reply::Done
-            }
-        }
-    }
-
-    fn back(&mut self, number: usize) -> Reply<M::Type, M::Error>
-        ensures made { Gives (may M.Manager F.SyncHook A.AsyncHook self.old.manager)
-            (moved (move.Back number) self.old.pool) (result, self.new.pool) }
-        ensures manager { self.new.manager ≡ self.old.manager }
-    {
-        match take_out(&mut self.out, number) {
-            None => Reply::NoSuch,
-            Some(slot) => {
-                let reply = self.core.back(slot);
-                after_back(&self.environment, reply)
-            }
-        }
-    }
-
-    fn status(&mut self) -> Reply<M::Type, M::Error>
-        ensures made { Gives (may M.Manager F.SyncHook A.AsyncHook self.old.manager)
-            (moved move.Status self.old.pool) (result, self.new.pool) }
-        ensures manager { self.new.manager ≡ self.old.manager }
-    {
-        if !self.core.has_handle() {
-            return Reply::NoHandle;
-        }
-        Reply::Stands(self.core.status())
-    }
-
-    fn take(&mut self, number: usize) -> Reply<M::Type, M::Error>
-        ensures made { Gives (may M.Manager F.SyncHook A.AsyncHook self.old.manager)
-            (moved (move.Take number) self.old.pool) (result, self.new.pool) }
-        ensures manager { self.new.manager ≡ self.old.manager }
-    {
-        match take_out(&mut self.out, number) {
-            None => Reply::NoSuch,
-            Some(slot) => {
-                let reply = self.core.take();
-                after_take(&self.environment, slot, reply)
-            }
-        }
-    }
-
-    fn resize(&mut self, limit: usize) -> Reply<M::Type, M::Error>
-        ensures made { Gives (may M.Manager F.SyncHook A.AsyncHook self.old.manager)
-            (moved (move.Resize limit) self.old.pool) (result, self.new.pool) }
-        ensures manager { self.new.manager ≡ self.old.manager }
-    {
-        if !self.core.has_handle() {
-            return Reply::NoHandle;
-        }
-        match self.core.resize(limit) {
-            Ok(()) => Reply::Done,
-            Err(_) => Reply::OutOfMemory,
-        }
-    }
-
-    fn retain(&mut self, kept: &Vec<usize>) -> Reply<M::Type, M::Error>
-        ensures made { Gives (may M.Manager F.SyncHook A.AsyncHook self.old.manager)
-            (moved (move.Retain kept.now) self.old.pool) (result, self.new.pool) }
-        ensures manager { self.new.manager ≡ self.old.manager }
-    {
-        if !self.core.has_handle() {
-            return Reply::NoHandle;
-        }
-        let mut keeping = Keeping {
-            kept: kept.as_slice(),
-            manager: &self.environment.manager,
-        };
-        match self.core.retain(&mut keeping) {
-            Ok(retained) => Reply::Retained(retained),
-            Err(_) => Reply::OutOfMemory,
-        }
-    }
-
-    fn close(&mut self) -> Reply<M::Type, M::Error>
-        ensures made { Gives (may M.Manager F.SyncHook A.AsyncHook self.old.manager)
-            (moved (move.Close) self.old.pool) (result, self.new.pool) }
-        ensures manager { self.new.manager ≡ self.old.manager }
-    {
-        if !self.core.has_handle() {
-            return Reply::NoHandle;
-        }
-        self.core.close();
-        Reply::Done
-    }
-
-    fn clone_handle(&mut self) -> Reply<M::Type, M::Error>
-        ensures made { Gives (may M.Manager F.SyncHook A.AsyncHook self.old.manager)
-            (moved (move.Clone) self.old.pool) (result, self.new.pool) }
-        ensures manager { self.new.manager ≡ self.old.manager }
-    {
-        let reply = self.core.clone_handle();
-        after_handle(reply)
-    }
-
-    fn drop_handle(&mut self) -> Reply<M::Type, M::Error>
-        ensures made { Gives (may M.Manager F.SyncHook A.AsyncHook self.old.manager)
-            (moved (move.DropHandle) self.old.pool) (result, self.new.pool) }
-        ensures manager { self.new.manager ≡ self.old.manager }
-    {
-        let reply = self.core.drop_handle();
-        after_handle(reply)
-    }
-
-    fn upgrade(&mut self) -> Reply<M::Type, M::Error>
-        ensures made { Gives (may M.Manager F.SyncHook A.AsyncHook self.old.manager)
-            (moved (move.Upgrade) self.old.pool) (result, self.new.pool) }
-        ensures manager { self.new.manager ≡ self.old.manager }
-    {
-        Reply::Upgraded(self.core.upgrade())
-    }
-}
-
-// Keeps the objects with some numbers, and has the manager told of the others.
-#[derive(Drop)]
-struct Keeping<'a, M> {
-    kept: &'a [usize],
-    manager: &'a M,
-}
-
-impl<M: Manager> Retainer<M::Type> for Keeping<'_, M> {
-    ghost may_keep = { λ r number value metrics answer left. (answer ≡ has_number number r.kept.now) × (left ≡ r) };
-
-    ghost may_detach = { λ r value given left. LeavesOrKeeps (M.may_detach r.manager.now) value given × (left ≡ r) };
-
-    fn keeps(&mut self, number: usize, _value: &M::Type, _metrics: &Metrics) -> bool {
-        self.kept.contains(&number)
-    }
-
-    fn detach(&mut self, value: &mut M::Type) {
-        self.manager.detach(value);
-    }
-}
-
-// Advances a get that was not cancelled.
-fn advance_get<M, F, A, D>(
-    get: &mut Option<GetState<M, A>>,
-    desk: &mut D,
-    environment: &Environment<M, F, A>,
-    now: Moment,
-    cx: &mut Context<'_>,
-) -> Option<Turn<M::Type, M::Error>>
-where
-    M: Manager,
-    F: SyncHook<M>,
-    A: AsyncHook<M>,
-    D: Desk<M::Type>,
-    requires { (holding : Holding) → D.holds desk.old holding }
-    ensures advanced { AdvancesGet D.Desk
-        (may M.Manager F.SyncHook A.AsyncHook environment.now.manager)
-        environment.now.runtime environment.now.hooks now get.old desk.old get.new desk.new result }
-    ensures kept { Keeps cx.old cx.new }
-{
-    match get {
-        None => None,
-        Some(state) => Some(state.advance(desk, environment, now, cx)),
-    }
-}
-
-// Keeps the object that a turn gives, for which there is room, and says what the turn came to.
-fn hand_out<T: Drop, E>(out: &mut Vec<Slot<T>>, turn: Turn<T, E>) -> Reply<T, E>
-    requires { length (given turn out.old.items) ≤ vec_capacity out.old }
-    ensures out { out.new.items ≡ given turn out.old.items }
-    ensures reply { result ≡ reply_to turn }
-    ensures capacity { vec_capacity out.old ≤ vec_capacity out.new }
-{
-    match turn {
-        Turn::More => Reply::More,
-        Turn::Pending => Reply::Pending,
-        Turn::Done(Err(cause)) => Reply::Failed(cause),
-        Turn::Done(Ok(slot)) => {
-            let number = slot.number;
-            put_in(out, slot);
-            Reply::Object(number)
-        }
-    }
-}
-
-// Says what became of an object that came back. One that is given up is detached.
-fn after_back<M: Manager, F: SyncHook<M>, A: AsyncHook<M>>(
-    environment: &Environment<M, F, A>,
-    reply: BackReply<Slot<M::Type>>,
-) -> Reply<M::Type, M::Error>
-    requires { IsTaken reply }
-    ensures { Gives (may M.Manager F.SyncHook A.AsyncHook environment.now.manager)
-        (reply_to_back reply) result }
-{
-    match reply {
-        BackReply::Kept => Reply::Kept,
-        BackReply::Dropped(_) => Reply::Dropped,
-        BackReply::Detach(mut slot) => {
-            environment.manager.detach(&mut slot.value);
-            Reply::Detached
-        }
-        BackReply::Unknown(_) => unreachable!(),
-    }
-}
-
-// Gives the value of an object that has left the pool, detached if that is due.
-fn after_take<M: Manager, F: SyncHook<M>, A: AsyncHook<M>>(
-    environment: &Environment<M, F, A>,
-    slot: Slot<M::Type>,
-    reply: TakeReply,
-) -> Reply<M::Type, M::Error>
-    requires { reply ≢ TakeReply.Unknown }
-    ensures { Gives (may M.Manager F.SyncHook A.AsyncHook environment.now.manager)
-        (reply_to_take slot.value reply) result }
-{
-    let mut value = slot.value;
-    match reply {
-        TakeReply::Taken { detach: true } => {
-            environment.manager.detach(&mut value);
-            Reply::Taken(value)
-        }
-        TakeReply::Taken { detach: false } => Reply::Taken(value),
-        TakeReply::Unknown => unreachable!(),
-    }
-}
-
-// The reply to a step that needs a handle.
-fn after_handle<T, E>(reply: HandleReply) -> Reply<T, E>
-    ensures { result ≡ reply_to_handle reply }
-{
-    match reply {
-        HandleReply::Done => Reply::Done,
-        HandleReply::NoHandle => Reply::NoHandle,
     }
 }

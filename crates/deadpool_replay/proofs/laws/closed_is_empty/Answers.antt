@@ -1,5 +1,4 @@
-use Rattle.deadpool_replay.proofs.Words.{may, IsEmptyIfClosed}
-use Rattle.deadpool_replay.proofs.RunsWell.{each_state}
+use Rattle.deadpool_replay.proofs.RunsWell.{may, IsEmptyIfClosed, each_state}
 use Rattle.deadpool_replay.proofs.laws.closed_is_empty.Goals as goal
 
 pub returns : goal.returns

@@ -1,5 +1,4 @@
-use Rattle.deadpool_replay.proofs.Words.{may, KeepsFloor, LeavesEnough}
-use Rattle.deadpool_replay.proofs.RunsWell.{each_move}
+use Rattle.deadpool_replay.proofs.RunsWell.{may, KeepsFloor, LeavesEnough, each_move}
 use Rattle.deadpool_replay.proofs.laws.enough_stay_idle.Goals as goal
 
 pub returns-clause-floor : goal.returns-clause-floor

@@ -1,5 +1,4 @@
-use Rattle.deadpool_replay.proofs.Words.{may, HasFewIdle}
-use Rattle.deadpool_replay.proofs.RunsWell.{each_state}
+use Rattle.deadpool_replay.proofs.RunsWell.{may, HasFewIdle, each_state}
 use Rattle.deadpool_replay.proofs.laws.idle_within_limit.Goals as goal
 
 pub returns : goal.returns

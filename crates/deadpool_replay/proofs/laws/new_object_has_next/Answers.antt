@@ -1,5 +1,4 @@
-use Rattle.deadpool_replay.proofs.Words.{may, CountsOn}
-use Rattle.deadpool_replay.proofs.RunsWell.{each_step, none_returns}
+use Rattle.deadpool_replay.proofs.RunsWell.{may, CountsOn, each_step, none_returns}
 use Rattle.deadpool_replay.proofs.laws.new_object_has_next.Goals as goal
 
 pub returns-clause-next : goal.returns-clause-next

@@ -1,6 +1,4 @@
-use Rattle.deadpool_replay.proofs.Words.{may_leave, may, OthersStayInPool}
-use Rattle.deadpool_replay.proofs.RunsWell.{each_move}
-use Rattle.deadpool_replay.proofs.Well.{others_stay}
+use Rattle.deadpool_replay.proofs.RunsWell.{may_leave, may, OthersStayInPool, each_move, others_stay}
 use Rattle.deadpool_replay.proofs.laws.no_object_is_lost.Goals as goal
 
 pub returns : goal.returns

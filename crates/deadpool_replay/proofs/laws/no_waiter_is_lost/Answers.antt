@@ -1,6 +1,4 @@
-use Rattle.deadpool_replay.proofs.Words.{may, OthersStayQueued, OthersStand}
-use Rattle.deadpool_replay.proofs.RunsWell.{each_move}
-use Rattle.deadpool_replay.proofs.Well.{others_stay_queued}
+use Rattle.deadpool_replay.proofs.RunsWell.{may, OthersStayQueued, OthersStand, each_move, others_stay_queued}
 use Rattle.deadpool_replay.proofs.laws.no_waiter_is_lost.Goals as goal
 
 pub returns-clause-queue : goal.returns-clause-queue

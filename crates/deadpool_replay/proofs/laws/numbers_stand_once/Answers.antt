@@ -1,5 +1,4 @@
-use Rattle.deadpool_replay.proofs.Words.{may, IsNumbered}
-use Rattle.deadpool_replay.proofs.RunsWell.{each_state}
+use Rattle.deadpool_replay.proofs.RunsWell.{may, IsNumbered, each_state}
 use Rattle.deadpool_replay.proofs.laws.numbers_stand_once.Goals as goal
 
 pub returns : goal.returns

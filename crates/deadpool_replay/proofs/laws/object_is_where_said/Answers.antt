@@ -1,5 +1,4 @@
-use Rattle.deadpool_replay.proofs.Words.{may, IsOutIfGiven, IsIdleIfKept}
-use Rattle.deadpool_replay.proofs.RunsWell.{each_reply}
+use Rattle.deadpool_replay.proofs.RunsWell.{may, IsOutIfGiven, IsIdleIfKept, each_reply}
 use Rattle.deadpool_replay.proofs.laws.object_is_where_said.Goals as goal
 
 pub returns-clause-given : goal.returns-clause-given

@@ -1,4 +1,4 @@
-use Rattle.deadpool_replay.proofs.Well.{opened_well}
+use Rattle.deadpool_replay.proofs.RunsWell.{opened_well}
 use Rattle.deadpool_replay.proofs.laws.opened_is_well.Goals as goal
 
 pub returns : goal.returns

@@ -1,6 +1,5 @@
-use Rattle.deadpool_replay.proofs.Words.{may, IsListedOnce}
+use Rattle.deadpool_replay.proofs.RunsWell.{may, IsListedOnce, each_state}
 use Rattle.deadpool_replay.proofs.OneList.{listed_once}
-use Rattle.deadpool_replay.proofs.RunsWell.{each_state}
 use Rattle.deadpool_replay.proofs.laws.party_in_one_list.Goals as goal
 
 pub returns : goal.returns

@@ -1,5 +1,4 @@
-use Rattle.deadpool_replay.proofs.Words.{may, MarksQueued}
-use Rattle.deadpool_replay.proofs.RunsWell.{each_state}
+use Rattle.deadpool_replay.proofs.RunsWell.{may, MarksQueued, each_state}
 use Rattle.deadpool_replay.proofs.laws.queue_has_the_queued.Goals as goal
 
 pub returns : goal.returns

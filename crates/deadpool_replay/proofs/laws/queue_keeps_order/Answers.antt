@@ -1,5 +1,4 @@
-use Rattle.deadpool_replay.proofs.Words.{may, KeepsQueue}
-use Rattle.deadpool_replay.proofs.RunsWell.{each_step}
+use Rattle.deadpool_replay.proofs.RunsWell.{may, KeepsQueue, each_step}
 use Rattle.deadpool_replay.proofs.laws.queue_keeps_order.Goals as goal
 
 pub returns : goal.returns

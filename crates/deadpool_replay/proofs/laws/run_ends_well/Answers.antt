@@ -1,5 +1,4 @@
-use Rattle.deadpool_replay.proofs.Words.{may}
-use Rattle.deadpool_replay.proofs.RunsWell.{ends_well}
+use Rattle.deadpool_replay.proofs.RunsWell.{may, ends_well}
 use Rattle.deadpool_replay.proofs.laws.run_ends_well.Goals as goal
 
 pub returns : goal.returns

@@ -1,5 +1,4 @@
-use Rattle.deadpool_replay.proofs.Words.{may}
-use Rattle.deadpool_replay.proofs.RunsWell.{stays_within}
+use Rattle.deadpool_replay.proofs.RunsWell.{may, stays_within}
 use Rattle.deadpool_replay.proofs.laws.size_within_limit.Goals as goal
 
 pub returns : goal.returns

@@ -1,8 +1,4 @@
-use Rattle.deadpool_replay.proofs.Basics.{◌≡◌, ◌∙◌, Some, None, length, vec_len, vec_capacity, arith, rules, map, refl, ap, sym, slice_get, length-map, slice_get_read, slice_get_past, slice_get-map, option_map}
-use Rattle.deadpool_replay.proofs.Words.{party_of, may}
-use Rattle.deadpool_replay.proofs.AllMoves.{advance_falls}
-use Rattle.deadpool_replay.proofs.TrialSteps.{out_fits, turned, not_turned}
-use Rattle.deadpool_replay.proofs.Fixed.{fixed_as}
+use Rattle.deadpool_replay.proofs.Cited.{◌≡◌, ◌∙◌, Some, None, length, vec_len, vec_capacity, arith, rules, map, refl, ap, slice_get, length-map, slice_get_read, slice_get_past, slice_get-map, option_map, set-same, party_of, out_fits, advanced}
 use Rattle.deadpool_replay.proofs.trial.Trial.advance.Goals as goal
 
 pub returns-then-party-len-clause-made : goal.returns-then-party-len-clause-made
@@ -15,48 +11,42 @@ returns-then-party-len-clause-made g c =
 pub hand_out-requires : goal.hand_out-requires
 hand_out-requires g c =
     let f = c.self.inside in
-    let here = slice_get_read f.parties.items (vec_len f.parties) c.args.party c.index_mut-get.result.now (search rules) (omega (arith, c.len.ensures, c.if-party-len.false)) c.index_mut-get.ensures.value in
-    let all = turned g.M.Manager g.F.SyncHook g.A.AsyncHook f.environment.manager (fixed_as f.environment.runtime f.environment.hooks f.timeouts f.first f.most_parties) f.core c.advance_get.new.desk f.parties.items f.out.items
-    c.self.invariant.counted c.self.invariant.well c.args.party c.args.now c.index_mut-get.result.now c.advance_get.new.get c.advance_get.result c.in-Some.turn here c.advance_get.ensures.advanced c.in-Some.is in
-    out_fits c.advance_get.new.desk.desk f.parties.items c.args.party c.advance_get.new.get _ (vec_len f.parties) f.most_parties (vec_capacity f.out) all.1 (search rules) c.self.invariant.parties c.self.invariant.out_room
+    let here = slice_get_read f.parties.items (vec_len f.parties) c.args.party c.index_mut.result.now (search rules) (omega (arith, c.len.ensures, c.if-party-len.false)) c.index_mut.ensures.value in
+    let made = c.advance-turn.ensures.advanced in
+    let all = advanced g.M.Manager g.F.SyncHook g.A.AsyncHook f.fixed.environment.manager f.fixed f.core c.advance-turn.new.desk f.parties.items f.out.items
+    c.self.invariant.counted c.self.invariant.well c.args.party c.args.now c.in-Some.get c.advance-turn.new.self c.advance-turn.result (here ∙ ap Some c.in-Some.is) c.advance-turn.ensures.timeouts made.0 made.1.0 made.1.1 in
+    out_fits c.advance-turn.new.desk.desk f.parties.items c.args.party (Some c.advance-turn.new.self) _ (vec_len f.parties) f.fixed.most_parties (vec_capacity f.out) all.1 (search rules) c.self.invariant.parties c.self.invariant.out_room
 
 pub invariant_of-self-in-Some : goal.invariant_of-self-in-Some
 invariant_of-self-in-Some g c =
     let f = c.self.inside in
-    let here = slice_get_read f.parties.items (vec_len f.parties) c.args.party c.index_mut-get.result.now (search rules) (omega (arith, c.len.ensures, c.if-party-len.false)) c.index_mut-get.ensures.value in
-    let all = turned g.M.Manager g.F.SyncHook g.A.AsyncHook f.environment.manager (fixed_as f.environment.runtime f.environment.hooks f.timeouts f.first f.most_parties) f.core c.advance_get.new.desk f.parties.items f.out.items
-    c.self.invariant.counted c.self.invariant.well c.args.party c.args.now c.index_mut-get.result.now c.advance_get.new.get c.advance_get.result c.in-Some.turn here c.advance_get.ensures.advanced c.in-Some.is in
+    let here = slice_get_read f.parties.items (vec_len f.parties) c.args.party c.index_mut.result.now (search rules) (omega (arith, c.len.ensures, c.if-party-len.false)) c.index_mut.ensures.value in
+    let made = c.advance-turn.ensures.advanced in
+    let all = advanced g.M.Manager g.F.SyncHook g.A.AsyncHook f.fixed.environment.manager f.fixed f.core c.advance-turn.new.desk f.parties.items f.out.items
+    c.self.invariant.counted c.self.invariant.well c.args.party c.args.now c.in-Some.get c.advance-turn.new.self c.advance-turn.result (here ∙ ap Some c.in-Some.is) c.advance-turn.ensures.timeouts made.0 made.1.0 made.1.1 in
     record { counted = rw c.hand_out.ensures.out all.1; well = rw c.hand_out.ensures.out all.2; parties = c.self.invariant.parties; party_room = c.self.invariant.party_room; out_room = omega (arith, c.self.invariant.out_room, c.hand_out.ensures.capacity) }
 
 pub returns-in-Some-clause-made : goal.returns-in-Some-clause-made
 returns-in-Some-clause-made g c =
     let f = c.self.inside in
-    let here = slice_get_read f.parties.items (vec_len f.parties) c.args.party c.index_mut-get.result.now (search rules) (omega (arith, c.len.ensures, c.if-party-len.false)) c.index_mut-get.ensures.value in
-    let all = turned g.M.Manager g.F.SyncHook g.A.AsyncHook f.environment.manager (fixed_as f.environment.runtime f.environment.hooks f.timeouts f.first f.most_parties) f.core c.advance_get.new.desk f.parties.items f.out.items
-    c.self.invariant.counted c.self.invariant.well c.args.party c.args.now c.index_mut-get.result.now c.advance_get.new.get c.advance_get.result c.in-Some.turn here c.advance_get.ensures.advanced c.in-Some.is in
+    let here = slice_get_read f.parties.items (vec_len f.parties) c.args.party c.index_mut.result.now (search rules) (omega (arith, c.len.ensures, c.if-party-len.false)) c.index_mut.ensures.value in
+    let made = c.advance-turn.ensures.advanced in
+    let all = advanced g.M.Manager g.F.SyncHook g.A.AsyncHook f.fixed.environment.manager f.fixed f.core c.advance-turn.new.desk f.parties.items f.out.items
+    c.self.invariant.counted c.self.invariant.well c.args.party c.args.now c.in-Some.get c.advance-turn.new.self c.advance-turn.result (here ∙ ap Some c.in-Some.is) c.advance-turn.ensures.timeouts made.0 made.1.0 made.1.1 in
     rw (← c.self.view_is, c.hand_out.ensures.out, c.hand_out.ensures.reply) all.0
-
-pub returns-in-Some-clause-falls : goal.returns-in-Some-clause-falls
-returns-in-Some-clause-falls g c more =
-    let f = c.self.inside in
-    let here = slice_get_read f.parties.items (vec_len f.parties) c.args.party c.index_mut-get.result.now (search rules) (omega (arith, c.len.ensures, c.if-party-len.false)) c.index_mut-get.ensures.value in
-    let all = turned g.M.Manager g.F.SyncHook g.A.AsyncHook f.environment.manager (fixed_as f.environment.runtime f.environment.hooks f.timeouts f.first f.most_parties) f.core c.advance_get.new.desk f.parties.items f.out.items
-    c.self.invariant.counted c.self.invariant.well c.args.party c.args.now c.index_mut-get.result.now c.advance_get.new.get c.advance_get.result c.in-Some.turn here c.advance_get.ensures.advanced c.in-Some.is in
-    rw (← c.self.view_is) (advance_falls _ _ c.self.invariant.well.lawful (may g.M.Manager g.F.SyncHook g.A.AsyncHook f.environment.manager) _ c.args.party c.args.now _ all.0 (sym c.hand_out.ensures.reply ∙ more))
 
 pub invariant_of-self : goal.invariant_of-self
 invariant_of-self g c =
     let f = c.self.inside in
-    let here = slice_get_read f.parties.items (vec_len f.parties) c.args.party c.index_mut-get.result.now (search rules) (omega (arith, c.len.ensures, c.if-party-len.false)) c.index_mut-get.ensures.value in
-    let all = not_turned g.M.Manager g.F.SyncHook g.A.AsyncHook f.environment.manager (fixed_as f.environment.runtime f.environment.hooks f.timeouts f.first f.most_parties) f.core c.advance_get.new.desk f.parties.items f.out.items
-    c.self.invariant.counted c.self.invariant.well c.args.party c.args.now c.index_mut-get.result.now c.advance_get.new.get c.advance_get.result here c.advance_get.ensures.advanced c.in-None.is in
-    rw (all.1, all.2) record { counted = c.self.invariant.counted; well = c.self.invariant.well; parties = c.self.invariant.parties; party_room = c.self.invariant.party_room; out_room = c.self.invariant.out_room }
+    let here = slice_get_read f.parties.items (vec_len f.parties) c.args.party c.index_mut.result.now (search rules) (omega (arith, c.len.ensures, c.if-party-len.false)) c.index_mut.ensures.value in
+    let same = set-same f.parties.items c.args.party None (here ∙ ap Some c.in-None.is) in
+    rw (c.in-None.is, same) record { counted = c.self.invariant.counted; well = c.self.invariant.well; parties = c.self.invariant.parties; party_room = c.self.invariant.party_room; out_room = c.self.invariant.out_room }
 
 pub returns-in-None-clause-made : goal.returns-in-None-clause-made
 returns-in-None-clause-made g c =
     let f = c.self.inside in
-    let here = slice_get_read f.parties.items (vec_len f.parties) c.args.party c.index_mut-get.result.now (search rules) (omega (arith, c.len.ensures, c.if-party-len.false)) c.index_mut-get.ensures.value in
-    let all = not_turned g.M.Manager g.F.SyncHook g.A.AsyncHook f.environment.manager (fixed_as f.environment.runtime f.environment.hooks f.timeouts f.first f.most_parties) f.core c.advance_get.new.desk f.parties.items f.out.items
-    c.self.invariant.counted c.self.invariant.well c.args.party c.args.now c.index_mut-get.result.now c.advance_get.new.get c.advance_get.result here c.advance_get.ensures.advanced c.in-None.is in
-    let none : slice_get (map party_of f.parties.items) c.args.party ≡ Some None = slice_get-map party_of f.parties.items c.args.party ∙ ap (option_map party_of) all.0 in
-    rw (← c.self.view_is, all.1, all.2) (rw none refl)
+    let here = slice_get_read f.parties.items (vec_len f.parties) c.args.party c.index_mut.result.now (search rules) (omega (arith, c.len.ensures, c.if-party-len.false)) c.index_mut.ensures.value in
+    let gone : slice_get f.parties.items c.args.party ≡ Some None = here ∙ ap Some c.in-None.is in
+    let same = set-same f.parties.items c.args.party None gone in
+    let none : slice_get (map party_of f.parties.items) c.args.party ≡ Some None = slice_get-map party_of f.parties.items c.args.party ∙ ap (option_map party_of) gone in
+    rw (← c.self.view_is, c.in-None.is, same) (rw none refl)

@@ -1,8 +1,4 @@
-use Rattle.deadpool_replay.proofs.Basics.{◌≡◌, ◌∙◌, None, refl, sym, none_there}
-use Rattle.deadpool_replay.proofs.Words.{find_slot, slot_number}
-use Rattle.deadpool_replay.proofs.OutObjects.{back_counted}
-use Rattle.deadpool_replay.proofs.TrialSteps.{came_back}
-use Rattle.deadpool_replay.proofs.Fixed.{fixed_as}
+use Rattle.deadpool_replay.proofs.Cited.{◌≡◌, ◌∙◌, None, refl, sym, none_there, find_slot, slot_number, back_counted, came_back}
 use Rattle.deadpool_replay.proofs.trial.Trial.back.Goals as goal
 
 pub invariant_of-self : goal.invariant_of-self
@@ -26,13 +22,13 @@ pub invariant_of-self-in-Some : goal.invariant_of-self-in-Some
 invariant_of-self-in-Some g c =
     let f = c.self.inside in
     let counts = back_counted f.core.desk c.back-reply.new.self.desk f.parties.items f.out.items c.args.number c.in-Some.slot c.self.invariant.counted (sym c.take_out.ensures.item ∙ c.in-Some.is) c.back-reply.result c.back-reply.ensures.0 in
-    let all = came_back g.M.Manager g.F.SyncHook g.A.AsyncHook f.environment.manager (fixed_as f.environment.runtime f.environment.hooks f.timeouts f.first f.most_parties) f.core c.back-reply.new.self f.parties.items f.out.items
+    let all = came_back g.M.Manager g.F.SyncHook g.A.AsyncHook f.fixed.environment.manager f.fixed f.core c.back-reply.new.self f.parties.items f.out.items
     c.self.invariant.counted c.self.invariant.well c.args.number c.in-Some.slot c.back-reply.result c.after_back.result (sym c.take_out.ensures.item ∙ c.in-Some.is) c.back-reply.ensures.0 c.after_back.ensures in
     rw c.take_out.ensures.items record { counted = counts.0; well = all.1; parties = c.self.invariant.parties; party_room = c.self.invariant.party_room; out_room = rw c.take_out.ensures.capacity c.self.invariant.out_room }
 
 pub returns-in-Some-clause-made : goal.returns-in-Some-clause-made
 returns-in-Some-clause-made g c =
     let f = c.self.inside in
-    let all = came_back g.M.Manager g.F.SyncHook g.A.AsyncHook f.environment.manager (fixed_as f.environment.runtime f.environment.hooks f.timeouts f.first f.most_parties) f.core c.back-reply.new.self f.parties.items f.out.items
+    let all = came_back g.M.Manager g.F.SyncHook g.A.AsyncHook f.fixed.environment.manager f.fixed f.core c.back-reply.new.self f.parties.items f.out.items
     c.self.invariant.counted c.self.invariant.well c.args.number c.in-Some.slot c.back-reply.result c.after_back.result (sym c.take_out.ensures.item ∙ c.in-Some.is) c.back-reply.ensures.0 c.after_back.ensures in
     rw (← c.self.view_is, c.take_out.ensures.items) all.0

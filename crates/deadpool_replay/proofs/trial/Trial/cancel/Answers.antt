@@ -1,7 +1,4 @@
-use Rattle.deadpool_replay.proofs.Basics.{◌≡◌, ◌∙◌, Some, None, length, vec_len, arith, rules, map, refl, ap, sym, slice_get, length-map, slice_get_read, slice_get_past, slice_get-map, option_map, set-same}
-use Rattle.deadpool_replay.proofs.Words.{party_of}
-use Rattle.deadpool_replay.proofs.TrialSteps.{cancelled}
-use Rattle.deadpool_replay.proofs.Fixed.{fixed_as}
+use Rattle.deadpool_replay.proofs.Cited.{◌≡◌, ◌∙◌, Some, None, length, vec_len, arith, rules, map, refl, ap, sym, slice_get, length-map, slice_get_read, slice_get_past, slice_get-map, option_map, set-same, party_of, cancelled}
 use Rattle.deadpool_replay.proofs.trial.Trial.cancel.Goals as goal
 
 pub returns-then-party-len-clause-made : goal.returns-then-party-len-clause-made
@@ -33,7 +30,7 @@ invariant_of-self-in-Some g c =
     let f = c.self.inside in
     let here = slice_get_read f.parties.items (vec_len f.parties) c.args.party c.index_mut.result.now (search rules) (omega (arith, c.len.ensures, c.if-party-len.false)) c.index_mut.ensures.value in
     let made = c.cancel.ensures.cancelled in
-    let all = cancelled g.M.Manager g.F.SyncHook g.A.AsyncHook f.environment.manager (fixed_as f.environment.runtime f.environment.hooks f.timeouts f.first f.most_parties) f.core c.cancel.new.desk f.parties.items f.out.items
+    let all = cancelled g.M.Manager g.F.SyncHook g.A.AsyncHook f.fixed.environment.manager f.fixed f.core c.cancel.new.desk f.parties.items f.out.items
     c.self.invariant.counted c.self.invariant.well c.args.party c.in-Some.state made.0 (here ∙ ap Some (sym c.take.ensures.value ∙ c.in-Some.is)) made.1.0 made.1.1 in
     rw c.take.ensures.after record { counted = all.1; well = all.2; parties = c.self.invariant.parties; party_room = c.self.invariant.party_room; out_room = c.self.invariant.out_room }
 
@@ -42,6 +39,6 @@ returns-in-Some-clause-made g c =
     let f = c.self.inside in
     let here = slice_get_read f.parties.items (vec_len f.parties) c.args.party c.index_mut.result.now (search rules) (omega (arith, c.len.ensures, c.if-party-len.false)) c.index_mut.ensures.value in
     let made = c.cancel.ensures.cancelled in
-    let all = cancelled g.M.Manager g.F.SyncHook g.A.AsyncHook f.environment.manager (fixed_as f.environment.runtime f.environment.hooks f.timeouts f.first f.most_parties) f.core c.cancel.new.desk f.parties.items f.out.items
+    let all = cancelled g.M.Manager g.F.SyncHook g.A.AsyncHook f.fixed.environment.manager f.fixed f.core c.cancel.new.desk f.parties.items f.out.items
     c.self.invariant.counted c.self.invariant.well c.args.party c.in-Some.state made.0 (here ∙ ap Some (sym c.take.ensures.value ∙ c.in-Some.is)) made.1.0 made.1.1 in
     rw (← c.self.view_is, c.take.ensures.after) all.0

@@ -1,9 +1,4 @@
-use Rattle.deadpool_replay.proofs.Basics.{refl}
-use Rattle.deadpool_replay.proofs.Words.{may}
-use Rattle.deadpool_replay.specs.declared.moves.Move.TheVariants as move
-use Rattle.deadpool_replay.proofs.TrialSteps.{leads_to_well, no_handle, some_handle}
-use Rattle.deadpool_replay.proofs.OwnerSteps.{closed_all}
-use Rattle.deadpool_replay.proofs.Fixed.{fixed_as}
+use Rattle.deadpool_replay.proofs.Cited.{refl, may, leads_to_well, no_handle, some_handle, closed_all, Close}
 use Rattle.deadpool_replay.proofs.trial.Trial.close.Goals as goal
 
 pub returns-then-not-has_handle-clause-made : goal.returns-then-not-has_handle-clause-made
@@ -15,12 +10,12 @@ pub invariant_of-self : goal.invariant_of-self
 invariant_of-self g c =
     let f = c.self.inside in
     let some = some_handle c.has_handle.result f.core.desk.handles c.has_handle.ensures c.if-not-has_handle.false in
-    let all = closed_all (may g.M.Manager g.F.SyncHook g.A.AsyncHook f.environment.manager) (λ found. tt) (fixed_as f.environment.runtime f.environment.hooks f.timeouts f.first f.most_parties) f.core.desk c.close.new.self.desk f.parties.items f.out.items c.self.invariant.counted some c.close.ensures.0 in
-    record { counted = all.1; well = leads_to_well g.M.Manager g.F.SyncHook g.A.AsyncHook f.environment.manager move.Close _ _ _ c.self.invariant.well all.0; parties = c.self.invariant.parties; party_room = c.self.invariant.party_room; out_room = c.self.invariant.out_room }
+    let all = closed_all (may g.M.Manager g.F.SyncHook g.A.AsyncHook f.fixed.environment.manager) (λ found. tt) f.fixed f.core.desk c.close.new.self.desk f.parties.items f.out.items c.self.invariant.counted some c.close.ensures.0 in
+    record { counted = all.1; well = leads_to_well g.M.Manager g.F.SyncHook g.A.AsyncHook f.fixed.environment.manager Close _ _ _ c.self.invariant.well all.0; parties = c.self.invariant.parties; party_room = c.self.invariant.party_room; out_room = c.self.invariant.out_room }
 
 pub returns-clause-made : goal.returns-clause-made
 returns-clause-made g c =
     let f = c.self.inside in
     let some = some_handle c.has_handle.result f.core.desk.handles c.has_handle.ensures c.if-not-has_handle.false in
-    let all = closed_all (may g.M.Manager g.F.SyncHook g.A.AsyncHook f.environment.manager) (λ found. tt) (fixed_as f.environment.runtime f.environment.hooks f.timeouts f.first f.most_parties) f.core.desk c.close.new.self.desk f.parties.items f.out.items c.self.invariant.counted some c.close.ensures.0 in
+    let all = closed_all (may g.M.Manager g.F.SyncHook g.A.AsyncHook f.fixed.environment.manager) (λ found. tt) f.fixed f.core.desk c.close.new.self.desk f.parties.items f.out.items c.self.invariant.counted some c.close.ensures.0 in
     rw (← c.self.view_is) all.0

@@ -1,4 +1,4 @@
-use Rattle.deadpool_replay.proofs.Basics.{[], ◌∷◌, refl}
+use Rattle.deadpool_replay.proofs.Cited.{[], ◌∷◌, refl}
 use Rattle.deadpool_replay.proofs.trial.Trial.make.Goals as goal
 
 pub returns-in-Start-clause-made : goal.returns-in-Start-clause-made

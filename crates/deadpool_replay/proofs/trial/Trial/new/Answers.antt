@@ -1,5 +1,4 @@
-use Rattle.deadpool_replay.proofs.Basics.{refl, arith}
-use Rattle.deadpool_replay.proofs.Well.{opened_well}
+use Rattle.deadpool_replay.proofs.Cited.{refl, arith, opened_well}
 use Rattle.deadpool_replay.proofs.trial.Trial.new.Goals as goal
 
 pub invariant_of-result : goal.invariant_of-result

@@ -1,10 +1,4 @@
-use Rattle.deadpool_replay.proofs.Basics.{rules, ◌≡◌, ◌==◌, Some, None, length, vec_len, arith, refl, position, place_within, found_at_place, nothing_found}
-use Rattle.deadpool_replay.proofs.Words.{with_put}
-use Rattle.deadpool_replay.specs.declared.moves.Move.TheVariants as move
-use Rattle.deadpool_replay.specs.declared.moves.Reply.TheVariants as reply
-use Rattle.deadpool_replay.proofs.OutObjects.{put_at_place, put_counted}
-use Rattle.deadpool_replay.proofs.TrialSteps.{leads_to_well}
-use Rattle.deadpool_replay.proofs.Fixed.{fixed_as, image_of}
+use Rattle.deadpool_replay.proofs.Cited.{rules, ◌≡◌, ◌==◌, Some, None, length, vec_len, arith, refl, position, place_within, found_at_place, nothing_found, with_put, image, put_at_place, put_counted, leads_to_well, Put, Done}
 use Rattle.deadpool_replay.proofs.trial.Trial.put.Goals as goal
 
 pub index_mut-requires : goal.index_mut-requires
@@ -20,9 +14,9 @@ invariant_of-self g c =
     let place : position (λ s. s.number == c.args.number) f.out.items ≡ Some c.in-Some.at = rw c.index_of.ensures at c.in-Some.is in
     let put = put_at_place c.args.number c.args.value f.out.items c.in-Some.at c.index_mut.result.now place c.index_mut.ensures.value in
     let found = found_at_place (λ s. s.number == c.args.number) f.out.items c.in-Some.at c.index_mut.result.now place c.index_mut.ensures.value in
-    let pool = image_of (fixed_as f.environment.runtime f.environment.hooks f.timeouts f.first f.most_parties) f.core.desk f.parties.items f.out.items in
-    let led = leads_to_well g.M.Manager g.F.SyncHook g.A.AsyncHook f.environment.manager (move.Put c.args.number c.args.value) pool
-    (record pool { out = with_put c.args.number c.args.value f.out.items }) reply.Done c.self.invariant.well (rw found refl) in
+    let pool = image f.fixed f.core.desk f.parties.items f.out.items in
+    let led = leads_to_well g.M.Manager g.F.SyncHook g.A.AsyncHook f.fixed.environment.manager (Put c.args.number c.args.value) pool
+    (record pool { out = with_put c.args.number c.args.value f.out.items }) Done c.self.invariant.well (rw found refl) in
     record { counted = rw put (put_counted f.core.desk f.parties.items f.out.items c.args.number c.args.value c.self.invariant.counted); well = rw put led; parties = c.self.invariant.parties; party_room = c.self.invariant.party_room; out_room = c.self.invariant.out_room }
 
 pub returns-in-None-clause-made : goal.returns-in-None-clause-made

@@ -1,7 +1,4 @@
-use Rattle.deadpool_replay.proofs.Basics.{rules, ◌≡◌, [], ◌∷◌, length, vec_len, arith, refl, subst, ◌∙◌, append_assoc, append-nil, into_iter_items, into_iter_len, none_left, one_less}
-use Rattle.deadpool_replay.proofs.Words.{NobodyWaits, WithinReach, IsWell, may, MakesMove}
-use Rattle.deadpool_replay.proofs.Runs.{runs_more, runs_end}
-use Rattle.deadpool_replay.proofs.RunsWell.{each_state, each_step}
+use Rattle.deadpool_replay.proofs.Cited.{rules, ◌≡◌, [], ◌∷◌, length, vec_len, arith, refl, subst, ◌∙◌, append_assoc, append-nil, into_iter_items, into_iter_len, none_left, one_less, NobodyWaits, WithinReach, IsWell, may, MakesMove, runs_more, runs_end, each_state, each_step}
 use Rattle.deadpool_replay.proofs.trial.Trial.run.Goals as goal
 
 pub loop-first-init : goal.loop-first-init

@@ -1,5 +1,4 @@
-use Rattle.deadpool_replay.proofs.Basics.{◌≡◌, ◌≤◌, List, ◌++◌, length, vec_len, vec_capacity, ◌+◌, into_iter_items, into_iter_len}
-use Rattle.deadpool_replay.proofs.Words.{Keeps, may, Pool, PoolRuns, Reply}
+use Rattle.deadpool_replay.proofs.Cited.{◌≡◌, ◌≤◌, List, ◌++◌, length, vec_len, vec_capacity, ◌+◌, into_iter_items, into_iter_len, Keeps, may, Pool, PoolRuns, Reply}
 use Rattle.deadpool_replay.proofs.trial.Trial.run.Given as goal
 
 -- what the moves that are left make from here, all the moves make from the beginning

@@ -1,10 +1,4 @@
-use Rattle.deadpool_replay.proofs.Basics.{◌≡◌, nat_lt, true, false, rules, ◌∷◌, [], ◌++◌, Some, length, vec_len, arith, refl, map, lt-ltb, le-ltb, length-map, unwrap_or}
-use Rattle.deadpool_replay.proofs.Words.{party_of, unpolled}
-use Rattle.deadpool_replay.specs.declared.moves.Reply.TheVariants as reply
-use Rattle.deadpool_replay.specs.declared.moves.Move.TheVariants as move
-use Rattle.deadpool_replay.proofs.DeskImage.{starts, newcomer}
-use Rattle.deadpool_replay.proofs.TrialSteps.{no_handle, some_handle, leads_to_well}
-use Rattle.deadpool_replay.proofs.Fixed.{fixed_as, image_of}
+use Rattle.deadpool_replay.proofs.Cited.{◌≡◌, nat_lt, true, false, rules, ◌∷◌, [], ◌++◌, Some, length, vec_len, arith, refl, map, lt-ltb, le-ltb, length-map, unwrap_or, party_of, unpolled, image, starts, newcomer, no_handle, some_handle, leads_to_well, Start, Started}
 use Rattle.deadpool_replay.proofs.trial.Trial.start.Goals as goal
 
 pub returns-then-not-has_handle-clause-made : goal.returns-then-not-has_handle-clause-made
@@ -17,7 +11,7 @@ returns-then-party-self-clause-made g c =
     let f = c.self.inside in
     let some = some_handle c.has_handle.result f.core.desk.handles c.has_handle.ensures c.if-not-has_handle.false in
     let len : vec_len f.parties ≡ length f.parties.items = search rules in
-    let full : nat_lt (length (map party_of f.parties.items)) f.most_parties ≡ false = le-ltb _ _ (omega (arith, c.len-party.ensures, len, length-map f.parties.items party_of, c.if-party-self.true)) in
+    let full : nat_lt (length (map party_of f.parties.items)) f.fixed.most_parties ≡ false = le-ltb _ _ (omega (arith, c.len-party.ensures, len, length-map f.parties.items party_of, c.if-party-self.true)) in
     rw (← c.self.view_is) (rw (some, full) refl)
 
 pub returns-clause-made : goal.returns-clause-made
@@ -26,25 +20,25 @@ returns-clause-made g c =
     let some = some_handle c.has_handle.result f.core.desk.handles c.has_handle.ensures c.if-not-has_handle.false in
     let len : vec_len f.parties ≡ length f.parties.items = search rules in
     let count : c.len-party.result ≡ length (map party_of f.parties.items) = omega (arith, c.len-party.ensures, len, length-map f.parties.items party_of) in
-    let few : nat_lt (length (map party_of f.parties.items)) f.most_parties ≡ true = lt-ltb _ _ (omega (arith, count, c.if-party-self.false)) in
+    let few : nat_lt (length (map party_of f.parties.items)) f.fixed.most_parties ≡ true = lt-ltb _ _ (omega (arith, count, c.if-party-self.false)) in
     let items : c.append.new.entries.items ≡ f.parties.items ++ Some (newcomer c.unwrap_or-timeouts.result) ∷ [] = rw c.new.ensures at c.append.ensures.items in
-    let all = starts (fixed_as f.environment.runtime f.environment.hooks f.timeouts f.first f.most_parties) f.core.desk f.parties.items f.out.items c.self.invariant.counted c.unwrap_or-timeouts.result in
+    let all = starts f.fixed f.core.desk f.parties.items f.out.items c.self.invariant.counted c.unwrap_or-timeouts.result in
     rw (← c.self.view_is, items) (rw (some, few, count, all.0, c.unwrap_or-timeouts.ensures) refl)
 
 pub invariant_of-self : goal.invariant_of-self
 invariant_of-self g c =
     let f = c.self.inside in
-    let fixed = fixed_as f.environment.runtime f.environment.hooks f.timeouts f.first f.most_parties in
+    let fixed = f.fixed in
     let some = some_handle c.has_handle.result f.core.desk.handles c.has_handle.ensures c.if-not-has_handle.false in
     let len : vec_len f.parties ≡ length f.parties.items = search rules in
     let count : c.len-party.result ≡ length (map party_of f.parties.items) = omega (arith, c.len-party.ensures, len, length-map f.parties.items party_of) in
-    let few : nat_lt (length (map party_of f.parties.items)) f.most_parties ≡ true = lt-ltb _ _ (omega (arith, count, c.if-party-self.false)) in
+    let few : nat_lt (length (map party_of f.parties.items)) f.fixed.most_parties ≡ true = lt-ltb _ _ (omega (arith, count, c.if-party-self.false)) in
     let items : c.append.new.entries.items ≡ f.parties.items ++ Some (newcomer c.unwrap_or-timeouts.result) ∷ [] = rw c.new.ensures at c.append.ensures.items in
     let all = starts fixed f.core.desk f.parties.items f.out.items c.self.invariant.counted c.unwrap_or-timeouts.result in
-    let pool = image_of fixed f.core.desk f.parties.items f.out.items in
-    let begun = record pool { parties = pool.parties ++ Some (record { timeouts = unwrap_or c.args.timeouts f.timeouts; standing = unpolled }) ∷ [] } in
-    let led = leads_to_well g.M.Manager g.F.SyncHook g.A.AsyncHook f.environment.manager (move.Start c.args.timeouts) pool begun
-    (reply.Started (length (map party_of f.parties.items))) c.self.invariant.well (rw (some, few) refl) in
+    let pool = image fixed f.core.desk f.parties.items f.out.items in
+    let begun = record pool { parties = pool.parties ++ Some (record { timeouts = unwrap_or c.args.timeouts f.fixed.timeouts; standing = unpolled }) ∷ [] } in
+    let led = leads_to_well g.M.Manager g.F.SyncHook g.A.AsyncHook f.fixed.environment.manager (Start c.args.timeouts) pool begun
+    (Started (length (map party_of f.parties.items))) c.self.invariant.well (rw (some, few) refl) in
     record {
       counted = rw items all.1;
       well = rw (items, all.0, c.unwrap_or-timeouts.ensures) led;

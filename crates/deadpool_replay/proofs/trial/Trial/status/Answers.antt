@@ -1,7 +1,4 @@
-use Rattle.deadpool_replay.proofs.Basics.{refl}
-use Rattle.deadpool_replay.proofs.DeskImage.{pool_status}
-use Rattle.deadpool_replay.proofs.TrialSteps.{no_handle, some_handle}
-use Rattle.deadpool_replay.proofs.Fixed.{fixed_as}
+use Rattle.deadpool_replay.proofs.Cited.{refl, pool_status, no_handle, some_handle}
 use Rattle.deadpool_replay.proofs.trial.Trial.status.Goals as goal
 
 pub returns-then-not-has_handle-clause-made : goal.returns-then-not-has_handle-clause-made
@@ -13,5 +10,5 @@ pub returns-clause-made : goal.returns-clause-made
 returns-clause-made g c =
     let f = c.self.inside in
     let some = some_handle c.has_handle.result f.core.desk.handles c.has_handle.ensures c.if-not-has_handle.false in
-    let same = pool_status (fixed_as f.environment.runtime f.environment.hooks f.timeouts f.first f.most_parties) f.core.desk f.parties.items f.out.items c.self.invariant.counted in
+    let same = pool_status f.fixed f.core.desk f.parties.items f.out.items c.self.invariant.counted in
     rw (← c.self.view_is, c.status.ensures.0.1, c.status.ensures.0.0, some, same) refl

@@ -1,6 +1,5 @@
-use Rattle.deadpool_replay.proofs.Basics.{◌≡◌, ◌≤◌, length, vec_len, vec_capacity, arith, rules, length-with_numbered}
-use Rattle.deadpool_replay.proofs.Words.{with_slot, slot_number}
-use Rattle.deadpool_replay.proofs.trial.hand_out.Goals as goal
+use Rattle.deadpool_replay.proofs.Cited.{◌≡◌, ◌≤◌, length, vec_len, vec_capacity, arith, rules, length-with_numbered, with_slot, slot_number}
+use Rattle.deadpool_replay.proofs.trial.parties.hand_out.Goals as goal
 
 pub put_in-requires : goal.put_in-requires
 put_in-requires g c =
