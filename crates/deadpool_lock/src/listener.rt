@@ -1,5 +1,5 @@
 //! What a future hears by, and when it is to be polled again.
-ghost use Rattle.std.specs.Prelude.{◌≡◌, ◌⊎◌, true, IfSome, IsSomeAnd};
+ghost use Rattle.std.specs.Prelude.{◌≡◌, ◌⊎◌, true, None, IfSome, IsNone, IsSomeAnd};
 ghost use Rattle.futures.specs.Task.{Hears, IsArmed, Keeps, Wakes};
 
 use deadpool_parts::{Clock, Moment};
@@ -14,7 +14,9 @@ pub struct Listener {
 
 impl Listener {
     /// Without a waker, which the first poll makes.
-    pub fn new() -> Self {
+    pub fn new() -> Self
+        ensures { result.waker ≡ None }
+    {
         Listener {
             waker: None,
             nowhere: Source::new(),
@@ -35,7 +37,9 @@ impl Listener {
     }
 
     /// The waker that was left at the last registration, to be kept under the lock.
-    pub fn waker(&mut self) -> &mut Option<Waker> {
+    pub fn waker(&mut self) -> &mut Option<Waker>
+        ensures { result.now ≡ self.old.waker }
+    {
         &mut self.waker
     }
 }
@@ -47,7 +51,8 @@ pub fn wake_at<C: Clock>(
     alarm: &mut Option<C::Alarm>,
     cx: &mut Context<'_>,
 )
-    ensures { Keeps cx.old cx.new }
+    ensures taken_back { IsNone deadline → IsNone alarm.new }
+    ensures kept { Keeps cx.old cx.new }
 {
     match deadline {
         Some(at) => clock.wake_at(at, alarm, cx),

@@ -1,5 +1,6 @@
 //! A lock whose steps tell those that wait.
 ghost use Rattle.std.specs.Prelude.{◌≡◌};
+ghost use Rattle.std.specs.Sync.Mutex.{mutex_guard_value};
 
 use futures::task::{Source, Waker};
 use std::sync::{Mutex, MutexGuard, Wait};
@@ -32,7 +33,9 @@ pub struct Step<'a, L: Wakes> {
 impl<'a, L: Wakes> Step<'a, L> {
     /// What the lock keeps.
     #[inline]
-    pub fn kept(&mut self) -> &mut L {
+    pub fn kept(&mut self) -> &mut L
+        ensures { result.now ≡ mutex_guard_value self.old.kept }
+    {
         &mut self.kept
     }
 }

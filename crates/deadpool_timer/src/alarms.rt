@@ -1,5 +1,5 @@
 //! Who is to be woken when.
-ghost use Rattle.std.specs.Prelude.{◌≡◌, true, [], Some, None, IfOk, IfErr, OnErr};
+ghost use Rattle.std.specs.Prelude.{◌≡◌, ◌%◌, ◌^◌, suc, true, false, [], Some, None, IfOk, IfErr, OnErr};
 ghost use Rattle.std.specs.Option.{option_map};
 ghost use Rattle.std.specs.BTreeMap.{btree_map_len, get, IsUnchanged, Updates};
 ghost use Rattle.deadpool_timer.specs.Ringing.{Tells, first_moment, place_cmp};
@@ -37,6 +37,7 @@ impl Alarms {
     /// None so far.
     pub fn new(alloc: Global) -> Self
         ensures none { result.wakers.entries ≡ [] }
+        ensures runs { result.is_stopped ≡ false }
     {
         Alarms {
             wakers: BTreeMap::new(alloc),
@@ -49,11 +50,15 @@ impl Alarms {
     /// the waker comes back.
     pub fn set(&mut self, at: Moment, waker: Waker) -> Result<Place, Waker>
         ensures moment { IfOk result (λ place. place.0 ≡ at.0) }
+        ensures runs { IfOk result (λ _. self.old.is_stopped ≡ false) }
+        ensures number { IfOk result (λ place. place.1 ≡ self.old.set) }
         ensures was_free { IfOk result (λ place. get place_cmp self.old.wakers place ≡ None) }
         ensures put { IfOk result
             (λ place. Updates place_cmp self.old.wakers self.new.wakers place (Some waker)) }
+        ensures counted { IfOk result (λ _. self.new.set ≡ suc self.old.set % 2 ^ 64) }
         ensures refused { IfErr result (λ back. back ≡ waker) }
         ensures unchanged { OnErr result (IsUnchanged self.old.wakers self.new.wakers) }
+        ensures stopped { self.new.is_stopped ≡ self.old.is_stopped }
     {
         let place = (at.0, self.set);
         if self.is_stopped || self.wakers.contains_key(&place) {
@@ -72,6 +77,7 @@ impl Alarms {
     pub fn take_back(&mut self, place: Place) -> Option<Waker>
         ensures waker { result ≡ get place_cmp self.old.wakers place }
         ensures taken { Updates place_cmp self.old.wakers self.new.wakers place None }
+        ensures stopped { self.new.is_stopped ≡ self.old.is_stopped }
     {
         self.wakers.remove(&place)
     }
@@ -88,8 +94,9 @@ impl Alarms {
 
     /// What the thread does next at this moment. Once the timer was stopped, all that are set ring, one after the other.
     pub fn next(&mut self, now: Moment) -> Next
-        ensures { Tells self.old.is_stopped
+        ensures tells { Tells self.old.is_stopped
             self.old.wakers.entries self.new.wakers.entries now.0 result }
+        ensures stopped { self.new.is_stopped ≡ self.old.is_stopped }
     {
         if !self.is_stopped {
             let Some(at) = self.first() else {

@@ -1,5 +1,5 @@
 //! The handles of a pool.
-ghost use Rattle.std.specs.Prelude.{◌≡◌, ◌⊎◌, Some, IsSome, IsSomeAnd, IfSome, IfOk};
+ghost use Rattle.std.specs.Prelude.{◌≡◌, ◌⊎◌, Some, None, IsSome, IsSomeAnd, IfSome, IfOk, IfErr};
 ghost use Rattle.deadpool_unmanaged.specs.declared.add.AddStage.TheVariants as AddStage;
 ghost use Rattle.deadpool_unmanaged.specs.declared.get.GetStage.TheVariants as GetStage;
 
@@ -38,7 +38,11 @@ pub struct Pool<T: Drop, C: Clock, R: Wait + Drop> {
 
 impl<T: Drop + Send, C: Clock + Send + Sync, R: Wait + Drop + Send + Sync> Pool<T, C, R> {
     /// An open pool with nothing in it and room for `max_size` objects, whose gets wait without an end.
-    pub fn new(alloc: Global, max_size: usize, clock: C, rt: R) -> Result<Self, AllocError> {
+    pub fn new(alloc: Global, max_size: usize, clock: C, rt: R) -> Result<Self, AllocError>
+        ensures timeout { IfOk result (λ pool. pool.inner.timeout ≡ None) }
+        ensures runtime { IfOk result (λ pool. pool.inner.runtime ≡ None) }
+        ensures clock { IfOk result (λ pool. pool.inner.clock ≡ clock) }
+    {
         Pool::from_config(alloc, &PoolConfig::new(max_size), clock, rt)
     }
 
@@ -58,12 +62,11 @@ impl<T: Drop + Send, C: Clock + Send + Sync, R: Wait + Drop + Send + Sync> Pool<
     }
 
     /// An open pool with nothing in it, for a machine with `count` processors: with room for twice as many objects.
-    pub fn with_processors(
-        alloc: Global,
-        count: usize,
-        clock: C,
-        rt: R,
-    ) -> Result<Self, AllocError> {
+    pub fn with_processors(alloc: Global, count: usize, clock: C, rt: R) -> Result<Self, AllocError>
+        ensures timeout { IfOk result (λ pool. pool.inner.timeout ≡ None) }
+        ensures runtime { IfOk result (λ pool. pool.inner.runtime ≡ None) }
+        ensures clock { IfOk result (λ pool. pool.inner.clock ≡ clock) }
+    {
         Pool::from_config(alloc, &PoolConfig::with_processors(count), clock, rt)
     }
 
@@ -75,6 +78,9 @@ impl<T: Drop + Send, C: Clock + Send + Sync, R: Wait + Drop + Send + Sync> Pool<
         rt: R,
     ) -> Result<Self, AllocError>
         requires { I.can_next items }
+        ensures timeout { IfOk result (λ pool. pool.inner.timeout ≡ None) }
+        ensures runtime { IfOk result (λ pool. pool.inner.runtime ≡ None) }
+        ensures clock { IfOk result (λ pool. pool.inner.clock ≡ clock) }
     {
         let mut idle = Vec::with_capacity(alloc, items.len())?;
         for item in items {
@@ -107,7 +113,7 @@ impl<T: Drop, C: Clock, R: Wait + Drop> Pool<T, C, R> {
     pub fn get(&self) -> Get<T, C, R>
         ensures asks { IfSome result.request
             (λ get. get.state ≡ GetStage.Unpolled self.now.inner.timeout) }
-        ensures begun { IsSome result.request ⊎ IsSome result.refusal }
+        ensures begun { (IsSome result.handle × IsSome result.request) ⊎ IsSome result.refusal }
         ensures handle { IfSome result.handle (λ shared. shared ≡ self.now.inner) }
     {
         self.timeout_get(self.inner.shared().timeout)
@@ -117,7 +123,7 @@ impl<T: Drop, C: Clock, R: Wait + Drop> Pool<T, C, R> {
     /// that finds no memory, its first poll answers `OutOfMemory`.
     pub fn timeout_get(&self, timeout: Option<Duration>) -> Get<T, C, R>
         ensures asks { IfSome result.request (λ get. get.state ≡ GetStage.Unpolled timeout) }
-        ensures begun { IsSome result.request ⊎ IsSome result.refusal }
+        ensures begun { (IsSome result.handle × IsSome result.request) ⊎ IsSome result.refusal }
         ensures handle { IfSome result.handle (λ shared. shared ≡ self.now.inner) }
     {
         match self.getting(timeout) {
@@ -150,7 +156,9 @@ impl<T: Drop, C: Clock, R: Wait + Drop> Pool<T, C, R> {
     }
 
     /// An object at once. `Timeout` if none is free, also if one is idle that a get was granted.
-    pub fn try_get(&self) -> Result<Object<T, C, R>, PoolError> {
+    pub fn try_get(&self) -> Result<Object<T, C, R>, PoolError>
+        ensures home { IfOk result (λ object. object.home ≡ self.now.inner) }
+    {
         let Ok(home) = self.inner.uncounted() else {
             return Err(PoolError::OutOfMemory);
         };
@@ -161,7 +169,8 @@ impl<T: Drop, C: Clock, R: Wait + Drop> Pool<T, C, R> {
     /// An add, which waits for room without an end. If it is refused the object comes back.
     pub fn add(&self, value: T) -> Add<T, C, R>
         ensures asks { IfSome result.request (λ add. add.state ≡ AddStage.Unpolled value) }
-        ensures begun { IsSome result.request ⊎ (result.refusal ≡ Some value) }
+        ensures begun { (IsSome result.handle × IsSome result.request)
+            ⊎ (result.refusal ≡ Some value) }
         ensures handle { IfSome result.handle (λ shared. shared ≡ self.now.inner) }
     {
         match self.inner.clone() {
@@ -185,7 +194,9 @@ impl<T: Drop, C: Clock, R: Wait + Drop> Pool<T, C, R> {
     }
 
     /// Adds an object at once. `Timeout` if there is no room, also if there is some that an add was granted.
-    pub fn try_add(&self, value: T) -> Result<(), (T, PoolError)> {
+    pub fn try_add(&self, value: T) -> Result<(), (T, PoolError)>
+        ensures { IfErr result (λ refused. refused.0 ≡ value) }
+    {
         self.inner.shared().try_add(value)
     }
 
@@ -193,7 +204,7 @@ impl<T: Drop, C: Clock, R: Wait + Drop> Pool<T, C, R> {
     pub fn remove(&self) -> Remove<T, C, R>
         ensures asks { IfSome result.request
             (λ removal. removal.get.state ≡ GetStage.Unpolled self.now.inner.timeout) }
-        ensures begun { IsSome result.request ⊎ IsSome result.refusal }
+        ensures begun { (IsSome result.handle × IsSome result.request) ⊎ IsSome result.refusal }
         ensures handle { IfSome result.handle (λ shared. shared ≡ self.now.inner) }
     {
         self.timeout_remove(self.inner.shared().timeout)
@@ -203,7 +214,7 @@ impl<T: Drop, C: Clock, R: Wait + Drop> Pool<T, C, R> {
     pub fn timeout_remove(&self, timeout: Option<Duration>) -> Remove<T, C, R>
         ensures asks { IfSome result.request
             (λ removal. removal.get.state ≡ GetStage.Unpolled timeout) }
-        ensures begun { IsSome result.request ⊎ IsSome result.refusal }
+        ensures begun { (IsSome result.handle × IsSome result.request) ⊎ IsSome result.refusal }
         ensures handle { IfSome result.handle (λ shared. shared ≡ self.now.inner) }
     {
         match self.getting(timeout) {

@@ -1,5 +1,5 @@
 //! What the handles of a pool share.
-ghost use Rattle.std.specs.Prelude.{◌≡◌};
+ghost use Rattle.std.specs.Prelude.{◌≡◌, IfErr};
 
 use crate::locked::Locked;
 use deadpool_lock::{Counted, StepLock};
@@ -42,7 +42,9 @@ impl<T: Drop, C: Clock, R: Wait + Drop> Shared<T, C, R> {
     }
 
     /// Adds an object at once, or gives it back with the reason.
-    pub fn try_add(&self, value: T) -> Result<(), (T, PoolError)> {
+    pub fn try_add(&self, value: T) -> Result<(), (T, PoolError)>
+        ensures { IfErr result (λ refused. refused.0 ≡ value) }
+    {
         let mut step = self.lock.begin();
         let added = step.kept().try_add(value);
         self.lock.end(step);
