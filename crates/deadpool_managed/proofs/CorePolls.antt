@@ -1,33 +1,5 @@
 -- A poll over a core is one over the desk machine. If its get does not come to wait, nobody comes to or leaves the queue.
-use Rattle.std.proofs.Common.{◌≡◌, ◌≢◌, ◌<◌, ℕ, Bool, List, [], ◌∷◌, map, true, false, Option, Some, None, Result, Ok, Err, refl, sym, ap, ◌∙◌, subst, inl, inr, arith}
-use Rattle.std.specs.Prelude.{⊤}
-use Rattle.std.specs.declared.time.Duration.{Duration}
-use Rattle.futures.specs.declared.task.Poll.{Poll}
-use Rattle.futures.specs.declared.task.Poll.TheVariants as poll
-use Rattle.deadpool_parts.specs.Moments.{cannot_wait}
-use Rattle.deadpool_parts.specs.declared.moment.Moment.{Moment}
-use Rattle.deadpool_parts.specs.declared.moment.Runtime.{Runtime}
-use Rattle.deadpool_parts.specs.declared.config.Timeouts.{Timeouts}
-use Rattle.deadpool_parts.specs.declared.replies.StepReply.{StepReply}
-use Rattle.deadpool_parts.specs.declared.replies.StepReply.TheVariants as step
-use Rattle.deadpool_desk.specs.CoreState.{CoreState}
-use Rattle.deadpool_desk.specs.DeskState.{DeskState, places}
-use Rattle.deadpool_managed.specs.HookLists.{HookLists}
-use Rattle.deadpool_managed.specs.Outside.{May}
-use Rattle.deadpool_managed.specs.Get.{Made, no_step, entering, asking, asking_again, discarding, creating, failing, refusing, cancelling, Makes, AfterServing, AfterCreation, AfterDiscard, AfterPrepared, AfterChecked, AdvancesCreation, AdvancesFrom, Advanced, Advances, PollsOver}
-use Rattle.deadpool_desk.specs.declared.slot.Slot.{Slot}
-use Rattle.deadpool_managed.specs.Stages.{Prepared, Stage, Unpolled, Queued, Going, Creating, Recycling, Checking, Finished}
-use Rattle.deadpool_managed.specs.declared.calls.Verdict.{Verdict}
-use Rattle.deadpool_managed.specs.declared.calls.Verdict.TheVariants as verdict
-use Rattle.deadpool_managed.specs.declared.get.Turn.{Turn}
-use Rattle.deadpool_managed.specs.declared.get.Turn.TheVariants.{More}
-use Rattle.deadpool_desk.specs.declared.desk.Serving.{Serving}
-use Rattle.deadpool_desk.specs.declared.desk.Serving.TheVariants as serving
-use Rattle.deadpool_desk.specs.declared.desk.EnterReply.{EnterReply}
-use Rattle.deadpool_desk.specs.declared.desk.EnterReply.TheVariants as enter
-use Rattle.deadpool_desk.specs.declared.desk.AgainReply.TheVariants as again
-use Rattle.deadpool_desk.specs.declared.desk.CreatedReply.TheVariants as numbered
-use Rattle.deadpool_managed.specs.FirstPoll.{AtOnce}
+use Rattle.deadpool_managed.proofs.Words.{◌≡◌, ◌≢◌, ◌<◌, ℕ, Bool, List, [], ◌∷◌, map, true, false, Option, Some, None, Result, Ok, Err, refl, sym, ap, ◌∙◌, subst, inl, inr, arith, ⊤, Duration, Poll, cannot_wait, Moment, Runtime, Timeouts, StepReply, CoreState, DeskState, places, HookLists, May, Made, no_step, entering, asking, asking_again, discarding, creating, failing, refusing, cancelling, Makes, AfterServing, AfterCreation, AfterDiscard, AfterPrepared, AfterChecked, AdvancesCreation, AdvancesFrom, Advanced, Advances, PollsOver, Slot, Prepared, Stage, Unpolled, Queued, Going, Creating, Recycling, Checking, Finished, Verdict, Turn, Serving, EnterReply, AtOnce, AgainReply, CreatedReply}
 use Rattle.deadpool_managed.proofs.FirstPollAtOnce.{HasAnswer, creation_answered}
 use Rattle.deadpool_managed.proofs.CoreDesk.{core_desk, own_desk, makes_at_desk}
 
@@ -51,19 +23,19 @@ module _ {V C R S : Type 0} where
 module _ {V E C R S : Type 0} where
   -- if a get is served it does not come to wait
   served_past : (by : Serving (Slot V)) (after : Stage V C R S) (turn : Turn V E) → AfterServing by after turn → StandsPast after
-  served_past (serving.Object slot left) after turn h = stands_past after _ h.0 tt
-  served_past serving.Create after turn h = stands_past after _ h.0 tt
-  served_past serving.Going after turn h = stands_past after _ h.0 tt
-  served_past serving.Exhausted after turn h = stands_past after _ h.0 tt
+  served_past (Serving.Object slot left) after turn h = stands_past after _ h.0 tt
+  served_past Serving.Create after turn h = stands_past after _ h.0 tt
+  served_past Serving.Going after turn h = stands_past after _ h.0 tt
+  served_past Serving.Exhausted after turn h = stands_past after _ h.0 tt
 
   -- nor does it by what comes of a creation
   created_past : (now : Moment) (deadline : Option Moment) (x : Poll (Result V E) × C) (made : Made V) (after : Stage V C R S) (turn : Turn V E)
       → AfterCreation now deadline x made after turn → IsPast made × StandsPast after
-  created_past now deadline (poll.Ready (Ok value), c) (creating (numbered.Created number)) after turn h = (tt, stands_past after _ h.0 tt)
-  created_past now deadline (poll.Ready (Ok value), c) (creating numbered.Unknown) after turn h = (tt, stands_past after _ h.0 tt)
-  created_past now deadline (poll.Ready (Err e), c) (failing reply) after turn h = (tt, stands_past after _ h.0 tt)
-  created_past now deadline (poll.Pending, c) no_step after turn h = (tt, stands_past after _ h.1 tt)
-  created_past now deadline (poll.Pending, c) (failing reply) after turn h = (tt, stands_past after _ h.1 tt)
+  created_past now deadline (Poll.Ready (Ok value), c) (creating (CreatedReply.Created number)) after turn h = (tt, stands_past after _ h.0 tt)
+  created_past now deadline (Poll.Ready (Ok value), c) (creating CreatedReply.Unknown) after turn h = (tt, stands_past after _ h.0 tt)
+  created_past now deadline (Poll.Ready (Err e), c) (failing reply) after turn h = (tt, stands_past after _ h.0 tt)
+  created_past now deadline (Poll.Pending, c) no_step after turn h = (tt, stands_past after _ h.1 tt)
+  created_past now deadline (Poll.Pending, c) (failing reply) after turn h = (tt, stands_past after _ h.1 tt)
   created_past now deadline _ _ after turn h = absurd h
 
 module _ {V E C R S F A : Type 0} (may : May V E C R S F A) (runtime : Option Runtime) (hooks : HookLists F A) (now : Moment) (timeouts : Timeouts) where
@@ -75,8 +47,8 @@ module _ {V E C R S F A : Type 0} (may : May V E C R S F A) (runtime : Option Ru
   creation_past timeout None deadline made after turn h = created_past now _ h.1.0 made after turn h.1.1.1
 
   discarded_past : (value : V) (allowance : Option ℕ) (reply : StepReply) (after : Stage V C R S) (turn : Turn V E) → AfterDiscard may value allowance reply after turn → StandsPast after
-  discarded_past value allowance step.Done after turn h = stands_past after _ h.1 tt
-  discarded_past value allowance step.Unknown after turn h = stands_past after _ h.0 tt
+  discarded_past value allowance StepReply.Done after turn h = stands_past after _ h.1 tt
+  discarded_past value allowance StepReply.Unknown after turn h = stands_past after _ h.0 tt
 
   prepared_past : (allowance : Option ℕ) (x : Prepared V R S) (made : Made V) (after : Stage V C R S) (turn : Turn V E) → AfterPrepared may allowance x made after turn → IsPast made × StandsPast after
   prepared_past allowance (Prepared.Accepted slot) no_step after turn h = (tt, stands_past after _ h.0 tt)
@@ -85,17 +57,17 @@ module _ {V E C R S F A : Type 0} (may : May V E C R S F A) (runtime : Option Ru
   prepared_past allowance _ _ after turn h = absurd h
 
   checked_past : (slot : Slot V) (x : Verdict S E × V) (made : Made V) (after : Stage V C R S) (turn : Turn V E) → AfterChecked may slot x made after turn → IsPast made × StandsPast after
-  checked_past slot (verdict.Accepted, v) no_step after turn h = (tt, stands_past after _ h.0 tt)
-  checked_past slot (verdict.Pending at, v) no_step after turn h = (tt, stands_past after _ h.0 tt)
-  checked_past slot (verdict.Refused e, v) (refusing reply) after turn h = (tt, stands_past after _ h.1 tt)
+  checked_past slot (Verdict.Accepted, v) no_step after turn h = (tt, stands_past after _ h.0 tt)
+  checked_past slot (Verdict.Pending at, v) no_step after turn h = (tt, stands_past after _ h.0 tt)
+  checked_past slot (Verdict.Refused e, v) (refusing reply) after turn h = (tt, stands_past after _ h.1 tt)
   checked_past slot _ _ after turn h = absurd h
 
   -- so a get that is past the queue stays past it
   stays_past : (stage : Stage V C R S) (made : Made V) (after : Stage V C R S) (turn : Turn V E) → StandsPast stage → AdvancesFrom may runtime hooks now timeouts stage made after turn → IsPast made × StandsPast after
   stays_past Unpolled made after turn past h = absurd past
   stays_past (Queued ticket deadline) made after turn past h = absurd past
-  stays_past (Going allowance) (asking_again given (again.Served by)) after turn past h = (tt, served_past by after turn h.1)
-  stays_past (Going allowance) (asking_again given again.Unknown) after turn past h = (tt, stands_past after _ h.1.0 tt)
+  stays_past (Going allowance) (asking_again given (AgainReply.Served by)) after turn past h = (tt, served_past by after turn h.1)
+  stays_past (Going allowance) (asking_again given AgainReply.Unknown) after turn past h = (tt, stands_past after _ h.1.0 tt)
   stays_past (Creating begun deadline) made after turn past h = creation_past timeouts.create begun deadline made after turn h
   stays_past (Recycling preparation allowance) made after turn past h = prepared_past allowance h.0 made after turn h.1.1
   stays_past (Checking slot at) made after turn past h = checked_past slot h.0 made after turn h.1.1
@@ -129,20 +101,20 @@ module _ {V : Type 0} where
 
   -- the step of a get that enters when a place is free
   entered_free : (c c' : CoreState V) (wait : Bool) (reply : EnterReply (Slot V)) → c.desk.is_open ≡ true → places c.desk < c.desk.limit → Makes own_desk c (entering wait reply) c'
-      → (c'.untold ≡ c.untold) × ((by : Serving (Slot V)) × (reply ≡ enter.Served by))
-  entered_free c c' wait enter.Closed opens free h = absurd (let shut = h.0.0 in cc)
-  entered_free c c' wait (enter.Served by) opens free h = (h.1, (by, refl))
-  entered_free c c' wait enter.Full opens free h = absurd (let full = h.0.1 in omega (arith, full, free))
-  entered_free c c' wait (enter.Waiting ticket) opens free h = absurd (let full = h.0.1 in omega (arith, full, free))
-  entered_free c c' wait enter.OutOfMemory opens free h = absurd (let full = h.0.1 in omega (arith, full, free))
+      → (c'.untold ≡ c.untold) × ((by : Serving (Slot V)) × (reply ≡ EnterReply.Served by))
+  entered_free c c' wait EnterReply.Closed opens free h = absurd (let shut = h.0.0 in cc)
+  entered_free c c' wait (EnterReply.Served by) opens free h = (h.1, (by, refl))
+  entered_free c c' wait EnterReply.Full opens free h = absurd (let full = h.0.1 in omega (arith, full, free))
+  entered_free c c' wait (EnterReply.Waiting ticket) opens free h = absurd (let full = h.0.1 in omega (arith, full, free))
+  entered_free c c' wait EnterReply.OutOfMemory opens free h = absurd (let full = h.0.1 in omega (arith, full, free))
 
   makes_entered : (c c' : CoreState V) (d' : DeskState (Slot V)) (wait : Bool) (reply : EnterReply (Slot V)) → c.desk.is_open ≡ true → places c.desk < c.desk.limit → c'.untold ≡ c.untold
-      → Makes core_desk c.desk (entering wait reply) d' → Makes own_desk c (entering wait reply) (record c' { desk = d' }) × ((by : Serving (Slot V)) × (reply ≡ enter.Served by))
-  makes_entered c c' d' wait enter.Closed opens free same h = absurd (let shut = h.0 in cc)
-  makes_entered c c' d' wait (enter.Served by) opens free same h = ((h, same), (by, refl))
-  makes_entered c c' d' wait enter.Full opens free same h = absurd (let full = h.1 in omega (arith, full, free))
-  makes_entered c c' d' wait (enter.Waiting ticket) opens free same h = absurd (let full = h.1 in omega (arith, full, free))
-  makes_entered c c' d' wait enter.OutOfMemory opens free same h = absurd (let full = h.1 in omega (arith, full, free))
+      → Makes core_desk c.desk (entering wait reply) d' → Makes own_desk c (entering wait reply) (record c' { desk = d' }) × ((by : Serving (Slot V)) × (reply ≡ EnterReply.Served by))
+  makes_entered c c' d' wait EnterReply.Closed opens free same h = absurd (let shut = h.0 in cc)
+  makes_entered c c' d' wait (EnterReply.Served by) opens free same h = ((h, same), (by, refl))
+  makes_entered c c' d' wait EnterReply.Full opens free same h = absurd (let full = h.1 in omega (arith, full, free))
+  makes_entered c c' d' wait (EnterReply.Waiting ticket) opens free same h = absurd (let full = h.1 in omega (arith, full, free))
+  makes_entered c c' d' wait EnterReply.OutOfMemory opens free same h = absurd (let full = h.1 in omega (arith, full, free))
 
 module _ {V E C R S F A : Type 0} (may : May V E C R S F A) (runtime : Option Runtime) (hooks : HookLists F A) (now : Moment) (timeouts : Timeouts) (stage' : Stage V C R S) (turn : Turn V E) where
   abbrev Steps : Type 0
@@ -173,7 +145,7 @@ module _ {V E C R S F A : Type 0} (may : May V E C R S F A) (runtime : Option Ru
       let step = stays_past may runtime hooks now timeouts stage x.made x.stage turn past h.1 in
       ap (λ (b : CoreState V). b.untold) h.3 ∙ untold_past c x.desk x.made step.0 h.0
   advances_untold c c' stage (x ∷ y ∷ zs) past h =
-      let step = stays_past may runtime hooks now timeouts stage x.made x.stage More past h.1 in
+      let step = stays_past may runtime hooks now timeouts stage x.made x.stage Turn.More past h.1 in
       advances_untold x.desk c' x.stage (y ∷ zs) step.1 h.2 ∙ untold_past c x.desk x.made step.0 h.0
 
   pub polls_untold : (c c' : CoreState V) (stage : Stage V C R S) → StandsPast stage → PollsOver own_desk may runtime hooks now timeouts c stage c' stage' turn → c'.untold ≡ c.untold
@@ -197,7 +169,7 @@ module _ {V E C R S F A : Type 0} (may : May V E C R S F A) (runtime : Option Ru
       by_steps [] h = absurd h
       by_steps (x ∷ []) h = ap (λ (b : CoreState V). b.untold) h.3 ∙ (first_untold c x.desk x.made x.stage turn opens free h.0 h.1).0
       by_steps (x ∷ y ∷ zs) h =
-          let first = first_untold c x.desk x.made x.stage More opens free h.0 h.1 in
+          let first = first_untold c x.desk x.made x.stage Turn.More opens free h.0 h.1 in
           advances_untold x.desk c' x.stage (y ∷ zs) first.1 h.2 ∙ first.0
 
   -- and a poll over the desk machine is one over a core, if that leaves those that were not told
@@ -213,7 +185,7 @@ module _ {V E C R S F A : Type 0} (may : May V E C R S F A) (runtime : Option Ru
         let step = stays_past may runtime hooks now timeouts stage x.made x.stage turn past h.1 in
         (makes_past c' d x.desk x.made step.0 h.0, h.1, h.2, ap (λ (b : DeskState (Slot V)). record c' { desk = b }) h.3, h.4)
     advances_over d stage (x ∷ y ∷ zs) past h =
-        let step = stays_past may runtime hooks now timeouts stage x.made x.stage More past h.1 in
+        let step = stays_past may runtime hooks now timeouts stage x.made x.stage Turn.More past h.1 in
         (makes_past c' d x.desk x.made step.0 h.0, h.1, advances_over x.desk x.stage (y ∷ zs) step.1 h.2)
 
     -- what the first advance has to be for that
@@ -232,7 +204,7 @@ module _ {V E C R S F A : Type 0} (may : May V E C R S F A) (runtime : Option Ru
             let first = begins x.desk x.made x.stage turn h.0 h.1 in
             (over x ∷ [], (first.0, h.1, h.2, ap (λ (b : DeskState (Slot V)). record c' { desk = b }) h.3, h.4))
         by_steps (x ∷ y ∷ zs) h =
-            let first = begins x.desk x.made x.stage More h.0 h.1 in
+            let first = begins x.desk x.made x.stage Turn.More h.0 h.1 in
             (over x ∷ map over (y ∷ zs), (first.0, h.1, advances_over x.desk x.stage (y ∷ zs) first.1 h.2))
 
     -- a new get, when a place is free and its wait lacks no runtime
@@ -266,9 +238,9 @@ module _ {V E C R S F A : Type 0} (may : May V E C R S F A) (runtime : Option Ru
         moves d (cancelling what reply) past moved h = absurd past
 
         answered : (deadline : Option Moment) (x : Poll (Result V E) × C) (made : Made V) (next : Stage V C R S) (came : Turn V E) → HasAnswer x → AfterCreation now deadline x made next came → made ≢ no_step
-        answered deadline (poll.Ready (Ok value), s) (creating reply) next came answer h none = cc
-        answered deadline (poll.Ready (Err e), s) (failing reply) next came answer h none = cc
-        answered deadline (poll.Pending, s) made next came answer h none = absurd answer
+        answered deadline (Poll.Ready (Ok value), s) (creating reply) next came answer h none = cc
+        answered deadline (Poll.Ready (Err e), s) (failing reply) next came answer h none = cc
+        answered deadline (Poll.Pending, s) made next came answer h none = absurd answer
         answered deadline _ _ next came answer h none = absurd h
 
         begun : (made : Made V) (next : Stage V C R S) (came : Turn V E) → AdvancesCreation may runtime now timeouts.create None None made next came → made ≢ no_step

@@ -8,3 +8,4 @@ pub mod HookLists
 pub mod IdleLists
 pub mod Phases
 pub mod Polls
+pub mod Words

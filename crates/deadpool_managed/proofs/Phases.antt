@@ -1,78 +1,52 @@
 -- What a get's phase, with its object beside it, comes to.
-use Rattle.std.specs.Prelude.{⊤}
-use Rattle.std.proofs.Common.{◌≡◌, ◌≢◌, ℕ, Option, Some, None, Ok, refl, ap}
-use Rattle.deadpool_parts.specs.declared.errors.PoolError.{PoolError}
-use Rattle.deadpool_parts.specs.declared.replies.StepReply.{StepReply}
-use Rattle.deadpool_parts.specs.declared.replies.StepReply.TheVariants.{Done, Unknown}
-use Rattle.deadpool_parts.specs.declared.errors.HookError.{HookError}
-use Rattle.deadpool_parts.specs.declared.moment.Moment.{Moment}
-use Rattle.deadpool_parts.specs.declared.moment.Runtime.{Runtime}
-use Rattle.deadpool_parts.specs.declared.config.Timeouts.{Timeouts}
-use Rattle.deadpool_managed.specs.HookLists.{HookLists}
-use Rattle.deadpool_managed.specs.Outside.{May}
-use Rattle.deadpool_managed.specs.Get.{ended_by, AdvancesFrom, CancelsFrom, no_step, discarding, refusing, cancelling}
-use Rattle.deadpool_managed.specs.Phases.{IsPlaced, recycling_at, stage_of, turn_of, came_by, preparation_of, PreparesIn, ChecksIn, GivesUpIn, DiscardsIn, RefusesIn}
-use Rattle.deadpool_desk.specs.declared.desk.Held.TheVariants as held
-use Rattle.deadpool_managed.specs.declared.calls.Position.{Position}
-use Rattle.deadpool_managed.specs.declared.prepare.Preparing.{Preparing}
-use Rattle.deadpool_managed.specs.declared.prepare.Preparing.TheVariants as preparing
-use Rattle.deadpool_managed.specs.declared.prepare.Outcome.TheVariants as outcome
-use Rattle.deadpool_managed.specs.declared.calls.Verdict.TheVariants as verdict
-use Rattle.deadpool_managed.specs.declared.get.Turn.{Turn}
-use Rattle.deadpool_managed.specs.declared.get.Turn.TheVariants as turn
-use Rattle.deadpool_managed.specs.declared.work.Came.TheVariants as came
-use Rattle.deadpool_desk.specs.declared.slot.Slot.{Slot}
-use Rattle.deadpool_managed.specs.Stages.{Stage, Prepared}
-use Rattle.deadpool_managed.specs.declared.work.Phase.{Phase}
-use Rattle.deadpool_managed.specs.declared.work.Phase.TheVariants.{Unpolled, Served, Queued, Going, Creating, Recycling, Checking, Finished}
-use Rattle.deadpool_managed.specs.declared.work.Came.{Came}
+use Rattle.deadpool_managed.proofs.Words.{⊤, ◌≡◌, ◌≢◌, ℕ, Option, Some, None, Ok, refl, ap, PoolError, StepReply, HookError, Moment, Runtime, Timeouts, HookLists, May, ended_by, AdvancesFrom, CancelsFrom, no_step, discarding, refusing, cancelling, IsPlaced, recycling_at, stage_of, turn_of, came_by, preparation_of, PreparesIn, ChecksIn, GivesUpIn, DiscardsIn, RefusesIn, Position, Preparing, Turn, Slot, Stage, Prepared, Phase, Came, Held, Outcome, Verdict}
 
 module _ {V C R S : Type 0} where
-  pub finished : (phase : Phase C R S) (slot : Option (Slot V)) → phase ≡ Finished → stage_of phase slot ≡ Stage.Finished
+  pub finished : (phase : Phase C R S) (slot : Option (Slot V)) → phase ≡ Phase.Finished → stage_of phase slot ≡ Stage.Finished
   finished phase slot is = rw is refl
 
 module _ {V E : Type 0} where
   pub ended_is : (cause : PoolError E) (reply : StepReply) (came : Came E) (slot : Option (Slot V)) → came ≡ came_by cause reply → turn_of came slot ≡ ended_by cause reply
-  ended_is cause Done came slot is = rw is refl
-  ended_is cause Unknown came slot is = rw is refl
+  ended_is cause StepReply.Done came slot is = rw is refl
+  ended_is cause StepReply.Unknown came slot is = rw is refl
 
-  pub more_is : (x : Came E) (slot : Option (Slot V)) → x ≡ came.More → turn_of x slot ≡ turn.More
+  pub more_is : (x : Came E) (slot : Option (Slot V)) → x ≡ Came.More → turn_of x slot ≡ Turn.More
   more_is x slot is = rw is refl
 
-  pub was_more : (x : Came E) (slot : Option (Slot V)) → turn_of x slot ≡ turn.More → x ≡ came.More
-  was_more came.More slot is = refl
-  was_more came.Pending slot is = cc
-  was_more came.Given (Some given) is = cc
-  was_more came.Given None is = cc
-  was_more (came.Failed cause) slot is = cc
+  pub was_more : (x : Came E) (slot : Option (Slot V)) → turn_of x slot ≡ Turn.More → x ≡ Came.More
+  was_more Came.More slot is = refl
+  was_more Came.Pending slot is = cc
+  was_more Came.Given (Some given) is = cc
+  was_more Came.Given None is = cc
+  was_more (Came.Failed cause) slot is = cc
 
-  pub not_more : (x : Came E) (slot : Option (Slot V)) → x ≢ came.More → turn_of x slot ≢ turn.More
-  not_more came.More slot not = absurd (not refl)
-  not_more came.Pending slot not = λ is. cc
-  not_more came.Given (Some given) not = λ is. cc
-  not_more came.Given None not = λ is. cc
-  not_more (came.Failed cause) slot not = λ is. cc
+  pub not_more : (x : Came E) (slot : Option (Slot V)) → x ≢ Came.More → turn_of x slot ≢ Turn.More
+  not_more Came.More slot not = absurd (not refl)
+  not_more Came.Pending slot not = λ is. cc
+  not_more Came.Given (Some given) not = λ is. cc
+  not_more Came.Given None not = λ is. cc
+  not_more (Came.Failed cause) slot not = λ is. cc
 
 module _ {V E C R S F A : Type 0} (may : May V E C R S F A) (runtime : Option Runtime) (hooks : HookLists F A) (now : Moment) (timeouts : Timeouts) where
   -- an object that was prepared in its place: given out, prepared further, or given up
-  pub accepted_in : (preparing : Preparing R S) (allowance : Option ℕ) (place left : Option (Slot V)) (phase : Phase C R S) → phase ≡ Finished
-      → PreparesIn may now runtime timeouts.recycle hooks preparing place outcome.Accepted left
-      → AdvancesFrom may runtime hooks now timeouts (recycling_at {C = C} preparing allowance place) no_step (stage_of phase left) (turn_of came.Given left)
+  pub accepted_in : (preparing : Preparing R S) (allowance : Option ℕ) (place left : Option (Slot V)) (phase : Phase C R S) → phase ≡ Phase.Finished
+      → PreparesIn may now runtime timeouts.recycle hooks preparing place Outcome.Accepted left
+      → AdvancesFrom may runtime hooks now timeouts (recycling_at {C = C} preparing allowance place) no_step (stage_of phase left) (turn_of Came.Given left)
   accepted_in preparing allowance (Some slot) (Some left) phase is given = (Prepared.Accepted left, (given, (finished phase (Some left) is, refl)))
   accepted_in preparing allowance (Some slot) None phase is given = absurd given
   accepted_in preparing allowance None (Some left) phase is given = absurd given
   accepted_in preparing allowance None None phase is given = absurd given
 
   pub pending_in : (preparing next : Preparing R S) (allowance : Option ℕ) (place left : Option (Slot V))
-      → PreparesIn may now runtime timeouts.recycle hooks preparing place (outcome.Pending next) left
-      → AdvancesFrom may runtime hooks now timeouts (recycling_at {C = C} preparing allowance place) no_step (recycling_at next None left) turn.Pending
+      → PreparesIn may now runtime timeouts.recycle hooks preparing place (Outcome.Pending next) left
+      → AdvancesFrom may runtime hooks now timeouts (recycling_at {C = C} preparing allowance place) no_step (recycling_at next None left) Turn.Pending
   pending_in preparing next allowance (Some slot) (Some left) given = (Prepared.Pending (preparation_of left next), (given, (refl, refl)))
   pending_in preparing next allowance (Some slot) None given = absurd given
   pending_in preparing next allowance None (Some left) given = absurd given
   pending_in preparing next allowance None None given = absurd given
 
   pub given_up_in : (preparing : Preparing R S) (allowance : Option ℕ) (place left : Option (Slot V)) (reply : StepReply) (after : Stage V C R S) (turn : Turn V E)
-      → PreparesIn may now runtime timeouts.recycle hooks preparing place outcome.GivenUp left → DiscardsIn may left allowance reply after turn
+      → PreparesIn may now runtime timeouts.recycle hooks preparing place Outcome.GivenUp left → DiscardsIn may left allowance reply after turn
       → AdvancesFrom may runtime hooks now timeouts (recycling_at {C = C} preparing allowance place) (discarding reply) after turn
   given_up_in preparing allowance (Some slot) (Some left) reply after turn given discards = (Prepared.GivenUp left, (given, discards))
   given_up_in preparing allowance (Some slot) None reply after turn given discards = absurd given
@@ -80,50 +54,50 @@ module _ {V E C R S F A : Type 0} (may : May V E C R S F A) (runtime : Option Ru
   given_up_in preparing allowance None None reply after turn given discards = absurd given
 
   -- a new object that the hooks saw in its place
-  pub checked_in : (at : Position S) (place left : Option (Slot V)) (phase : Phase C R S) → phase ≡ Finished → ChecksIn may hooks at place verdict.Accepted left
-      → AdvancesFrom may runtime hooks now timeouts (stage_of (Checking at) place) no_step (stage_of phase left) (turn_of came.Given left)
+  pub checked_in : (at : Position S) (place left : Option (Slot V)) (phase : Phase C R S) → phase ≡ Phase.Finished → ChecksIn may hooks at place Verdict.Accepted left
+      → AdvancesFrom may runtime hooks now timeouts (stage_of (Phase.Checking at) place) no_step (stage_of phase left) (turn_of Came.Given left)
   checked_in at (Some slot) (Some left) phase is given =
-      ((verdict.Accepted, left.value), (given.0, (finished phase (Some left) is, ap (λ (s : Slot V). turn.Done (Ok s)) given.1)))
+      ((Verdict.Accepted, left.value), (given.0, (finished phase (Some left) is, ap (λ (s : Slot V). Turn.Done (Ok s)) given.1)))
   checked_in at (Some slot) None phase is given = absurd given
   checked_in at None (Some left) phase is given = absurd given
   checked_in at None None phase is given = absurd given
 
-  pub checking_in : (at next : Position S) (place left : Option (Slot V)) → ChecksIn may hooks at place (verdict.Pending next) left
-      → AdvancesFrom may runtime hooks now timeouts (stage_of (Checking at) place) no_step (stage_of (Checking next) left) turn.Pending
-  checking_in at next (Some slot) (Some left) given = ((verdict.Pending next, left.value), (given.0, (ap (λ (s : Slot V). Stage.Checking s next) given.1, refl)))
+  pub checking_in : (at next : Position S) (place left : Option (Slot V)) → ChecksIn may hooks at place (Verdict.Pending next) left
+      → AdvancesFrom may runtime hooks now timeouts (stage_of (Phase.Checking at) place) no_step (stage_of (Phase.Checking next) left) Turn.Pending
+  checking_in at next (Some slot) (Some left) given = ((Verdict.Pending next, left.value), (given.0, (ap (λ (s : Slot V). Stage.Checking s next) given.1, refl)))
   checking_in at next (Some slot) None given = absurd given
   checking_in at next None (Some left) given = absurd given
   checking_in at next None None given = absurd given
 
   pub refused_in : (at : Position S) (cause : HookError E) (place left : Option (Slot V)) (reply : StepReply) (after : Stage V C R S) (turn : Turn V E)
-      → ChecksIn may hooks at place (verdict.Refused cause) left → RefusesIn may left cause reply after turn
-      → AdvancesFrom may runtime hooks now timeouts (stage_of (Checking at) place) (refusing reply) after turn
-  refused_in at cause (Some slot) (Some left) reply after turn given refuses = ((verdict.Refused cause, left.value), (given.0, refuses))
+      → ChecksIn may hooks at place (Verdict.Refused cause) left → RefusesIn may left cause reply after turn
+      → AdvancesFrom may runtime hooks now timeouts (stage_of (Phase.Checking at) place) (refusing reply) after turn
+  refused_in at cause (Some slot) (Some left) reply after turn given refuses = ((Verdict.Refused cause, left.value), (given.0, refuses))
   refused_in at cause (Some slot) None reply after turn given refuses = absurd given
   refused_in at cause None (Some left) reply after turn given refuses = absurd given
   refused_in at cause None None reply after turn given refuses = absurd given
 
 -- a phase with an object
 abbrev HasObject : {C R S : Type 0} → Phase C R S → Type 0
-HasObject (Served left) = ⊤
-HasObject (Recycling preparing) = ⊤
-HasObject (Checking at) = ⊤
+HasObject (Phase.Served left) = ⊤
+HasObject (Phase.Recycling preparing) = ⊤
+HasObject (Phase.Checking at) = ⊤
 HasObject _ = ⊥
 
 -- an object under preparation that is given up when its get is cancelled
 module _ {V E C R S F A : Type 0} (may : May V E C R S F A) (P : V → Type 0) where
   pub cancelled_in : (phase : Phase C R S) (place : Option (Slot V)) (reply : StepReply) → HasObject phase → IsPlaced P phase place → GivesUpIn may place reply
-      → CancelsFrom may (stage_of phase place) (cancelling held.Object reply)
-  cancelled_in (Served left) (Some slot) reply has placed given = (refl, given)
-  cancelled_in (Served left) None reply has placed given = absurd placed
-  cancelled_in (Recycling (preparing.PreRecycle at)) (Some slot) reply has placed given = (refl, given)
-  cancelled_in (Recycling (preparing.Recycle r deadline)) (Some slot) reply has placed given = (refl, given)
-  cancelled_in (Recycling (preparing.PostRecycle at)) (Some slot) reply has placed given = (refl, given)
-  cancelled_in (Recycling preparing) None reply has placed given = absurd placed
-  cancelled_in (Checking at) (Some slot) reply has placed given = (refl, given)
-  cancelled_in (Checking at) None reply has placed given = absurd placed
-  cancelled_in Unpolled place reply has placed given = absurd has
-  cancelled_in (Queued ticket deadline) place reply has placed given = absurd has
-  cancelled_in (Going allowance) place reply has placed given = absurd has
-  cancelled_in (Creating begun deadline) place reply has placed given = absurd has
-  cancelled_in Finished place reply has placed given = absurd has
+      → CancelsFrom may (stage_of phase place) (cancelling Held.Object reply)
+  cancelled_in (Phase.Served left) (Some slot) reply has placed given = (refl, given)
+  cancelled_in (Phase.Served left) None reply has placed given = absurd placed
+  cancelled_in (Phase.Recycling (Preparing.PreRecycle at)) (Some slot) reply has placed given = (refl, given)
+  cancelled_in (Phase.Recycling (Preparing.Recycle r deadline)) (Some slot) reply has placed given = (refl, given)
+  cancelled_in (Phase.Recycling (Preparing.PostRecycle at)) (Some slot) reply has placed given = (refl, given)
+  cancelled_in (Phase.Recycling preparing) None reply has placed given = absurd placed
+  cancelled_in (Phase.Checking at) (Some slot) reply has placed given = (refl, given)
+  cancelled_in (Phase.Checking at) None reply has placed given = absurd placed
+  cancelled_in Phase.Unpolled place reply has placed given = absurd has
+  cancelled_in (Phase.Queued ticket deadline) place reply has placed given = absurd has
+  cancelled_in (Phase.Going allowance) place reply has placed given = absurd has
+  cancelled_in (Phase.Creating begun deadline) place reply has placed given = absurd has
+  cancelled_in Phase.Finished place reply has placed given = absurd has

@@ -1,6 +1,4 @@
-use Rattle.std.proofs.Common.{refl}
-use Rattle.deadpool_managed.specs.Outside.{may}
-use Rattle.deadpool_managed.specs.Get.{no_step, refusing}
+use Rattle.deadpool_managed.proofs.Words.{refl, may, no_step, refusing}
 use Rattle.deadpool_managed.proofs.Phases.{checked_in, checking_in, refused_in}
 use Rattle.deadpool_managed.proofs.work.Work.advance_checking.Goals as goal
 

@@ -1,4 +1,4 @@
-use Rattle.std.proofs.Common.{refl}
+use Rattle.deadpool_managed.proofs.Words.{refl}
 use Rattle.deadpool_managed.proofs.work.Work.advance_creation.Goals as goal
 
 pub returns-clause-advanced : goal.returns-clause-advanced

@@ -1,6 +1,4 @@
-use Rattle.std.proofs.Common.{None, refl}
-use Rattle.deadpool_managed.specs.Outside.{may}
-use Rattle.deadpool_managed.specs.Get.{no_step, discarding}
+use Rattle.deadpool_managed.proofs.Words.{None, refl, may, no_step, discarding}
 use Rattle.deadpool_managed.proofs.Phases.{accepted_in, pending_in, given_up_in}
 use Rattle.deadpool_managed.proofs.work.Work.advance_recycling.Goals as goal
 

@@ -1,10 +1,6 @@
-use Rattle.std.proofs.Common.{◌∙◌, sym, subst, inl, Option, None, refl}
-use Rattle.deadpool_managed.specs.Get.{failing, AfterCreation}
-use Rattle.deadpool_parts.specs.declared.moment.Moment.{Moment}
+use Rattle.deadpool_managed.proofs.Words.{◌∙◌, sym, subst, inl, Option, None, refl, failing, AfterCreation, Moment, may, stage_of, turn_of}
 use Rattle.deadpool_managed.proofs.Polls.{begins}
-use Rattle.deadpool_managed.specs.Outside.{may}
 use Rattle.deadpool_managed.proofs.Phases.{finished, ended_is}
-use Rattle.deadpool_managed.specs.Phases.{stage_of, turn_of}
 use Rattle.deadpool_managed.proofs.work.Work.begin_creation.Goals as goal
 
 pub returns-then-lacks_runtime-clause-advanced : goal.returns-then-lacks_runtime-clause-advanced

@@ -1,6 +1,4 @@
-use Rattle.std.proofs.Common.{◌∙◌, ap, sym, not, refl}
-use Rattle.deadpool_managed.specs.Get.{no_step, entering}
-use Rattle.deadpool_managed.specs.Phases.{turn_of}
+use Rattle.deadpool_managed.proofs.Words.{◌∙◌, ap, sym, not, refl, no_step, entering, turn_of}
 use Rattle.deadpool_managed.proofs.Phases.{finished}
 use Rattle.deadpool_managed.proofs.work.Work.enter.Goals as goal
 

@@ -1,9 +1,4 @@
-use Rattle.std.proofs.Common.{Some, refl}
-use Rattle.deadpool_managed.specs.Calls.{start}
-use Rattle.deadpool_managed.specs.declared.prepare.Preparing.TheVariants as preparing
-use Rattle.deadpool_managed.specs.declared.work.Phase.TheVariants.{Finished}
-use Rattle.deadpool_managed.specs.Outside.{may}
-use Rattle.deadpool_managed.specs.Get.{no_step, discarding}
+use Rattle.deadpool_managed.proofs.Words.{Some, refl, start, Phase, may, no_step, discarding, Preparing}
 use Rattle.deadpool_managed.proofs.Phases.{accepted_in, pending_in, given_up_in}
 use Rattle.deadpool_managed.proofs.work.Work.recycle.Goals as goal
 
@@ -12,7 +7,7 @@ returns-in-Accepted-clause-advanced g c =
     let env = c.args.environment.now in
     let given = rw c.in-Accepted.is at c.pre_recycle_in.ensures.gives in
     let rest = accepted_in (may g.M.Manager g.F.SyncHook g.A.AsyncHook env.manager) env.runtime env.hooks c.args.now c.args.timeouts.now
-    (preparing.PreRecycle start) (Some c.args.left) c.args.self.now.slot c.pre_recycle_in.new.place Finished refl given in
+    (Preparing.PreRecycle start) (Some c.args.left) c.args.self.now.slot c.pre_recycle_in.new.place Phase.Finished refl given in
     (no_step, (refl, rest))
 
 pub returns-in-Pending-clause-advanced : goal.returns-in-Pending-clause-advanced
@@ -20,7 +15,7 @@ returns-in-Pending-clause-advanced g c =
     let env = c.args.environment.now in
     let given = rw c.in-Pending.is at c.pre_recycle_in.ensures.gives in
     let rest = pending_in (may g.M.Manager g.F.SyncHook g.A.AsyncHook env.manager) env.runtime env.hooks c.args.now c.args.timeouts.now
-    (preparing.PreRecycle start) c.in-Pending.preparing (Some c.args.left) c.args.self.now.slot c.pre_recycle_in.new.place given in
+    (Preparing.PreRecycle start) c.in-Pending.preparing (Some c.args.left) c.args.self.now.slot c.pre_recycle_in.new.place given in
     (no_step, (refl, rest))
 
 pub returns-in-GivenUp-clause-advanced : goal.returns-in-GivenUp-clause-advanced
@@ -29,5 +24,5 @@ returns-in-GivenUp-clause-advanced g c =
     let given = rw c.in-GivenUp.is at c.pre_recycle_in.ensures.gives in
     let made = c.discard.ensures.advanced in
     let rest = given_up_in (may g.M.Manager g.F.SyncHook g.A.AsyncHook env.manager) env.runtime env.hooks c.args.now c.args.timeouts.now
-    (preparing.PreRecycle start) (Some c.args.left) c.args.self.now.slot c.pre_recycle_in.new.place made.0 _ _ given made.1.1 in
+    (Preparing.PreRecycle start) (Some c.args.left) c.args.self.now.slot c.pre_recycle_in.new.place made.0 _ _ given made.1.1 in
     (discarding made.0, (made.1.0, rest))

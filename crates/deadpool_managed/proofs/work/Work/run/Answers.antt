@@ -1,6 +1,4 @@
-use Rattle.std.proofs.Common.{refl}
-use Rattle.deadpool_managed.specs.Outside.{may}
-use Rattle.deadpool_managed.specs.Phases.{stage_of}
+use Rattle.deadpool_managed.proofs.Words.{refl, may, stage_of}
 use Rattle.deadpool_managed.proofs.Phases.{more_is, not_more}
 use Rattle.deadpool_managed.proofs.Polls.{polls_on, polls_once, falls_allowed}
 use Rattle.deadpool_managed.proofs.work.Work.run.Goals as goal

@@ -1,12 +1,4 @@
-use Rattle.std.proofs.Common.{◌≡◌, false}
-use Rattle.futures.specs.Task.{Keeps}
-use Rattle.deadpool_managed.specs.Outside.{may}
-use Rattle.deadpool_managed.specs.Get.{PollsOver}
-use Rattle.deadpool_managed.specs.Held.{held_at}
-use Rattle.deadpool_managed.specs.Bounds.{until_allowance, lacks_allowance, weight}
-use Rattle.deadpool_managed.specs.Phases.{IsPlaced, stage_of}
-use Rattle.deadpool_managed.specs.Stages.{Stage}
-use Rattle.deadpool_managed.specs.declared.get.Turn.{Turn}
+use Rattle.deadpool_managed.proofs.Words.{◌≡◌, false, Keeps, may, PollsOver, held_at, until_allowance, lacks_allowance, weight, IsPlaced, stage_of, Stage, Turn}
 use Rattle.deadpool_managed.proofs.work.Work.run.Given as goal
 
 -- what polls over from here polls over from the beginning
