@@ -8,6 +8,7 @@ ghost use Rattle.futures.specs.Task.{Covers, Hears, IsArmed, Keeps};
 use crate::{Counted, Handle, Listener};
 use futures::Future;
 use futures::task::{Context, Poll};
+use std::mem;
 
 /// What a future asks of what is shared, from its call to its end.
 pub trait Request<S: Counted>: Drop {
@@ -226,6 +227,18 @@ impl<'a, Q: Request<S>, S: Counted + Drop> RequestRef<'a, Q, S> {
             refusal,
             listener: Listener::new(),
         }
+    }
+
+    /// Exchanges what it hears by. A task that keeps that from one future to the next is registered already.
+    #[inline]
+    pub fn exchange_listener(&mut self, listener: &mut Listener)
+        ensures taken { self.new.listener ≡ listener.old }
+        ensures given { listener.new ≡ self.old.listener }
+        ensures handle { self.new.handle.now ≡ self.old.handle.now }
+        ensures request { self.new.request ≡ self.old.request }
+        ensures refusal { self.new.refusal ≡ self.old.refusal }
+    {
+        mem::swap(&mut self.listener, listener);
     }
 
     /// One poll.

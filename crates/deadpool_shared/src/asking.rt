@@ -18,6 +18,7 @@ use deadpool_lock::{Home, Listener, wake_at};
 use deadpool_managed::{AsyncHook, Came, Clock, Manager, PoolError, Progress, SyncHook, Timeouts};
 use futures::task::{Context, Poll, Source};
 use std::alloc::AllocError;
+use std::mem;
 use std::sync::Wait;
 
 /// A get without its hold on the pool. When it is dropped it gives back what it holds.
@@ -70,6 +71,20 @@ impl<M: Manager, F: SyncHook<M>, A: AsyncHook<M>, C: Clock, R: Wait + Drop, L: L
             alarm: None,
             listener: Listener::new(),
         }
+    }
+
+    // Exchanges what it hears by.
+    #[inline]
+    pub(crate) fn exchange_listener(&mut self, listener: &mut Listener)
+        ensures taken { self.new.listener ≡ listener.old }
+        ensures given { listener.new ≡ self.old.listener }
+        ensures home { self.new.home ≡ self.old.home }
+        ensures progress { self.new.progress ≡ self.old.progress }
+        ensures refusal { self.new.refusal ≡ self.old.refusal }
+        ensures shares { self.new.shares ≡ self.old.shares }
+        ensures alarm { self.new.alarm ≡ self.old.alarm }
+    {
+        mem::swap(&mut self.listener, listener);
     }
 
     // One poll of a get that is lent what is shared, and its timeouts. One that has ended stays pending.

@@ -7,7 +7,7 @@ use crate::asking::Asking;
 use crate::ledgers::Ledgers;
 use crate::object::Object;
 use crate::shared::Shared;
-use deadpool_lock::{Handle, Home};
+use deadpool_lock::{Handle, Home, Listener};
 use deadpool_managed::{AsyncHook, Clock, Manager, PoolError, SyncHook, Timeouts};
 use futures::Future;
 use futures::task::{Context, Poll};
@@ -156,6 +156,22 @@ impl<
             timeouts,
             of: PhantomData,
         }
+    }
+
+    /// Exchanges what it hears by. A task that keeps that from one get to the next is registered already.
+    #[inline]
+    pub fn exchange_listener(&mut self, listener: &mut Listener)
+        ensures taken { self.new.asking.listener ≡ listener.old }
+        ensures given { listener.new ≡ self.old.asking.listener }
+        ensures home { self.new.asking.home ≡ self.old.asking.home }
+        ensures progress { self.new.asking.progress ≡ self.old.asking.progress }
+        ensures refusal { self.new.asking.refusal ≡ self.old.asking.refusal }
+        ensures shares { self.new.asking.shares ≡ self.old.asking.shares }
+        ensures alarm { self.new.asking.alarm ≡ self.old.asking.alarm }
+        ensures pool { self.new.handle.now ≡ self.old.handle.now }
+        ensures timeouts { self.new.timeouts.now ≡ self.old.timeouts.now }
+    {
+        self.asking.exchange_listener(listener);
     }
 }
 

@@ -8,6 +8,7 @@ mod plain;
 mod threads;
 mod user;
 mod waiter;
+mod waiting;
 
 pub use host::Host;
 pub use lending::lend;
@@ -15,3 +16,4 @@ pub use plain::{Plain, PlainManager, PlainPool};
 pub use threads::lend_among;
 pub use user::PoolUser;
 pub use waiter::Waiter;
+pub use waiting::Waiting;

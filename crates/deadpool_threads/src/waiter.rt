@@ -1,11 +1,12 @@
-//! How a thread waits for an object.
+//! What a thread waits by.
 ghost use Rattle.std.specs.Prelude.{◌≡◌, IfOk};
 
+use crate::waiting::Waiting;
 use deadpool::managed::{AsyncHook, Ledgers, Manager, Object, Pool, PoolError, SyncHook};
 use deadpool::{Clock, unmanaged};
+use deadpool_lock::Listener;
 use futures::Future;
-use futures::executor::block_on_queue;
-use futures::task::{Doorbell, Poll, Queue, Solo};
+use futures::task::{Doorbell, Queue, Solo};
 use std::alloc::AllocGlobal;
 use std::io;
 use std::random::RandomSource;
@@ -17,7 +18,9 @@ use std::sync::Wait;
 pub struct Waiter {
     // In which each future is polled first.
     task: Solo,
-    // In which one that was pending is polled from then on.
+    // By which that task hears, from one get to the next.
+    listener: Listener,
+    // In which a future that was pending is polled from then on.
     queue: Queue,
 }
 
@@ -26,22 +29,24 @@ impl Waiter {
     pub fn new<R: RandomSource + AllocGlobal>(rt: &R) -> io::Result<Self> {
         Ok(Waiter {
             task: Solo::new(rt, Doorbell::spinning())?,
+            listener: Listener::new(),
             queue: Queue::new(rt, Doorbell::parking())?,
         })
     }
 
+    /// Begins its task for several waits in a row, each of which then costs less than by the waiter itself.
+    #[inline(always)]
+    pub fn begin(&mut self) -> Waiting<'_> {
+        Waiting::new(self.task.begin(), &mut self.listener, &self.queue)
+    }
+
     /// What the future gives, once it is ready. `Err` says that there was no memory to wait by.
-    pub fn wait<R: Wait, F: Future>(&mut self, rt: &R, mut future: F) -> io::Result<F::Output>
+    pub fn wait<R: Wait, F: Future>(&mut self, rt: &R, future: F) -> io::Result<F::Output>
         requires { F.can_poll future }
         ensures { IfOk result (F.gives future) }
     {
-        let mut cx = self.task.begin();
-        let polled = future.poll(&mut cx);
-        cx.end(&polled);
-        match polled {
-            Poll::Ready(output) => Ok(output),
-            Poll::Pending => block_on_queue(rt, &self.queue, future),
-        }
+        let mut waiting = self.begin();
+        waiting.wait(rt, future)
     }
 
     /// An object of a managed pool, with the pool's timeouts. It comes of one that is ready. `OutOfMemory` also says that there was no memory to wait by.
@@ -61,10 +66,8 @@ impl Waiter {
         ensures ready { IfOk result
             (λ given. (object : _) × (M.is_ready object.slot.value × W.from_gives object given)) }
     {
-        match self.wait(rt, pool.get_ref()) {
-            Ok(ended) => ended,
-            Err(_) => Err(PoolError::OutOfMemory),
-        }
+        let mut waiting = self.begin();
+        waiting.get(rt, pool)
     }
 
     /// An object of an unmanaged pool, with the pool's timeout. `OutOfMemory` also says that there was no memory to wait by.
@@ -73,9 +76,7 @@ impl Waiter {
         rt: &R,
         pool: &unmanaged::Pool<T, C, R>,
     ) -> Result<unmanaged::Object<T, C, R>, unmanaged::PoolError> {
-        match self.wait(rt, pool.get_ref()) {
-            Ok(ended) => ended,
-            Err(_) => Err(unmanaged::PoolError::OutOfMemory),
-        }
+        let mut waiting = self.begin();
+        waiting.get_unmanaged(rt, pool)
     }
 }

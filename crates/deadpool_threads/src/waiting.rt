@@ -1,0 +1,104 @@
+//! A waiter whose task has begun.
+ghost use Rattle.std.specs.Prelude.{◌≡◌, IfOk};
+
+use deadpool::managed::{AsyncHook, Ledgers, Manager, Object, Pool, PoolError, SyncHook};
+use deadpool::{Clock, unmanaged};
+use deadpool_lock::Listener;
+use futures::Future;
+use futures::executor::block_on_queue;
+use futures::task::{Context, Poll, Queue};
+use std::io;
+use std::sync::Wait;
+
+/// A waiter's task, begun for several waits in a row, so that each of them costs less than by the waiter itself.
+pub struct Waiting<'a> {
+    // In which each future is polled first.
+    task: Context<'a>,
+    // By which that task hears, from one get to the next.
+    listener: &'a mut Listener,
+    // In which a future that was pending is polled from then on.
+    queue: &'a Queue,
+}
+
+impl<'a> Waiting<'a> {
+    // With what a waiter keeps.
+    pub(crate) fn new(task: Context<'a>, listener: &'a mut Listener, queue: &'a Queue) -> Self {
+        Waiting {
+            task,
+            listener,
+            queue,
+        }
+    }
+
+    /// As `Waiter::wait`.
+    #[inline(always)]
+    pub fn wait<R: Wait, F: Future>(&mut self, rt: &R, mut future: F) -> io::Result<F::Output>
+        requires { F.can_poll future }
+        ensures { IfOk result (F.gives future) }
+    {
+        match future.poll(&mut self.task) {
+            Poll::Ready(output) => Ok(output),
+            Poll::Pending => block_on_queue(rt, self.queue, future),
+        }
+    }
+
+    /// As `Waiter::get`.
+    #[inline(always)]
+    pub fn get<M, F, A, C, R, L, W>(
+        &mut self,
+        rt: &R,
+        pool: &Pool<M, F, A, C, R, L, W>,
+    ) -> Result<W, PoolError<M::Error>>
+    where
+        M: Manager,
+        F: SyncHook<M>,
+        A: AsyncHook<M>,
+        C: Clock,
+        R: Wait + Drop,
+        L: Ledgers,
+        W: From<Object<M, F, A, C, R, L>>,
+        ensures ready { IfOk result
+            (λ given. (object : _) × (M.is_ready object.slot.value × W.from_gives object given)) }
+    {
+        let mut get = pool.get_ref();
+        get.exchange_listener(self.listener);
+        if let Poll::Ready(ended) = get.poll(&mut self.task) {
+            get.exchange_listener(self.listener);
+            return ended;
+        }
+        match block_on_queue(rt, self.queue, get) {
+            Ok(ended) => ended,
+            Err(_) => Err(PoolError::OutOfMemory),
+        }
+    }
+
+    /// As `Waiter::get_unmanaged`.
+    #[inline(always)]
+    pub fn get_unmanaged<T: Drop, C: Clock, R: Wait + Drop>(
+        &mut self,
+        rt: &R,
+        pool: &unmanaged::Pool<T, C, R>,
+    ) -> Result<unmanaged::Object<T, C, R>, unmanaged::PoolError> {
+        let mut get = pool.get_ref();
+        get.exchange_listener(self.listener);
+        if let Poll::Ready(ended) = get.poll(&mut self.task) {
+            get.exchange_listener(self.listener);
+            return ended;
+        }
+        match block_on_queue(rt, self.queue, get) {
+            Ok(ended) => ended,
+            Err(_) => Err(unmanaged::PoolError::OutOfMemory),
+        }
+    }
+}
+
+impl Drop for Waiting<'_> {
+    fn drop(self) {
+        let Self {
+            task,
+            listener: _,
+            queue: _,
+        } = self;
+        task.cancel();
+    }
+}
