@@ -77,6 +77,7 @@ fn measure_alone<R: Host, L: Ledgers>(table: Table<R>, pool: &ZeroPool<R, L>) ->
         &Borrows::new(table.rt, pool)?,
     )?;
     table.figure("get and return, by a waiter", &Waits::new(table.rt, pool)?)?;
+    table.figure("get and return, by one begun", &Rows::new(table.rt, pool)?)?;
     table.figure("get and return, by block_on", &Blocks::new(table.rt, pool)?)
 }
 
@@ -163,6 +164,36 @@ impl<R: Host, L: Ledgers> Work for Waits<R, L> {
         let mut waiter = Waiter::new(&self.rt)?;
         for _time in 0..times {
             let Ok(object) = waiter.get(&self.rt, &self.pool) else {
+                return Err(lacks_object());
+            };
+            drop(object);
+        }
+        Ok(())
+    }
+}
+
+// The same by such a waiter that has begun.
+#[derive(Drop)]
+struct Rows<R: Host, L: Ledgers> {
+    pool: ZeroPool<R, L>,
+    rt: R,
+}
+
+impl<R: Host, L: Ledgers> Rows<R, L> {
+    fn new(rt: R, pool: &ZeroPool<R, L>) -> io::Result<Self> {
+        Ok(Rows {
+            pool: pool.clone()?,
+            rt,
+        })
+    }
+}
+
+impl<R: Host, L: Ledgers> Work for Rows<R, L> {
+    fn repeat(&self, times: u32) -> io::Result<()> {
+        let mut waiter = Waiter::new(&self.rt)?;
+        let mut waiting = waiter.begin();
+        for _time in 0..times {
+            let Ok(object) = waiting.get(&self.rt, &self.pool) else {
                 return Err(lacks_object());
             };
             drop(object);

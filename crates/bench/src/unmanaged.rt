@@ -57,6 +57,7 @@ fn measure_gets<R: Host>(table: Table<R>, pool: &ZeroPool<R>) -> io::Result<()> 
         &Borrows::new(table.rt, pool)?,
     )?;
     table.figure("get and return, by a waiter", &Waits::new(table.rt, pool)?)?;
+    table.figure("get and return, by one begun", &Rows::new(table.rt, pool)?)?;
     table.figure("get and return, by block_on", &Blocks::new(table.rt, pool)?)
 }
 
@@ -212,6 +213,36 @@ impl<R: Host> Work for Waits<R> {
         let mut waiter = Waiter::new(&self.rt)?;
         for _time in 0..times {
             let Ok(object) = waiter.get_unmanaged(&self.rt, &self.pool) else {
+                return Err(lacks_object());
+            };
+            drop(object);
+        }
+        Ok(())
+    }
+}
+
+// The same by such a waiter that has begun.
+#[derive(Drop)]
+struct Rows<R: Host> {
+    pool: ZeroPool<R>,
+    rt: R,
+}
+
+impl<R: Host> Rows<R> {
+    fn new(rt: R, pool: &ZeroPool<R>) -> io::Result<Self> {
+        Ok(Rows {
+            pool: pool.clone()?,
+            rt,
+        })
+    }
+}
+
+impl<R: Host> Work for Rows<R> {
+    fn repeat(&self, times: u32) -> io::Result<()> {
+        let mut waiter = Waiter::new(&self.rt)?;
+        let mut waiting = waiter.begin();
+        for _time in 0..times {
+            let Ok(object) = waiting.get_unmanaged(&self.rt, &self.pool) else {
                 return Err(lacks_object());
             };
             drop(object);

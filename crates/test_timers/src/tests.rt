@@ -6,3 +6,4 @@ mod managed;
 mod scarce;
 mod stalling;
 mod unmanaged;
+mod waiting;
