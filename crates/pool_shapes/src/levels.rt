@@ -27,7 +27,8 @@ pub fn show_core_levels<T: Drop>(core: &Core<T>, levels: &mut Vec<usize>) -> Res
 }
 
 fn put_levels(counts: Counts, levels: &mut Vec<usize>) -> Result<(), AllocError>
-    ensures { IfOk result (λ _. levels.new.items ≡ counts.limit ∷ counts.size ∷ counts.places ∷ counts.reach ∷ queue_length counts.granted counts.waiting ∷ []) }
+    ensures { IfOk result (λ _. levels.new.items ≡ counts.limit ∷ counts.size ∷ counts.places
+        ∷ counts.reach ∷ queue_length counts.granted counts.waiting ∷ []) }
 {
     levels.clear();
     levels.push(counts.limit)?;
