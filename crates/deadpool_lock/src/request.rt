@@ -1,7 +1,7 @@
 //! A future that asks something of what is shared.
 ghost use Rattle.std.specs.Prelude.{◌≡◌, ◌||◌, ⊤, true, false, None, is_some, IfOk, IfErr, IfSome, IsNone, IsSomeAnd};
 ghost use Rattle.std.specs.Option.{ForSome};
-ghost use Rattle.deadpool_lock.specs.Requests.{IsOver};
+ghost use Rattle.deadpool_lock.specs.Requests.{IsOver, FutureGives, BorrowingGives};
 ghost use Rattle.futures.specs.Poll.{IfReady, OnPending};
 ghost use Rattle.futures.specs.Task.{Covers, Hears, IsArmed, Keeps};
 
@@ -18,7 +18,10 @@ pub trait Request<S: Counted>: Drop {
     type Refusal: Drop;
 
     // Holds of each output that it may give.
-    ghost gives: { Self.Output → Type 0 } = { λ _. ⊤ };
+    ghost gives: { Self → Self.Output → Type 0 } = { λ _ _. ⊤ };
+
+    // Holds of each output that says why it never began.
+    ghost refuses: { Self.Refusal → Self.Output → Type 0 } = { λ _ _. ⊤ };
 
     /// One poll, in a task that has registered with what is shared before. It comes back if it is pending; otherwise there is
     /// its output.
@@ -29,7 +32,8 @@ pub trait Request<S: Counted>: Drop {
         cx: &mut Context<'_>,
     ) -> Result<Self, Self::Output>
         requires registered { Hears cx.old (S.source_of shared.now) }
-        ensures gives { IfErr result gives }
+        ensures gives { IfErr result (gives self) }
+        ensures same { IfOk result (λ pending. (x : _) → gives pending x → gives self x) }
         ensures kept { Keeps cx.old cx.new };
 
     /// Is given up, and gives back what it holds.
@@ -37,7 +41,7 @@ pub trait Request<S: Counted>: Drop {
 
     /// The output of one that never began.
     fn refuse(refusal: Self::Refusal) -> Self::Output
-        ensures { gives result };
+        ensures { refuses refusal result };
 }
 
 /// A request as a future, with a handle of its own. It registers before each poll of the request. One that has ended stays
@@ -83,7 +87,11 @@ impl<Q: Request<S>, S: Counted + Drop> RequestFuture<Q, S> {
 
     /// One poll.
     pub fn advance(&mut self, cx: &mut Context<'_>) -> Poll<Q::Output>
-        ensures gives { IfReady result Q.gives }
+        ensures gives { IfReady result (FutureGives Q.gives Q.refuses
+            self.old.handle self.old.request self.old.refusal) }
+        ensures same { OnPending result ((x : _) →
+            FutureGives Q.gives Q.refuses self.new.handle self.new.request self.new.refusal x →
+            FutureGives Q.gives Q.refuses self.old.handle self.old.request self.old.refusal x) }
         ensures ended { IfReady result
             (λ _. IsOver self.new.handle self.new.request self.new.refusal) }
         ensures waits { OnPending result (is_some self.new.request ≡ is_some self.old.request) }
@@ -128,7 +136,8 @@ fn poll_refused<Q: Request<S>, S: Counted>(
     listener: &mut Listener,
     cx: &mut Context<'_>,
 ) -> Poll<Q::Output>
-    ensures gives { IfReady result Q.gives }
+    ensures gives { IfReady result
+        (λ output. IsSomeAnd refusal.old (λ refused. Q.refuses refused output)) }
     ensures begun { IfReady result (λ _. is_some refusal.old ≡ true) }
     ensures waits { OnPending result (IsNone refusal.old) }
     ensures ended { IsNone refusal.new }
@@ -150,7 +159,11 @@ fn poll_request<Q: Request<S>, S: Counted>(
     listener: &mut Listener,
     cx: &mut Context<'_>,
 ) -> Poll<Q::Output>
-    ensures gives { IfReady result Q.gives }
+    ensures gives { IfReady result
+        (λ output. IsSomeAnd asked.old (λ request. Q.gives request output)) }
+    ensures same { OnPending result ((x : _) →
+        IsSomeAnd asked.new (λ request. Q.gives request x) →
+        IsSomeAnd asked.old (λ request. Q.gives request x)) }
     ensures begun { IfReady result (λ _. is_some asked.old ≡ true) }
     ensures ended { IfReady result (λ _. IsNone asked.new) }
     ensures waits { OnPending result (is_some asked.new ≡ is_some asked.old) }
@@ -176,7 +189,8 @@ impl<Q: Request<S>, S: Counted + Drop> Future for RequestFuture<Q, S> {
 
     ghost needs = { λ future s. IsSomeAnd future.handle (λ shared. s ≡ S.source_of shared) };
 
-    ghost gives = { λ future output. Q.gives output };
+    // One that has ended gives nothing more.
+    ghost gives = { λ future. FutureGives Q.gives Q.refuses future.handle future.request future.refusal };
 
     fn poll(&mut self, cx: &mut Context<'_>) -> Poll<Q::Output> {
         self.advance(cx)
@@ -243,7 +257,11 @@ impl<'a, Q: Request<S>, S: Counted + Drop> RequestRef<'a, Q, S> {
 
     /// One poll.
     pub fn advance(&mut self, cx: &mut Context<'_>) -> Poll<Q::Output>
-        ensures gives { IfReady result Q.gives }
+        ensures gives { IfReady result
+            (BorrowingGives Q.gives Q.refuses self.old.request self.old.refusal) }
+        ensures same { OnPending result ((x : _) →
+            BorrowingGives Q.gives Q.refuses self.new.request self.new.refusal x →
+            BorrowingGives Q.gives Q.refuses self.old.request self.old.refusal x) }
         ensures begun { IfReady result
             (λ _. (is_some self.old.request || is_some self.old.refusal) ≡ true) }
         ensures ended { IfReady result (λ _. IsNone self.new.request × IsNone self.new.refusal) }
@@ -286,7 +304,8 @@ impl<'a, Q: Request<S>, S: Counted + Drop> Future for RequestRef<'a, Q, S> {
 
     ghost needs = { λ future s. s ≡ S.source_of future.handle.now };
 
-    ghost gives = { λ future output. Q.gives output };
+    // One that has ended gives nothing more.
+    ghost gives = { λ future. BorrowingGives Q.gives Q.refuses future.request future.refusal };
 
     fn poll(&mut self, cx: &mut Context<'_>) -> Poll<Q::Output> {
         self.advance(cx)

@@ -1,6 +1,7 @@
 //! What the futures of a pool ask: an object, one that leaves for good, or room.
-ghost use Rattle.std.specs.Prelude.{◌≡◌, Some, IfOk, IfErr};
+ghost use Rattle.std.specs.Prelude.{◌≡◌, Some, Err, IfOk, IfErr};
 ghost use Rattle.deadpool_unmanaged.specs.Adds.{held_by};
+ghost use Rattle.deadpool_unmanaged.specs.declared.error.PoolError.TheVariants.{OutOfMemory};
 ghost use Rattle.deadpool_unmanaged.specs.declared.get.GetStage.TheVariants as GetStage;
 ghost use Rattle.futures.specs.Task.{Keeps};
 
@@ -85,6 +86,11 @@ impl<T: Drop, C: Clock, R: Wait + Drop> Request<Shared<T, C, R>> for Getting<T, 
 
     type Refusal = ();
 
+    // Its object goes back to the pool that was asked.
+    ghost gives = { λ get ended. IfOk ended (λ object. object.home ≡ get.home) };
+
+    ghost refuses = { λ _ ended. ended ≡ Err OutOfMemory };
+
     fn poll(
         self,
         shared: &Shared<T, C, R>,
@@ -113,6 +119,8 @@ impl<T: Drop, C: Clock, R: Wait + Drop> Request<Shared<T, C, R>> for Removing<T,
     type Output = Result<T, PoolError>;
 
     type Refusal = ();
+
+    ghost refuses = { λ _ ended. ended ≡ Err OutOfMemory };
 
     fn poll(
         self,
@@ -151,8 +159,9 @@ impl<T: Drop> Adding<T> {
         shared: &Shared<T, C, R>,
         listener: &mut Listener,
     ) -> Result<Self, Result<(), (T, PoolError)>>
-        ensures { IfErr result
+        ensures gives { IfErr result
             (λ added. IfErr added (λ refused. held_by self.state ≡ Some refused.0)) }
+        ensures waits { IfOk result (λ add. held_by add.state ≡ held_by self.state) }
     {
         let Adding { mut state } = self;
         let mut step = shared.lock.begin();
@@ -170,6 +179,11 @@ impl<T: Drop, C: Clock, R: Wait + Drop> Request<Shared<T, C, R>> for Adding<T> {
     type Output = Result<(), (T, PoolError)>;
 
     type Refusal = T;
+
+    // Where it is refused it hands its own object back.
+    ghost gives = { λ add ended. IfErr ended (λ refused. held_by add.state ≡ Some refused.0) };
+
+    ghost refuses = { λ value ended. ended ≡ Err (value, OutOfMemory) };
 
     fn poll(
         self,

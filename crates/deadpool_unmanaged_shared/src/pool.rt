@@ -113,6 +113,7 @@ impl<T: Drop, C: Clock, R: Wait + Drop> Pool<T, C, R> {
     pub fn get(&self) -> Get<T, C, R>
         ensures asks { IfSome result.request
             (λ get. get.state ≡ GetStage.Unpolled self.now.inner.timeout) }
+        ensures home { IfSome result.request (λ get. get.home ≡ self.now.inner) }
         ensures begun { (IsSome result.handle × IsSome result.request) ⊎ IsSome result.refusal }
         ensures handle { IfSome result.handle (λ shared. shared ≡ self.now.inner) }
     {
@@ -123,6 +124,7 @@ impl<T: Drop, C: Clock, R: Wait + Drop> Pool<T, C, R> {
     /// that finds no memory, its first poll answers `OutOfMemory`.
     pub fn timeout_get(&self, timeout: Option<Duration>) -> Get<T, C, R>
         ensures asks { IfSome result.request (λ get. get.state ≡ GetStage.Unpolled timeout) }
+        ensures home { IfSome result.request (λ get. get.home ≡ self.now.inner) }
         ensures begun { (IsSome result.handle × IsSome result.request) ⊎ IsSome result.refusal }
         ensures handle { IfSome result.handle (λ shared. shared ≡ self.now.inner) }
     {
@@ -136,6 +138,7 @@ impl<T: Drop, C: Clock, R: Wait + Drop> Pool<T, C, R> {
     pub fn get_ref(&self) -> GetRef<'_, T, C, R>
         ensures asks { IfSome result.request
             (λ get. get.state ≡ GetStage.Unpolled self.now.inner.timeout) }
+        ensures home { IfSome result.request (λ get. get.home ≡ self.now.inner) }
         ensures begun { IsSome result.request ⊎ IsSome result.refusal }
         ensures handle { result.handle.now ≡ self.now.inner }
     {
@@ -145,6 +148,7 @@ impl<T: Drop, C: Clock, R: Wait + Drop> Pool<T, C, R> {
     /// A get that may wait so long, as `timeout_get` says, and borrows this handle.
     pub fn timeout_get_ref(&self, timeout: Option<Duration>) -> GetRef<'_, T, C, R>
         ensures asks { IfSome result.request (λ get. get.state ≡ GetStage.Unpolled timeout) }
+        ensures home { IfSome result.request (λ get. get.home ≡ self.now.inner) }
         ensures begun { IsSome result.request ⊎ IsSome result.refusal }
         ensures handle { result.handle.now ≡ self.now.inner }
     {
