@@ -99,8 +99,9 @@ impl<M: Manager, F: SyncHook<M>, A: AsyncHook<M>, C: Clock, R: Wait + Drop, L: L
             (λ _. (is_some self.old.home || is_some self.old.refusal) ≡ true) }
         ensures stays { OnPending result ((is_some self.new.home || is_some self.new.refusal)
             ≡ (is_some self.old.home || is_some self.old.refusal)) }
-        ensures gives { IfReady result
-            (GivesReady W.from_gives (λ o. M.is_ready o.slot.value)) }
+        ensures home { OnPending result (self.new.home ≡ self.old.home) }
+        ensures gives { IfReady result (GivesReady W.from_gives
+            (λ o. M.is_ready o.slot.value × (self.old.home ≡ Some o.out.home))) }
         ensures armed { OnPending result (IsArmed cx.new) }
         ensures heard { OnPending result (Hears cx.new shared.now.lock.source.id) }
         ensures kept { Keeps cx.old cx.new }
@@ -193,9 +194,9 @@ fn poll_party<
         ≡ counts_of (held_at (stage_of progress.old.phase progress.old.slot)) }
     ensures backed { ForSome home.new (λ _.
         had shares.new ≡ counts_of (held_at (stage_of progress.new.phase progress.new.slot))) }
-    ensures stays { OnPending result (is_some home.new ≡ true) }
-    ensures gives { IfReady result
-        (GivesReady W.from_gives (λ o. M.is_ready o.slot.value)) }
+    ensures stays { OnPending result (home.new ≡ Some owner) }
+    ensures gives { IfReady result (GivesReady W.from_gives
+        (λ o. M.is_ready o.slot.value × (Some owner ≡ Some o.out.home))) }
     ensures kept { Keeps cx.old cx.new }
 {
     let mut seat = Seat::new(shared, shares.take(), listener);

@@ -1,12 +1,10 @@
 //! What a pool is made of, before it is made.
 ghost use Rattle.std.specs.Prelude.{◌≡◌, ◌↔◌, ◌++◌, ◌∷◌, [], true, IfOk, IfErr, Option, Err};
 ghost use Rattle.std.specs.declared.time.Duration.{Duration};
-ghost use Rattle.deadpool_parts.specs.declared.config.QueueMode.TheVariants.{Fifo};
 ghost use Rattle.deadpool_parts.specs.declared.errors.BuildError.TheVariants.{NoRuntimeSpecified};
-ghost use Rattle.deadpool_parts.specs.Timeouts.{no_timeouts};
 ghost use Rattle.deadpool_desk.specs.DeskState.{new_core};
 ghost use Rattle.deadpool_managed.specs.HookLists.{CanCall};
-ghost use Rattle.deadpool_shared.specs.Building.{Building, lacks_any_runtime, no_hooks};
+ghost use Rattle.deadpool_shared.specs.Building.{Building, lacks_any_runtime, newly};
 
 use crate::ledgers::{Blanks, Ledgers};
 use crate::locked::Locked;
@@ -62,17 +60,7 @@ impl<M: Manager, F: SyncHook<M>, A: AsyncHook<M>, C: Drop> PoolBuilder<M, F, A, 
     /// A pool of at most two objects, first in first out, with no hook, no timeout, no runtime, no object that has to
     /// stay idle, and no room in its journal. The machine is not asked how many processors it has.
     pub fn new(alloc: Global, manager: M, clock: C) -> Self
-        ensures { result ≡ record {
-          manager = manager;
-          hooks = no_hooks;
-          clock = clock;
-          max_size = 2;
-          timeouts = no_timeouts;
-          queue_mode = Fifo;
-          min_idle = 0;
-          runtime = Option.None;
-          journal = 0;
-        } }
+        ensures { result ≡ newly manager clock }
     {
         PoolBuilder {
             alloc,

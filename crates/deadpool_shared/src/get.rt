@@ -1,5 +1,5 @@
 //! A get, as a future: one that counts as a handle of its pool, and one that borrows a handle.
-ghost use Rattle.std.specs.Prelude.{◌≡◌, ◌||◌, ◌⊎◌, true, is_some, None, IfOk, IfSome, IsSome, IsSomeAnd};
+ghost use Rattle.std.specs.Prelude.{◌≡◌, ◌||◌, ◌⊎◌, true, is_some, Some, None, IfOk, IfSome, IsSome, IsSomeAnd};
 ghost use Rattle.deadpool_managed.specs.declared.work.Phase.TheVariants.{Unpolled};
 ghost use Rattle.deadpool_shared.specs.Gets.{GivesReady};
 
@@ -98,8 +98,8 @@ where
 
     ghost needs = { λ get s. IsSomeAnd get.handle (λ handle. s ≡ handle.lock.source.id) };
 
-    // A get that has ended gives nothing more.
-    ghost gives = { λ get r. ((is_some get.asking.home || is_some get.asking.refusal) ≡ true) × GivesReady W.from_gives (λ o. M.is_ready o.slot.value) r };
+    // A get that has ended gives nothing more. An object goes back to the pool that was asked.
+    ghost gives = { λ get r. ((is_some get.asking.home || is_some get.asking.refusal) ≡ true) × GivesReady W.from_gives (λ o. M.is_ready o.slot.value × (get.asking.home ≡ Some o.out.home)) r };
 
     fn poll(&mut self, cx: &mut Context<'_>) -> Poll<Self::Output> {
         let Some(handle) = &self.handle else {
@@ -192,8 +192,8 @@ where
 
     ghost needs = { λ get s. s ≡ get.handle.now.lock.source.id };
 
-    // A get that has ended gives nothing more.
-    ghost gives = { λ get r. ((is_some get.asking.home || is_some get.asking.refusal) ≡ true) × GivesReady W.from_gives (λ o. M.is_ready o.slot.value) r };
+    // A get that has ended gives nothing more. An object goes back to the pool that was asked.
+    ghost gives = { λ get r. ((is_some get.asking.home || is_some get.asking.refusal) ≡ true) × GivesReady W.from_gives (λ o. M.is_ready o.slot.value × (get.asking.home ≡ Some o.out.home)) r };
 
     fn poll(&mut self, cx: &mut Context<'_>) -> Poll<Self::Output> {
         self.asking.poll(self.timeouts, self.handle.shared(), cx)

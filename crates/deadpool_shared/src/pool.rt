@@ -2,6 +2,7 @@
 ghost use Rattle.std.specs.Prelude.{◌≡◌, ◌⊎◌, Some, None, IfOk, IfSome, IsSome};
 ghost use Rattle.deadpool_journal.specs.Copies.{HasSteps};
 ghost use Rattle.deadpool_managed.specs.declared.work.Phase.TheVariants.{Unpolled};
+ghost use Rattle.deadpool_shared.specs.Building.{newly};
 
 use crate::builder::PoolBuilder;
 use crate::get::{Get, GetRef};
@@ -80,7 +81,9 @@ impl<M: Manager, F: SyncHook<M>, A: AsyncHook<M>, C: Clock, R: Wait + Drop, L: L
     W,
 > {
     /// What a pool is made of, with this manager and clock. The rest is as `PoolBuilder::new` says.
-    pub fn builder(alloc: Global, manager: M, clock: C) -> PoolBuilder<M, F, A, C> {
+    pub fn builder(alloc: Global, manager: M, clock: C) -> PoolBuilder<M, F, A, C>
+        ensures { result ≡ newly manager clock }
+    {
         PoolBuilder::new(alloc, manager, clock)
     }
 

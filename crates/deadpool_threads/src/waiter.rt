@@ -1,5 +1,6 @@
 //! What a thread waits by.
 ghost use Rattle.std.specs.Prelude.{◌≡◌, IfOk};
+ghost use Rattle.deadpool_shared.specs.Gets.{GivesReady};
 
 use crate::waiting::Waiting;
 use deadpool::managed::{AsyncHook, Ledgers, Manager, Object, Pool, PoolError, SyncHook};
@@ -63,8 +64,8 @@ impl Waiter {
         R: Wait + Drop,
         L: Ledgers,
         W: From<Object<M, F, A, C, R, L>>,
-        ensures ready { IfOk result
-            (λ given. (object : _) × (M.is_ready object.slot.value × W.from_gives object given)) }
+        ensures gives { GivesReady W.from_gives (λ object.
+            M.is_ready object.slot.value × (object.out.home ≡ pool.now.handle)) result }
     {
         let mut waiting = self.begin();
         waiting.get(rt, pool)
@@ -75,7 +76,9 @@ impl Waiter {
         &mut self,
         rt: &R,
         pool: &unmanaged::Pool<T, C, R>,
-    ) -> Result<unmanaged::Object<T, C, R>, unmanaged::PoolError> {
+    ) -> Result<unmanaged::Object<T, C, R>, unmanaged::PoolError>
+        ensures home { IfOk result (λ object. object.home ≡ pool.now.inner) }
+    {
         let mut waiting = self.begin();
         waiting.get_unmanaged(rt, pool)
     }

@@ -1,5 +1,6 @@
 //! A waiter whose task has begun.
 ghost use Rattle.std.specs.Prelude.{◌≡◌, IfOk};
+ghost use Rattle.deadpool_shared.specs.Gets.{GivesReady};
 
 use deadpool::managed::{AsyncHook, Ledgers, Manager, Object, Pool, PoolError, SyncHook};
 use deadpool::{Clock, unmanaged};
@@ -57,8 +58,8 @@ impl<'a> Waiting<'a> {
         R: Wait + Drop,
         L: Ledgers,
         W: From<Object<M, F, A, C, R, L>>,
-        ensures ready { IfOk result
-            (λ given. (object : _) × (M.is_ready object.slot.value × W.from_gives object given)) }
+        ensures gives { GivesReady W.from_gives (λ object.
+            M.is_ready object.slot.value × (object.out.home ≡ pool.now.handle)) result }
     {
         let mut get = pool.get_ref();
         get.exchange_listener(self.listener);
@@ -78,7 +79,9 @@ impl<'a> Waiting<'a> {
         &mut self,
         rt: &R,
         pool: &unmanaged::Pool<T, C, R>,
-    ) -> Result<unmanaged::Object<T, C, R>, unmanaged::PoolError> {
+    ) -> Result<unmanaged::Object<T, C, R>, unmanaged::PoolError>
+        ensures home { IfOk result (λ object. object.home ≡ pool.now.inner) }
+    {
         let mut get = pool.get_ref();
         get.exchange_listener(self.listener);
         if let Poll::Ready(ended) = get.poll(&mut self.task) {
