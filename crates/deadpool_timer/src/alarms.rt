@@ -77,6 +77,7 @@ impl Alarms {
     pub fn take_back(&mut self, place: Place) -> Option<Waker>
         ensures waker { result ≡ get place_cmp self.old.wakers place }
         ensures taken { Updates place_cmp self.old.wakers self.new.wakers place None }
+        ensures counted { self.new.set ≡ self.old.set }
         ensures stopped { self.new.is_stopped ≡ self.old.is_stopped }
     {
         self.wakers.remove(&place)
@@ -96,6 +97,7 @@ impl Alarms {
     pub fn next(&mut self, now: Moment) -> Next
         ensures tells { Tells self.old.is_stopped
             self.old.wakers.entries self.new.wakers.entries now.0 result }
+        ensures counted { self.new.set ≡ self.old.set }
         ensures stopped { self.new.is_stopped ≡ self.old.is_stopped }
     {
         if !self.is_stopped {
@@ -116,6 +118,7 @@ impl Alarms {
     pub fn stop(&mut self)
         ensures stopped { self.new.is_stopped ≡ true }
         ensures alarms { IsUnchanged self.old.wakers self.new.wakers }
+        ensures counted { self.new.set ≡ self.old.set }
     {
         self.is_stopped = true;
     }
