@@ -65,7 +65,17 @@ impl<L: Line> Filled<L> {
     }
 }
 
-/// Times leaving the middle of lines in which so many wait, and writes its row.
+/// Times leaving the middle of a line of gets in which few, more and many wait, and writes a row for each.
+pub fn cancel_gets<R: Host, L: Line>(table: Table<R>, line: L) -> io::Result<()> {
+    let mut lines = Vec::with_capacity(table.rt.alloc(), 1)?;
+    lines.push(line)?;
+    for waiters in table.scale.waiters {
+        lines = cancels(table, "cancel in the middle", lines, waiters)?;
+    }
+    Ok(())
+}
+
+/// Times leaving the middle of lines in which so many wait, and writes its row. The lines come back with nobody in them.
 ///
 /// A tenth of a line leaves in a window, but five of ten, so that its length stays about what it was. A window has one
 /// reading of the clock in it, which is felt if few leave.
@@ -74,7 +84,7 @@ pub fn cancels<R: Host, L: Line>(
     name: &str,
     lines: Vec<L>,
     waiters: usize,
-) -> io::Result<()> {
+) -> io::Result<Vec<L>> {
     let alloc = table.rt.alloc();
     let plain = PlainGets::new(table.rt)?;
     let lock = BareLock::new(table.rt);
@@ -92,7 +102,8 @@ pub fn cancels<R: Host, L: Line>(
         });
     }
     let name = format!(in alloc; "{name}: waiters {waiters}")?;
-    table.write(name.as_str(), least)
+    table.write(name.as_str(), least)?;
+    Ok(lines)
 }
 
 // The time of one that leaves, from one window. The lines come back.

@@ -49,7 +49,8 @@ fn measure_gate<R: Host>(table: Table<R>, waiters: usize) -> io::Result<()> {
     for _gate in 0..lines(waiters) {
         gates.push(Gate::new(table.rt.alloc()))?;
     }
-    cancels(table, "withdraw from the middle", gates, waiters)
+    cancels(table, "withdraw from the middle", gates, waiters)?;
+    Ok(())
 }
 
 fn measure_vector<R: Host>(table: Table<R>, waiters: usize) -> io::Result<()> {
@@ -57,7 +58,8 @@ fn measure_vector<R: Host>(table: Table<R>, waiters: usize) -> io::Result<()> {
     for _gate in 0..lines(waiters) {
         gates.push(VectorGate::new(table.rt.alloc()))?;
     }
-    cancels(table, "withdraw from a plain vector", gates, waiters)
+    cancels(table, "withdraw from a plain vector", gates, waiters)?;
+    Ok(())
 }
 
 // How many lines are timed together, so that a reading of the clock weighs little.

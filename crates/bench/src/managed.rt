@@ -2,17 +2,16 @@
 
 ghost use Rattle.std.specs.Prelude.{◌≡◌};
 
-use crate::cancels::cancels;
+use crate::cancels::cancel_gets;
 use crate::crowd::{LIMIT, crowds};
 use crate::host::Host;
 use crate::line::Line;
-use crate::polls::{Polls, all_served, lacks_object};
 use crate::table::Table;
-use crate::work::{SharedWork, Work};
+use crate::work::{SharedWork, all_served, lacks_object};
 use crate::zeros::Zeros;
 use deadpool::NoTime;
 use deadpool::managed::desk::Slot;
-use deadpool::managed::{Blanks, Get, Ledgers, NoHook, Object, Pool, PoolBuilder, Timeouts};
+use deadpool::managed::{Blanks, Build, Get, Ledgers, NoHook, Object, Pool, PoolBuilder, Timeouts};
 use deadpool_threads::Waiter;
 use futures::Future;
 use futures::executor::block_on;
@@ -56,7 +55,11 @@ where
 {
     table.head("managed pool")?;
     measure_alone(table, pool)?;
-    crowds(table, &Holds::new(table.rt, pool)?)?;
+    let holds = Holds {
+        pool: pool.clone()?,
+        rt: table.rt,
+    };
+    crowds(table, &holds)?;
     measure_cancels(table, pool)
 }
 
@@ -64,230 +67,113 @@ fn measure_alone<R: Host, L: Ledgers>(table: Table<R>, pool: &ZeroPool<R, L>) ->
     // Beside its object's slot and timeouts of its own, a get takes at most 128 bytes.
     let places = size_of::<Option<Slot<u64>>>() + size_of::<Option<Timeouts>>();
     prove!(size_of::<ZeroGet<R, L>>() <= 128 + places);
-    table.figure(
-        "create and take, polled by hand",
-        &Creates::new(table.rt, pool)?,
-    )?;
-    table.figure(
-        "get and return, polled by hand",
-        &Polls::new(table.rt, pool)?,
-    )?;
-    table.figure(
-        "borrowed get and return, by hand",
-        &Borrows::new(table.rt, pool)?,
-    )?;
-    table.figure("get and return, by a waiter", &Waits::new(table.rt, pool)?)?;
-    table.figure("get and return, by one begun", &Rows::new(table.rt, pool)?)?;
-    table.figure("get and return, by block_on", &Blocks::new(table.rt, pool)?)
+    measure_polls(table, pool)?;
+    measure_waits(table, pool)
 }
 
-// All objects are out, so every get waits.
-fn measure_cancels<R: Host, L: Ledgers>(table: Table<R>, pool: &ZeroPool<R, L>) -> io::Result<()> {
-    pool.resize(1)?;
-    let held = get_at_once(table.rt, pool)?;
-    for waiters in table.scale.waiters {
-        cancel_gets(table, pool, waiters)?;
-    }
-    drop(held);
-    Ok(())
-}
-
-// An object that a get gives at once.
-fn get_at_once<R: Host, L: Ledgers>(rt: R, pool: &ZeroPool<R, L>) -> io::Result<Zero<R, L>> {
-    let task = MockTask::new(&rt)?;
-    match task.poll(&mut pool.get()) {
-        Poll::Ready(Ok(object)) => Ok(object),
-        _ => Err(lacks_object()),
-    }
-}
-
-// Cancels gets while so many wait.
-fn cancel_gets<R: Host, L: Ledgers>(
-    table: Table<R>,
-    pool: &ZeroPool<R, L>,
-    waiters: usize,
-) -> io::Result<()> {
-    let mut lines = Vec::new(table.rt.alloc());
-    lines.push(PoolLine::new(table.rt, pool)?)?;
-    cancels(table, "cancel in the middle", lines, waiters)
-}
-
-// Gets an object by a get that borrows the pool, and gives it back, in a poll of one task.
-#[derive(Drop)]
-struct Borrows<R: Host, L: Ledgers> {
-    pool: ZeroPool<R, L>,
-    task: Solo,
-}
-
-impl<R: Host, L: Ledgers> Borrows<R, L> {
-    fn new(rt: R, pool: &ZeroPool<R, L>) -> io::Result<Self> {
-        Ok(Borrows {
-            pool: pool.clone()?,
-            task: Solo::new(&rt, Doorbell::spinning())?,
-        })
-    }
-}
-
-impl<R: Host, L: Ledgers> Work for Borrows<R, L> {
-    fn repeat(&self, times: u32) -> io::Result<()> {
-        let mut cx = self.task.begin();
+// All gets of a window are polled in one poll of one task.
+fn measure_polls<R: Host, L: Ledgers>(table: Table<R>, pool: &ZeroPool<R, L>) -> io::Result<()> {
+    let task = Solo::new(&table.rt, Doorbell::spinning())?;
+    let creates = |times| {
+        let mut cx = task.begin();
         let mut served = 0u32;
         for _time in 0..times {
-            if let Poll::Ready(Ok(object)) = self.pool.get_ref().poll(&mut cx) {
-                drop(object);
-                served = served.saturating_add(1);
-            }
-        }
-        cx.cancel();
-        all_served(served, times)
-    }
-}
-
-// The same by what a thread keeps to wait by.
-#[derive(Drop)]
-struct Waits<R: Host, L: Ledgers> {
-    pool: ZeroPool<R, L>,
-    rt: R,
-}
-
-impl<R: Host, L: Ledgers> Waits<R, L> {
-    fn new(rt: R, pool: &ZeroPool<R, L>) -> io::Result<Self> {
-        Ok(Waits {
-            pool: pool.clone()?,
-            rt,
-        })
-    }
-}
-
-impl<R: Host, L: Ledgers> Work for Waits<R, L> {
-    fn repeat(&self, times: u32) -> io::Result<()> {
-        let mut waiter = Waiter::new(&self.rt)?;
-        for _time in 0..times {
-            let Ok(object) = waiter.get(&self.rt, &self.pool) else {
-                return Err(lacks_object());
-            };
-            drop(object);
-        }
-        Ok(())
-    }
-}
-
-// The same by such a waiter that has begun.
-#[derive(Drop)]
-struct Rows<R: Host, L: Ledgers> {
-    pool: ZeroPool<R, L>,
-    rt: R,
-}
-
-impl<R: Host, L: Ledgers> Rows<R, L> {
-    fn new(rt: R, pool: &ZeroPool<R, L>) -> io::Result<Self> {
-        Ok(Rows {
-            pool: pool.clone()?,
-            rt,
-        })
-    }
-}
-
-impl<R: Host, L: Ledgers> Work for Rows<R, L> {
-    fn repeat(&self, times: u32) -> io::Result<()> {
-        let mut waiter = Waiter::new(&self.rt)?;
-        let mut waiting = waiter.begin();
-        for _time in 0..times {
-            let Ok(object) = waiting.get(&self.rt, &self.pool) else {
-                return Err(lacks_object());
-            };
-            drop(object);
-        }
-        Ok(())
-    }
-}
-
-// The same, each get in a task of its own.
-#[derive(Drop)]
-struct Blocks<R: Host, L: Ledgers> {
-    pool: ZeroPool<R, L>,
-    rt: R,
-}
-
-impl<R: Host, L: Ledgers> Blocks<R, L> {
-    fn new(rt: R, pool: &ZeroPool<R, L>) -> io::Result<Self> {
-        Ok(Blocks {
-            pool: pool.clone()?,
-            rt,
-        })
-    }
-}
-
-impl<R: Host, L: Ledgers> Work for Blocks<R, L> {
-    fn repeat(&self, times: u32) -> io::Result<()> {
-        for _time in 0..times {
-            let Ok(object) = block_on(&self.rt, self.pool.get())? else {
-                return Err(lacks_object());
-            };
-            drop(object);
-        }
-        Ok(())
-    }
-}
-
-// Has an object created, and takes it out of the pool.
-#[derive(Drop)]
-struct Creates<R: Host, L: Ledgers> {
-    pool: ZeroPool<R, L>,
-    task: Solo,
-}
-
-impl<R: Host, L: Ledgers> Creates<R, L> {
-    fn new(rt: R, pool: &ZeroPool<R, L>) -> io::Result<Self> {
-        Ok(Creates {
-            pool: pool.clone()?,
-            task: Solo::new(&rt, Doorbell::spinning())?,
-        })
-    }
-}
-
-impl<R: Host, L: Ledgers> Work for Creates<R, L> {
-    fn repeat(&self, times: u32) -> io::Result<()> {
-        let mut cx = self.task.begin();
-        let mut served = 0u32;
-        for _time in 0..times {
-            if let Poll::Ready(Ok(object)) = self.pool.get().poll(&mut cx) {
+            if let Poll::Ready(Ok(object)) = pool.get().poll(&mut cx) {
                 Object::take(object);
                 served = served.saturating_add(1);
             }
         }
         cx.cancel();
         all_served(served, times)
-    }
+    };
+    table.figure("create and take, polled by hand", &creates)?;
+    let polls = |times| {
+        let mut cx = task.begin();
+        let mut served = 0u32;
+        for _time in 0..times {
+            if let Poll::Ready(Ok(object)) = pool.get().poll(&mut cx) {
+                drop(object);
+                served = served.saturating_add(1);
+            }
+        }
+        cx.cancel();
+        all_served(served, times)
+    };
+    table.figure("get and return, polled by hand", &polls)?;
+    let borrows = |times| {
+        let mut cx = task.begin();
+        let mut served = 0u32;
+        for _time in 0..times {
+            if let Poll::Ready(Ok(object)) = pool.get_ref().poll(&mut cx) {
+                drop(object);
+                served = served.saturating_add(1);
+            }
+        }
+        cx.cancel();
+        all_served(served, times)
+    };
+    table.figure("borrowed get and return, by hand", &borrows)
 }
 
-// Gets an object, holds it over a yield, and gives it back.
+// By what a thread keeps to wait by, and by an executor for each get.
+fn measure_waits<R: Host, L: Ledgers>(table: Table<R>, pool: &ZeroPool<R, L>) -> io::Result<()> {
+    let rt = &table.rt;
+    let waits = |times: u32| -> io::Result<()> {
+        let mut waiter = Waiter::new(rt)?;
+        for _time in 0..times {
+            let Ok(object) = waiter.get(rt, pool) else {
+                return Err(lacks_object());
+            };
+            drop(object);
+        }
+        Ok(())
+    };
+    table.figure("get and return, by a waiter", &waits)?;
+    let begun = |times: u32| -> io::Result<()> {
+        let mut waiter = Waiter::new(rt)?;
+        let mut waiting = waiter.begin();
+        for _time in 0..times {
+            let Ok(object) = waiting.get(rt, pool) else {
+                return Err(lacks_object());
+            };
+            drop(object);
+        }
+        Ok(())
+    };
+    table.figure("get and return, by one begun", &begun)?;
+    let blocks = |times: u32| -> io::Result<()> {
+        for _time in 0..times {
+            let Ok(object) = block_on(rt, pool.get())? else {
+                return Err(lacks_object());
+            };
+            drop(object);
+        }
+        Ok(())
+    };
+    table.figure("get and return, by block_on", &blocks)
+}
+
+// All objects are out, so every get waits.
+fn measure_cancels<R: Host, L: Ledgers>(table: Table<R>, pool: &ZeroPool<R, L>) -> io::Result<()> {
+    pool.resize(1)?;
+    let mut waiter = Waiter::new(&table.rt)?;
+    let Ok(held) = waiter.get(&table.rt, pool) else {
+        return Err(lacks_object());
+    };
+    let line = PoolLine {
+        pool: pool.clone()?,
+        task: MockTask::new(&table.rt)?,
+    };
+    cancel_gets(table, line)?;
+    drop(held);
+    Ok(())
+}
+
+// Gets an object by what its thread keeps to wait by, holds it over a yield, and gives it back.
 #[derive(Drop)]
 struct Holds<R: Host, L: Ledgers> {
     pool: ZeroPool<R, L>,
     rt: R,
-}
-
-impl<R: Host, L: Ledgers> Holds<R, L> {
-    fn new(rt: R, pool: &ZeroPool<R, L>) -> io::Result<Self> {
-        Ok(Holds {
-            pool: pool.clone()?,
-            rt,
-        })
-    }
-}
-
-impl<R: Host, L: Ledgers> Work for Holds<R, L> {
-    fn repeat(&self, times: u32) -> io::Result<()> {
-        for _time in 0..times {
-            let Ok(object) = block_on(&self.rt, self.pool.get())? else {
-                return Err(lacks_object());
-            };
-            thread::yield_now();
-            drop(object);
-        }
-        Ok(())
-    }
 }
 
 impl<R, L> SharedWork for Holds<R, L>
@@ -301,6 +187,18 @@ where
             rt: self.rt,
         })
     }
+
+    fn repeat(&self, times: u32) -> io::Result<()> {
+        let mut waiter = Waiter::new(&self.rt)?;
+        for _time in 0..times {
+            let Ok(object) = waiter.get(&self.rt, &self.pool) else {
+                return Err(lacks_object());
+            };
+            thread::yield_now();
+            drop(object);
+        }
+        Ok(())
+    }
 }
 
 // The gets that wait in a pool.
@@ -308,15 +206,6 @@ where
 struct PoolLine<R: Host, L: Ledgers> {
     pool: ZeroPool<R, L>,
     task: MockTask,
-}
-
-impl<R: Host, L: Ledgers> PoolLine<R, L> {
-    fn new(rt: R, pool: &ZeroPool<R, L>) -> io::Result<Self> {
-        Ok(PoolLine {
-            pool: pool.clone()?,
-            task: MockTask::new(&rt)?,
-        })
-    }
 }
 
 impl<R: Host, L: Ledgers> Line for PoolLine<R, L> {

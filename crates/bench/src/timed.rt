@@ -4,18 +4,19 @@ ghost use Rattle.std.specs.Prelude.{◌≡◌};
 
 use crate::crowd::LIMIT;
 use crate::host::Host;
-use crate::polls::{ClockPool, Polls};
 use crate::table::Table;
-use crate::work::Work;
+use crate::work::all_served;
 use crate::zeros::Zeros;
 use deadpool::Runtime;
-use deadpool::managed::{Blanks, Ledgers, PoolBuilder};
+use deadpool::managed::{Blanks, Build, Ledgers, NoHook, Pool, PoolBuilder};
 use deadpool_timer::{Timer, TimerClock};
+use futures::Future;
+use futures::task::{Doorbell, Poll, Solo};
 use std::io;
 use std::marker::Brand;
 use std::time::{Duration, Instant};
 
-type TimedPool<R, L> = ClockPool<TimerClock<R>, R, L>;
+type TimedPool<R, L> = Pool<Zeros, NoHook, NoHook, TimerClock<R>, R, L>;
 
 /// Times a get and its return over a pool whose gets wait for a second at most. None of them waits.
 pub fn measure<R: Host>(table: Table<R>) -> io::Result<()> {
@@ -43,24 +44,26 @@ where
 
 fn measure_built<R: Host, L: Ledgers>(table: Table<R>, pool: &TimedPool<R, L>) -> io::Result<()> {
     table.head("managed pool with a timeout")?;
-    table.figure(
-        "get and return, polled by hand",
-        &Polls::new(table.rt, pool)?,
-    )?;
-    table.figure("read the clock", &Readings { rt: table.rt })
-}
-
-// Reads the clock.
-#[derive(Drop)]
-struct Readings<R: Host> {
-    rt: R,
-}
-
-impl<R: Host> Work for Readings<R> {
-    fn repeat(&self, times: u32) -> io::Result<()> {
+    let task = Solo::new(&table.rt, Doorbell::spinning())?;
+    let polls = |times| {
+        let mut cx = task.begin();
+        let mut served = 0u32;
         for _time in 0..times {
-            let _now = Instant::now(&self.rt)?;
+            if let Poll::Ready(Ok(object)) = pool.get().poll(&mut cx) {
+                drop(object);
+                served = served.saturating_add(1);
+            }
+        }
+        cx.cancel();
+        all_served(served, times)
+    };
+    table.figure("get and return, polled by hand", &polls)?;
+    let rt = &table.rt;
+    let readings = |times: u32| -> io::Result<()> {
+        for _time in 0..times {
+            let _now = Instant::now(rt)?;
         }
         Ok(())
-    }
+    };
+    table.figure("read the clock", &readings)
 }

@@ -1,11 +1,11 @@
 //! The unmanaged pool.
 
-use crate::cancels::cancels;
+use crate::cancels::cancel_gets;
 use crate::crowd::{LIMIT, crowds};
 use crate::host::Host;
 use crate::line::Line;
 use crate::table::Table;
-use crate::work::{SharedWork, Work};
+use crate::work::{SharedWork, all_served, lacks_object};
 use deadpool::NoTime;
 use deadpool::unmanaged::{Get, Pool};
 use deadpool_threads::Waiter;
@@ -35,268 +35,123 @@ pub fn measure<R: Host>(table: Table<R>) -> io::Result<()> {
 
 fn measure_alone<R: Host>(table: Table<R>) -> io::Result<()> {
     let pool = Pool::new(table.rt.alloc(), 1, NoTime, table.rt)?;
-    let adds = Adds {
-        pool: pool.clone()?,
+    measure_at_once(table, &pool)?;
+    measure_polls(table, &pool)?;
+    measure_waits(table, &pool)
+}
+
+// The pool has no object at first, and one from then on.
+fn measure_at_once<R: Host>(table: Table<R>, pool: &ZeroPool<R>) -> io::Result<()> {
+    let adds = |times: u32| -> io::Result<()> {
+        for _time in 0..times {
+            if pool.try_add(0).is_err() {
+                return Err(lacks_place());
+            }
+            if pool.try_remove().is_err() {
+                return Err(lacks_object());
+            }
+        }
+        Ok(())
     };
     table.figure("add and remove, at once", &adds)?;
     if pool.try_add(0).is_err() {
-        return Err(io::Error::other("an object was not added"));
+        return Err(lacks_place());
     }
-    measure_gets(table, &pool)
+    let tries = |times: u32| -> io::Result<()> {
+        for _time in 0..times {
+            let Ok(object) = pool.try_get() else {
+                return Err(lacks_object());
+            };
+            drop(object);
+        }
+        Ok(())
+    };
+    table.figure("get and return, at once", &tries)
 }
 
-// The pool has one object.
-fn measure_gets<R: Host>(table: Table<R>, pool: &ZeroPool<R>) -> io::Result<()> {
-    table.figure("get and return, at once", &Tries::new(pool)?)?;
-    table.figure(
-        "get and return, polled by hand",
-        &Polls::new(table.rt, pool)?,
-    )?;
-    table.figure(
-        "borrowed get and return, by hand",
-        &Borrows::new(table.rt, pool)?,
-    )?;
-    table.figure("get and return, by a waiter", &Waits::new(table.rt, pool)?)?;
-    table.figure("get and return, by one begun", &Rows::new(table.rt, pool)?)?;
-    table.figure("get and return, by block_on", &Blocks::new(table.rt, pool)?)
+// All gets of a window are polled in one poll of one task.
+fn measure_polls<R: Host>(table: Table<R>, pool: &ZeroPool<R>) -> io::Result<()> {
+    let task = Solo::new(&table.rt, Doorbell::spinning())?;
+    let polls = |times| {
+        let mut cx = task.begin();
+        let mut served = 0u32;
+        for _time in 0..times {
+            if let Poll::Ready(Ok(object)) = pool.get().poll(&mut cx) {
+                drop(object);
+                served = served.saturating_add(1);
+            }
+        }
+        cx.cancel();
+        all_served(served, times)
+    };
+    table.figure("get and return, polled by hand", &polls)?;
+    let borrows = |times| {
+        let mut cx = task.begin();
+        let mut served = 0u32;
+        for _time in 0..times {
+            if let Poll::Ready(Ok(object)) = pool.get_ref().poll(&mut cx) {
+                drop(object);
+                served = served.saturating_add(1);
+            }
+        }
+        cx.cancel();
+        all_served(served, times)
+    };
+    table.figure("borrowed get and return, by hand", &borrows)
+}
+
+// By what a thread keeps to wait by, and by an executor for each get.
+fn measure_waits<R: Host>(table: Table<R>, pool: &ZeroPool<R>) -> io::Result<()> {
+    let rt = &table.rt;
+    let waits = |times: u32| -> io::Result<()> {
+        let mut waiter = Waiter::new(rt)?;
+        for _time in 0..times {
+            let Ok(object) = waiter.get_unmanaged(rt, pool) else {
+                return Err(lacks_object());
+            };
+            drop(object);
+        }
+        Ok(())
+    };
+    table.figure("get and return, by a waiter", &waits)?;
+    let begun = |times: u32| -> io::Result<()> {
+        let mut waiter = Waiter::new(rt)?;
+        let mut waiting = waiter.begin();
+        for _time in 0..times {
+            let Ok(object) = waiting.get_unmanaged(rt, pool) else {
+                return Err(lacks_object());
+            };
+            drop(object);
+        }
+        Ok(())
+    };
+    table.figure("get and return, by one begun", &begun)?;
+    let blocks = |times: u32| -> io::Result<()> {
+        for _time in 0..times {
+            let Ok(object) = block_on(rt, pool.get())? else {
+                return Err(lacks_object());
+            };
+            drop(object);
+        }
+        Ok(())
+    };
+    table.figure("get and return, by block_on", &blocks)
 }
 
 // The pool has no object, so every get waits.
 fn measure_cancels<R: Host>(table: Table<R>) -> io::Result<()> {
-    for waiters in table.scale.waiters {
-        cancel_gets(table, waiters)?;
-    }
-    Ok(())
+    let line = PoolLine {
+        pool: Pool::new(table.rt.alloc(), 1, NoTime, table.rt)?,
+        task: MockTask::new(&table.rt)?,
+    };
+    cancel_gets(table, line)
 }
 
-// Cancels gets while so many wait.
-fn cancel_gets<R: Host>(table: Table<R>, waiters: usize) -> io::Result<()> {
-    let mut lines = Vec::new(table.rt.alloc());
-    lines.push(PoolLine::new(table.rt)?)?;
-    cancels(table, "cancel in the middle", lines, waiters)
-}
-
-// Adds an object and removes it, neither of which waits.
-#[derive(Drop)]
-struct Adds<R: Host> {
-    pool: ZeroPool<R>,
-}
-
-impl<R: Host> Work for Adds<R> {
-    fn repeat(&self, times: u32) -> io::Result<()> {
-        for _time in 0..times {
-            if self.pool.try_add(0).is_err() {
-                return Err(io::Error::other("an object was not added"));
-            }
-            if self.pool.try_remove().is_err() {
-                return Err(lacks_object());
-            }
-        }
-        Ok(())
-    }
-}
-
-// Gets an object and gives it back, without a future.
-#[derive(Drop)]
-struct Tries<R: Host> {
-    pool: ZeroPool<R>,
-}
-
-impl<R: Host> Tries<R> {
-    fn new(pool: &ZeroPool<R>) -> io::Result<Self> {
-        Ok(Tries {
-            pool: pool.clone()?,
-        })
-    }
-}
-
-impl<R: Host> Work for Tries<R> {
-    fn repeat(&self, times: u32) -> io::Result<()> {
-        for _time in 0..times {
-            let Ok(object) = self.pool.try_get() else {
-                return Err(lacks_object());
-            };
-            drop(object);
-        }
-        Ok(())
-    }
-}
-
-// Gets an object and gives it back, in a poll of one task.
-#[derive(Drop)]
-struct Polls<R: Host> {
-    pool: ZeroPool<R>,
-    task: Solo,
-}
-
-impl<R: Host> Polls<R> {
-    fn new(rt: R, pool: &ZeroPool<R>) -> io::Result<Self> {
-        Ok(Polls {
-            pool: pool.clone()?,
-            task: Solo::new(&rt, Doorbell::spinning())?,
-        })
-    }
-}
-
-impl<R: Host> Work for Polls<R> {
-    fn repeat(&self, times: u32) -> io::Result<()> {
-        let mut cx = self.task.begin();
-        let mut served = 0u32;
-        for _time in 0..times {
-            if let Poll::Ready(Ok(object)) = self.pool.get().poll(&mut cx) {
-                drop(object);
-                served = served.saturating_add(1);
-            }
-        }
-        cx.cancel();
-        if served == times {
-            Ok(())
-        } else {
-            Err(lacks_object())
-        }
-    }
-}
-
-// The same by gets that borrow the pool.
-#[derive(Drop)]
-struct Borrows<R: Host> {
-    pool: ZeroPool<R>,
-    task: Solo,
-}
-
-impl<R: Host> Borrows<R> {
-    fn new(rt: R, pool: &ZeroPool<R>) -> io::Result<Self> {
-        Ok(Borrows {
-            pool: pool.clone()?,
-            task: Solo::new(&rt, Doorbell::spinning())?,
-        })
-    }
-}
-
-impl<R: Host> Work for Borrows<R> {
-    fn repeat(&self, times: u32) -> io::Result<()> {
-        let mut cx = self.task.begin();
-        let mut served = 0u32;
-        for _time in 0..times {
-            if let Poll::Ready(Ok(object)) = self.pool.get_ref().poll(&mut cx) {
-                drop(object);
-                served = served.saturating_add(1);
-            }
-        }
-        cx.cancel();
-        if served == times {
-            Ok(())
-        } else {
-            Err(lacks_object())
-        }
-    }
-}
-
-// The same by what a thread keeps to wait by.
-#[derive(Drop)]
-struct Waits<R: Host> {
-    pool: ZeroPool<R>,
-    rt: R,
-}
-
-impl<R: Host> Waits<R> {
-    fn new(rt: R, pool: &ZeroPool<R>) -> io::Result<Self> {
-        Ok(Waits {
-            pool: pool.clone()?,
-            rt,
-        })
-    }
-}
-
-impl<R: Host> Work for Waits<R> {
-    fn repeat(&self, times: u32) -> io::Result<()> {
-        let mut waiter = Waiter::new(&self.rt)?;
-        for _time in 0..times {
-            let Ok(object) = waiter.get_unmanaged(&self.rt, &self.pool) else {
-                return Err(lacks_object());
-            };
-            drop(object);
-        }
-        Ok(())
-    }
-}
-
-// The same by such a waiter that has begun.
-#[derive(Drop)]
-struct Rows<R: Host> {
-    pool: ZeroPool<R>,
-    rt: R,
-}
-
-impl<R: Host> Rows<R> {
-    fn new(rt: R, pool: &ZeroPool<R>) -> io::Result<Self> {
-        Ok(Rows {
-            pool: pool.clone()?,
-            rt,
-        })
-    }
-}
-
-impl<R: Host> Work for Rows<R> {
-    fn repeat(&self, times: u32) -> io::Result<()> {
-        let mut waiter = Waiter::new(&self.rt)?;
-        let mut waiting = waiter.begin();
-        for _time in 0..times {
-            let Ok(object) = waiting.get_unmanaged(&self.rt, &self.pool) else {
-                return Err(lacks_object());
-            };
-            drop(object);
-        }
-        Ok(())
-    }
-}
-
-// The same, each get in a task of its own.
-#[derive(Drop)]
-struct Blocks<R: Host> {
-    pool: ZeroPool<R>,
-    rt: R,
-}
-
-impl<R: Host> Blocks<R> {
-    fn new(rt: R, pool: &ZeroPool<R>) -> io::Result<Self> {
-        Ok(Blocks {
-            pool: pool.clone()?,
-            rt,
-        })
-    }
-}
-
-impl<R: Host> Work for Blocks<R> {
-    fn repeat(&self, times: u32) -> io::Result<()> {
-        for _time in 0..times {
-            let Ok(object) = block_on(&self.rt, self.pool.get())? else {
-                return Err(lacks_object());
-            };
-            drop(object);
-        }
-        Ok(())
-    }
-}
-
-// Gets an object, holds it over a yield, and gives it back.
+// Gets an object by what its thread keeps to wait by, holds it over a yield, and gives it back.
 #[derive(Drop)]
 struct Holds<R: Host> {
     pool: ZeroPool<R>,
     rt: R,
-}
-
-impl<R: Host> Work for Holds<R> {
-    fn repeat(&self, times: u32) -> io::Result<()> {
-        for _time in 0..times {
-            let Ok(object) = block_on(&self.rt, self.pool.get())? else {
-                return Err(lacks_object());
-            };
-            thread::yield_now();
-            drop(object);
-        }
-        Ok(())
-    }
 }
 
 impl<R: Host> SharedWork for Holds<R> {
@@ -306,6 +161,18 @@ impl<R: Host> SharedWork for Holds<R> {
             rt: self.rt,
         })
     }
+
+    fn repeat(&self, times: u32) -> io::Result<()> {
+        let mut waiter = Waiter::new(&self.rt)?;
+        for _time in 0..times {
+            let Ok(object) = waiter.get_unmanaged(&self.rt, &self.pool) else {
+                return Err(lacks_object());
+            };
+            thread::yield_now();
+            drop(object);
+        }
+        Ok(())
+    }
 }
 
 // The gets that wait in a pool.
@@ -313,15 +180,6 @@ impl<R: Host> SharedWork for Holds<R> {
 struct PoolLine<R: Host> {
     pool: ZeroPool<R>,
     task: MockTask,
-}
-
-impl<R: Host> PoolLine<R> {
-    fn new(rt: R) -> io::Result<Self> {
-        Ok(PoolLine {
-            pool: Pool::new(rt.alloc(), 1, NoTime, rt)?,
-            task: MockTask::new(&rt)?,
-        })
-    }
 }
 
 impl<R: Host> Line for PoolLine<R> {
@@ -344,6 +202,6 @@ impl<R: Host> Line for PoolLine<R> {
     }
 }
 
-fn lacks_object() -> io::Error {
-    io::Error::other("the unmanaged pool gave no object")
+fn lacks_place() -> io::Error {
+    io::Error::other("an object was not added")
 }

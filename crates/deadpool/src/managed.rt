@@ -5,13 +5,14 @@
 
 pub mod desk;
 
+pub use deadpool_builder::{OpenPool, PoolBuilder, PoolParts};
 pub use deadpool_managed::{
     AsyncHook, BuildError, ConfigError, CreatePoolError, FnHook, Hook, HookAnswer, HookError,
     HookResult, Manager, Metrics, NoHook, ObjectId, PoolConfig, PoolError, QueueMode, RecycleError,
     RecycleResult, RetainResult, Status, SyncHook, TimeoutType, Timeouts,
 };
 pub use deadpool_shared::{
-    Blanks, Entry, Get, GetRef, Journal, Ledgers, Object, OpenPool, Pool, PoolBuilder, WeakPool,
+    Blanks, Build, Entry, Get, GetRef, Journal, Ledgers, Object, Pool, WeakPool,
 };
 
 /// What a user of a pool names beside it, for a crate that gives a pool of its own out.

@@ -1,14 +1,14 @@
 -- Both pools behind pointers. In the order in which it can be read.
 
--- Replies as plain numbers; the steps of both pools by these.
+-- Replies and steps as plain numbers; the steps of both pools by these.
 pub mod Replies
+pub mod ManagedSteps
 pub mod ManagedReplies
 pub mod UnmanagedReplies
 -- The keys that a step gives up; a retain by a choice that was made beforehand.
 pub mod Keys
 pub mod Choices
 -- The entries of a journal as plain numbers.
-pub mod EntryReplies
 pub mod Entries
 -- What a block owns.
 pub mod ManagedOwned

@@ -5,7 +5,6 @@ use Rattle.deadpool_parts.specs.declared.replies.StepReply.{StepReply}
 use Rattle.deadpool_parts.specs.declared.replies.StepReply.TheVariants as step
 use Rattle.deadpool_parts.specs.declared.replies.HandleReply.{HandleReply}
 use Rattle.deadpool_parts.specs.declared.replies.HandleReply.TheVariants as handle
-use Rattle.deadpool_desk.specs.declared.slot.Slot.{Slot}
 use Rattle.deadpool_c.specs.declared.reply.Reply.{Reply}
 use Rattle.deadpool_c.specs.declared.reply.Standing.{Standing}
 use Rattle.deadpool_c.specs.declared.reply.TheConstants.{UNKNOWN, DONE, NO_HANDLE}
@@ -18,10 +17,6 @@ numbered kind number = keyed kind number 0
 
 abbrev pub plain : ℕ → Reply
 plain kind = numbered kind 0
-
--- an object by its number and key
-abbrev pub of_object : ℕ → Slot ℕ → ℕ → Reply
-of_object kind slot left = record { kind = kind; number = slot.number; key = slot.value; left = left }
 
 abbrev pub raw_step : StepReply → Reply
 raw_step step.Done = plain DONE

@@ -1,22 +1,29 @@
 //! Entries of a journal as plain numbers.
 ghost use Rattle.std.specs.Prelude.{◌≡◌, Some, None};
-ghost use Rattle.deadpool_c.specs.Entries.{noted, noted_at, removed_at, noted_cancel};
+ghost use Rattle.deadpool_c.specs.Entries.{noted, noted_at, noted_made, noted_retain, removed_at};
 
-use crate::reply::{self, DONE, NO_HANDLE, Reply, Standing, UNKNOWN, plain};
-use crate::{entry_reply, managed_reply};
-use deadpool_desk::{Held, StepReply};
+use crate::managed_reply;
+use crate::reply::{
+    self, DONE, NO_HANDLE, OUT_OF_MEMORY, Reply, Standing, UNKNOWN, numbered, plain,
+};
+use crate::step::{
+    AGAIN, ASK, BACK, CANCEL_CREATION, CANCEL_OBJECT, CANCEL_PLACE, CLONE_HANDLE, CLOSE, DISCARD,
+    DROP_HANDLE, ENTER, FAILED, NEW_OBJECT, NO_ENTRY, REFUSED, RESIZE, RETAIN, STATUS, TAKE,
+    UPGRADE, WITHDRAW,
+};
+use deadpool_desk::{Held, Removals, Step};
 use deadpool_journal::Entry;
+use std::alloc::AllocError;
 
 /// A step of a pool as its journal has it.
 #[repr(C)]
 #[derive(Clone, Copy, Debug, PartialEq, Eq)]
 pub struct NotedStep {
-    /// One of the constants of this module.
+    /// One of the constants from `NO_ENTRY` to `UPGRADE`.
     pub step: u64,
-    /// Of `ENTER` whether the get may wait, of `ASK` whether it has waited long enough, of `AGAIN` whether an
-    /// allowance is set.
+    /// As the step was asked for.
     pub is_set: bool,
-    /// The ticket, the allowance, the number of an object, or the limit that the step was given.
+    /// As the step was asked for, or the limit of a resize.
     pub number: usize,
     /// The reply that the step had.
     pub reply: Reply,
@@ -24,70 +31,7 @@ pub struct NotedStep {
     pub standing: Standing,
 }
 
-/// There is no entry at this position.
-pub const NO_ENTRY: u64 = 0;
-
-/// A new get has asked for a place.
-pub const ENTER: u64 = 1;
-
-/// A queued get has asked by its ticket.
-pub const ASK: u64 = 2;
-
-/// A get that holds a place went on.
-pub const AGAIN: u64 = 3;
-
-/// A get has given up an object that was idle, and kept its place.
-pub const DISCARD: u64 = 4;
-
-/// A creation has ended well.
-pub const NEW_OBJECT: u64 = 5;
-
-/// A creation has ended without an object.
-pub const FAILED: u64 = 6;
-
-/// A get has given up a new object.
-pub const REFUSED: u64 = 7;
-
-/// An object came back.
-pub const BACK: u64 = 8;
-
-/// A get in the queue was given up.
-pub const CANCEL_TICKET: u64 = 9;
-
-/// A get was given up that held a place and nothing else.
-pub const CANCEL_PLACE: u64 = 10;
-
-/// A get was given up with a creation under way.
-pub const CANCEL_CREATION: u64 = 11;
-
-/// A get was given up with an object under preparation.
-pub const CANCEL_OBJECT: u64 = 12;
-
-/// The pool was asked how it stands.
-pub const STATUS: u64 = 13;
-
-/// An object was to leave the pool for good.
-pub const TAKE: u64 = 14;
-
-/// The pool was given another limit.
-pub const RESIZE: u64 = 15;
-
-/// Each idle object was asked about.
-pub const RETAIN: u64 = 16;
-
-/// The pool has closed.
-pub const CLOSE: u64 = 17;
-
-/// A handle was to be counted.
-pub const CLONE_HANDLE: u64 = 18;
-
-/// A handle was given back.
-pub const DROP_HANDLE: u64 = 19;
-
-/// An owner that has none asked for one handle more.
-pub const UPGRADE: u64 = 20;
-
-fn step(step: u64, is_set: bool, number: usize, reply: Reply) -> NotedStep
+fn noted_as(step: u64, is_set: bool, number: usize, reply: Reply) -> NotedStep
     ensures { result ≡ noted step is_set number reply }
 {
     NotedStep {
@@ -108,7 +52,7 @@ fn step(step: u64, is_set: bool, number: usize, reply: Reply) -> NotedStep
 pub fn no_entry() -> NotedStep
     ensures { result ≡ noted_at None }
 {
-    step(NO_ENTRY, false, 0, plain(UNKNOWN))
+    noted_as(NO_ENTRY, false, 0, plain(UNKNOWN))
 }
 
 /// An entry as plain numbers.
@@ -116,26 +60,10 @@ pub fn noted(entry: &Entry) -> NotedStep
     ensures { result ≡ noted_at (Some entry.now) }
 {
     match entry {
-        Entry::Enter(wait, reply) => step(ENTER, *wait, 0, entry_reply::enter(reply)),
-        Entry::Ask(ticket, expired, reply) => step(
-            ASK,
-            *expired,
-            ticket.number(),
-            entry_reply::ask(reply),
-        ),
-        Entry::Again(None, reply) => step(AGAIN, false, 0, entry_reply::again(reply)),
-        Entry::Again(Some(allowance), reply) => step(
-            AGAIN,
-            true,
-            *allowance,
-            entry_reply::again(reply),
-        ),
-        Entry::Discard(reply) => step(DISCARD, false, 0, reply::step(*reply)),
-        Entry::Created(reply) => step(NEW_OBJECT, false, 0, managed_reply::created(*reply)),
-        Entry::Failed(reply) => step(FAILED, false, 0, reply::step(*reply)),
-        Entry::Refused(reply) => step(REFUSED, false, 0, reply::step(*reply)),
-        Entry::Back(number, reply) => step(BACK, false, *number, entry_reply::back(reply)),
-        Entry::Cancel(held, reply) => cancelled(*held, *reply),
+        Entry::Made(step, object, reply) => {
+            let object = object.unwrap_or(0);
+            made(step, object, managed_reply::made(reply, object, 0))
+        }
         Entry::Status(status) => NotedStep {
             step: STATUS,
             is_set: false,
@@ -143,14 +71,18 @@ pub fn noted(entry: &Entry) -> NotedStep
             reply: plain(DONE),
             standing: reply::stood(*status),
         },
-        Entry::Take(reply) => step(TAKE, false, 0, managed_reply::take(*reply)),
-        Entry::Resize(limit, reply) => step(RESIZE, false, *limit, entry_reply::resize(*reply)),
-        Entry::Retain(reply) => step(RETAIN, false, 0, entry_reply::retain(reply)),
-        Entry::Close => step(CLOSE, false, 0, plain(DONE)),
-        Entry::CloneHandle(reply) => step(CLONE_HANDLE, false, 0, reply::handle(*reply)),
-        Entry::DropHandle(reply) => step(DROP_HANDLE, false, 0, reply::handle(*reply)),
+        Entry::Resize(limit, reply) => noted_as(
+            RESIZE,
+            false,
+            *limit,
+            managed_reply::resize(*reply, 0),
+        ),
+        Entry::Retain(reply) => noted_as(RETAIN, false, 0, retained(reply)),
+        Entry::Close => noted_as(CLOSE, false, 0, plain(DONE)),
+        Entry::CloneHandle(reply) => noted_as(CLONE_HANDLE, false, 0, reply::handle(*reply)),
+        Entry::DropHandle(reply) => noted_as(DROP_HANDLE, false, 0, reply::handle(*reply)),
         Entry::Upgrade(is_left) => {
-            step(
+            noted_as(
                 UPGRADE,
                 false,
                 0,
@@ -160,15 +92,37 @@ pub fn noted(entry: &Entry) -> NotedStep
     }
 }
 
-fn cancelled(held: Held, reply: StepReply) -> NotedStep
-    ensures { result ≡ noted_cancel held reply }
+// A step of a get or an object, by the numbers that ask for it.
+fn made(step: &Step, object: usize, reply: Reply) -> NotedStep
+    ensures { result ≡ noted_made step.now object reply }
 {
-    let reply = reply::step(reply);
-    match held {
-        Held::Ticket(ticket) => step(CANCEL_TICKET, false, ticket.number(), reply),
-        Held::Place => step(CANCEL_PLACE, false, 0, reply),
-        Held::Creation => step(CANCEL_CREATION, false, 0, reply),
-        Held::Object => step(CANCEL_OBJECT, false, 0, reply),
+    match step {
+        Step::Enter { wait } => noted_as(ENTER, *wait, 0, reply),
+        Step::Ask { ticket, expired } => noted_as(ASK, *expired, ticket.number(), reply),
+        Step::Again { allowance: None } => noted_as(AGAIN, false, 0, reply),
+        Step::Again {
+            allowance: Some(allowance),
+        } => noted_as(AGAIN, true, *allowance, reply),
+        Step::Discard => noted_as(DISCARD, false, 0, reply),
+        Step::Created => noted_as(NEW_OBJECT, false, 0, reply),
+        Step::Failed => noted_as(FAILED, false, 0, reply),
+        Step::Refused => noted_as(REFUSED, false, 0, reply),
+        Step::Back => noted_as(BACK, false, object, reply),
+        Step::Withdraw { ticket } => noted_as(WITHDRAW, false, ticket.number(), reply),
+        Step::Cancel(Held::Place) => noted_as(CANCEL_PLACE, false, 0, reply),
+        Step::Cancel(Held::Creation) => noted_as(CANCEL_CREATION, false, 0, reply),
+        Step::Cancel(Held::Object) => noted_as(CANCEL_OBJECT, false, 0, reply),
+        Step::Take => noted_as(TAKE, false, 0, reply),
+    }
+}
+
+// How many were removed.
+fn retained(reply: &Result<Removals, AllocError>) -> Reply
+    ensures { result ≡ noted_retain reply.now }
+{
+    match reply {
+        Ok(removals) => numbered(DONE, removals.as_slice().len()),
+        Err(_) => plain(OUT_OF_MEMORY),
     }
 }
 

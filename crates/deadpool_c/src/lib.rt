@@ -1,4 +1,4 @@
-//! The steps of both pools for programs that are not Rattle: one call a step, on a pool behind a pointer.
+//! The steps of both pools for programs that are not Rattle, each a call on a pool behind a pointer.
 //!
 //! An object is a key of the caller's, any `u64`, and in a managed pool its number too. The caller keeps the values
 //! by key, the wakers by ticket, and a lock: it makes one call at a time on a pool. `deadpool_managed_new` and
@@ -8,7 +8,6 @@
 
 mod choice;
 mod entry;
-mod entry_reply;
 mod keys;
 pub mod managed;
 mod managed_block;
@@ -18,6 +17,7 @@ mod managed_reply;
 mod managed_state;
 mod managed_steps;
 mod reply;
+mod step;
 pub mod unmanaged;
 mod unmanaged_block;
 mod unmanaged_reply;

@@ -1,13 +1,13 @@
-//! The steps that gets and objects make at a managed pool.
+//! A managed pool: how it is made and ended, the steps that gets and objects make, and who is to be woken.
 ghost use Rattle.std.specs.Prelude.{◌≡◌, true, []};
 ghost use denote.RawPtr.{InBlock};
 ghost use Rattle.deadpool_desk.specs.DeskState.{new_core};
-ghost use Rattle.deadpool_desk.specs.declared.desk.Held.{Held};
 ghost use Rattle.deadpool_journal.specs.LogState.{no_entries};
-ghost use Rattle.deadpool_c.specs.ManagedReplies.{EntersRaw, AsksRaw, AsksAgainRaw, DiscardsRaw, CreatesRaw, FailsRaw, RefusesRaw, TakesBackRaw, CancelsRaw, TakesRaw, StandsRaw, TellsRaw, allowance_of, mode_of};
+ghost use Rattle.deadpool_c.specs.ManagedReplies.{MakesRaw, StandsRaw, TellsRaw, mode_of};
+ghost use Rattle.deadpool_c.specs.ManagedSteps.{step_of};
 
 use crate::managed_block::ManagedPool;
-use crate::managed_steps::{self, Opening};
+use crate::managed_steps::{self, Asked, Opening};
 use crate::reply::{Reply, Standing};
 use core::mem::replace_with;
 use std::alloc::Global;
@@ -53,147 +53,29 @@ pub extern "C" fn deadpool_managed_free(pool: ManagedPool)
     drop(pool.into_state());
 }
 
-/// A new get asks for a place, and joins the queue if none is free and `wait` says so: `OBJECT` with its number, its
-/// key and in `left` how many more this poll may take, `CREATE`, `EXHAUSTED`, `CLOSED`, `FULL`, `WAITING` with a
-/// ticket, or `OUT_OF_MEMORY`.
+/// Makes a step of a get or an object: `step` is one of the constants from `ENTER` to `TAKE`. Each of them says what
+/// `is_set`, `number` and `key` are to it, and which replies it has; what it does not name is not looked at. Another
+/// `step` is none: the reply is `UNKNOWN`, and nothing has changed.
 #[unsafe(no_mangle)]
-pub extern "C" fn deadpool_managed_enter(pool: &mut ManagedPool, wait: bool) -> Reply
-    requires { InBlock pool.old.at }
-    ensures step { EntersRaw pool.old.state.pool wait result pool.new.state.pool }
-    ensures made { InBlock pool.new.at }
-{
-    replace_with(pool, wait, managed_steps::enter)
-}
-
-/// A get in the queue asks for its place. `expired` says that it has waited long enough. `OBJECT`, `CREATE`,
-/// `EXHAUSTED`, `CLOSED`, `EXPIRED`, `WAITING` or `UNKNOWN`.
-#[unsafe(no_mangle)]
-pub extern "C" fn deadpool_managed_ask(
+pub extern "C" fn deadpool_managed_make(
     pool: &mut ManagedPool,
-    ticket: usize,
-    expired: bool,
-) -> Reply
-    requires { InBlock pool.old.at }
-    ensures step { AsksRaw pool.old.state.pool ticket expired result pool.new.state.pool }
-    ensures made { InBlock pool.new.at }
-{
-    replace_with(pool, (ticket, expired), managed_steps::ask)
-}
-
-/// A get that holds a place is served. It may take so many idle objects; as many as are idle if `is_set` is false.
-/// `OBJECT`, `CREATE`, `GOING`, `EXHAUSTED` or `UNKNOWN`.
-#[unsafe(no_mangle)]
-pub extern "C" fn deadpool_managed_again(
-    pool: &mut ManagedPool,
+    step: u64,
     is_set: bool,
-    allowance: usize,
+    number: usize,
+    key: u64,
 ) -> Reply
     requires { InBlock pool.old.at }
-    ensures step { AsksAgainRaw pool.old.state.pool
-        (allowance_of is_set allowance) result pool.new.state.pool }
+    ensures step { MakesRaw pool.old.state.pool
+        (step_of step is_set number) number key result pool.new.state.pool }
     ensures made { InBlock pool.new.at }
 {
-    replace_with(pool, (is_set, allowance), managed_steps::again)
-}
-
-/// An object that was idle, and is prepared, is given up, and its get keeps the place: `DONE`, `UNKNOWN`.
-#[unsafe(no_mangle)]
-pub extern "C" fn deadpool_managed_discard(pool: &mut ManagedPool) -> Reply
-    requires { InBlock pool.old.at }
-    ensures step { DiscardsRaw pool.old.state.pool result pool.new.state.pool }
-    ensures made { InBlock pool.new.at }
-{
-    replace_with(pool, (), managed_steps::discard)
-}
-
-/// A creation under way has ended well: `CREATED` with the number of the object, `UNKNOWN`.
-#[unsafe(no_mangle)]
-pub extern "C" fn deadpool_managed_created(pool: &mut ManagedPool) -> Reply
-    requires { InBlock pool.old.at }
-    ensures step { CreatesRaw pool.old.state.pool result pool.new.state.pool }
-    ensures made { InBlock pool.new.at }
-{
-    replace_with(pool, (), managed_steps::created)
-}
-
-/// A creation under way has ended without an object: `DONE`, `UNKNOWN`.
-#[unsafe(no_mangle)]
-pub extern "C" fn deadpool_managed_failed(pool: &mut ManagedPool) -> Reply
-    requires { InBlock pool.old.at }
-    ensures step { FailsRaw pool.old.state.pool result pool.new.state.pool }
-    ensures made { InBlock pool.new.at }
-{
-    replace_with(pool, (), managed_steps::failed)
-}
-
-/// A new object is given up: `DONE`, `UNKNOWN`.
-#[unsafe(no_mangle)]
-pub extern "C" fn deadpool_managed_refused(pool: &mut ManagedPool) -> Reply
-    requires { InBlock pool.old.at }
-    ensures step { RefusesRaw pool.old.state.pool result pool.new.state.pool }
-    ensures made { InBlock pool.new.at }
-{
-    replace_with(pool, (), managed_steps::refused)
-}
-
-/// An object comes back under its number and key: `KEPT`, or with both `DETACH`, `DROPPED` or `UNKNOWN`.
-#[unsafe(no_mangle)]
-pub extern "C" fn deadpool_managed_back(pool: &mut ManagedPool, number: usize, key: u64) -> Reply
-    requires { InBlock pool.old.at }
-    ensures step { TakesBackRaw pool.old.state.pool number key result pool.new.state.pool }
-    ensures made { InBlock pool.new.at }
-{
-    replace_with(pool, (number, key), managed_steps::back)
-}
-
-/// An object that is out leaves the pool for good, and its place is free: `DETACH` or `TAKEN`, or `UNKNOWN`.
-#[unsafe(no_mangle)]
-pub extern "C" fn deadpool_managed_take(pool: &mut ManagedPool) -> Reply
-    requires { InBlock pool.old.at }
-    ensures step { TakesRaw pool.old.state.pool result pool.new.state.pool }
-    ensures made { InBlock pool.new.at }
-{
-    replace_with(pool, (), managed_steps::take)
-}
-
-/// A get in the queue is given up: `DONE`, `UNKNOWN`.
-#[unsafe(no_mangle)]
-pub extern "C" fn deadpool_managed_cancel_ticket(pool: &mut ManagedPool, ticket: usize) -> Reply
-    requires { InBlock pool.old.at }
-    ensures step { CancelsRaw pool.old.state.pool (Held.Ticket ticket) result pool.new.state.pool }
-    ensures made { InBlock pool.new.at }
-{
-    replace_with(pool, ticket, managed_steps::cancel_ticket)
-}
-
-/// A get that holds a place and nothing else is given up: `DONE`, `UNKNOWN`.
-#[unsafe(no_mangle)]
-pub extern "C" fn deadpool_managed_cancel_place(pool: &mut ManagedPool) -> Reply
-    requires { InBlock pool.old.at }
-    ensures step { CancelsRaw pool.old.state.pool Held.Place result pool.new.state.pool }
-    ensures made { InBlock pool.new.at }
-{
-    replace_with(pool, (), managed_steps::cancel_place)
-}
-
-/// A get with a creation under way is given up: `DONE`, `UNKNOWN`.
-#[unsafe(no_mangle)]
-pub extern "C" fn deadpool_managed_cancel_creation(pool: &mut ManagedPool) -> Reply
-    requires { InBlock pool.old.at }
-    ensures step { CancelsRaw pool.old.state.pool Held.Creation result pool.new.state.pool }
-    ensures made { InBlock pool.new.at }
-{
-    replace_with(pool, (), managed_steps::cancel_creation)
-}
-
-/// A get with an object under preparation is given up: `DONE`, `UNKNOWN`.
-#[unsafe(no_mangle)]
-pub extern "C" fn deadpool_managed_cancel_object(pool: &mut ManagedPool) -> Reply
-    requires { InBlock pool.old.at }
-    ensures step { CancelsRaw pool.old.state.pool Held.Object result pool.new.state.pool }
-    ensures made { InBlock pool.new.at }
-{
-    replace_with(pool, (), managed_steps::cancel_object)
+    let asked = Asked {
+        step,
+        is_set,
+        number,
+        key,
+    };
+    replace_with(pool, asked, managed_steps::make)
 }
 
 /// How the pool stands.

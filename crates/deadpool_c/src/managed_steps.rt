@@ -3,16 +3,17 @@
 ghost use Rattle.std.specs.Prelude.{◌≡◌, [], IfOk};
 ghost use denote.RawPtr.{InBlock};
 ghost use Rattle.deadpool_desk.specs.DeskState.{new_core};
+ghost use Rattle.deadpool_desk.specs.Replies.{Brings};
+ghost use Rattle.deadpool_desk.specs.declared.metrics.Metrics.{Metrics};
 ghost use Rattle.deadpool_journal.specs.LogState.{no_entries};
-ghost use Rattle.deadpool_desk.specs.declared.desk.Held.{Held};
-ghost use Rattle.deadpool_c.specs.ManagedReplies.{EntersRaw, AsksRaw, AsksAgainRaw, DiscardsRaw, CreatesRaw, FailsRaw, RefusesRaw, TakesBackRaw, CancelsRaw, TakesRaw, StandsRaw, TellsRaw, allowance_of, mode_of};
+ghost use Rattle.deadpool_c.specs.ManagedReplies.{MakesRaw, StandsRaw, TellsRaw, mode_of};
+ghost use Rattle.deadpool_c.specs.ManagedSteps.{brought, step_of};
 
 use crate::managed_block::ManagedPool;
-use crate::managed_reply;
 use crate::managed_state::ManagedState;
-use crate::reply::{self, Reply, Standing};
-use deadpool_desk::gate::Ticket;
-use deadpool_desk::{Desk, Held, Metrics, Moment, OwnerDesk, QueueMode, Slot};
+use crate::reply::{self, Reply, Standing, UNKNOWN, plain};
+use crate::{managed_reply, step};
+use deadpool_desk::{Desk, Metrics, Moment, OwnerDesk, QueueMode, Slot, Step};
 use deadpool_journal::Journaled;
 use std::alloc::{AllocError, Global};
 
@@ -26,6 +27,15 @@ pub struct Opening {
     pub most_entries: usize,
     /// How many objects a resize and a retain leave idle, if as many are.
     pub min_idle: usize,
+}
+
+/// A step as the caller asks for it.
+pub struct Asked {
+    /// One of the constants of `step.rt`, which says there what the others are to it.
+    pub step: u64,
+    pub is_set: bool,
+    pub number: usize,
+    pub key: u64,
 }
 
 pub fn open(alloc: Global, opening: Opening) -> Result<ManagedPool, AllocError>
@@ -51,144 +61,44 @@ pub fn open(alloc: Global, opening: Opening) -> Result<ManagedPool, AllocError>
     Ok(ManagedPool::of(state))
 }
 
-pub fn enter(pool: ManagedPool, wait: bool) -> (ManagedPool, Reply)
-    requires { InBlock pool.at }
-    ensures step { EntersRaw pool.state.pool wait result.1 result.0.state.pool }
-    ensures made { InBlock result.0.at }
+// What is in the hand before a step: an object that comes back, under this number and key.
+fn brought(step: &Step, number: usize, key: u64) -> Option<Slot<u64>>
+    ensures brings { Brings step.now result }
+    ensures object { (past : Metrics) × (result ≡ brought step.now number key past) }
 {
-    let mut state = pool.into_state();
-    let reply = state.pool.enter(wait);
-    (ManagedPool::of(state), managed_reply::enter(reply))
+    match step {
+        Step::Back => Some(Slot {
+            number,
+            value: key,
+            metrics: Metrics::new(Moment(0)),
+        }),
+        _ => None,
+    }
 }
 
-pub fn ask(pool: ManagedPool, asked: (usize, bool)) -> (ManagedPool, Reply)
+pub fn make(pool: ManagedPool, asked: Asked) -> (ManagedPool, Reply)
     requires { InBlock pool.at }
-    ensures step { AsksRaw pool.state.pool asked.0 asked.1 result.1 result.0.state.pool }
+    ensures step { MakesRaw pool.state.pool
+        (step_of asked.step asked.is_set asked.number) asked.number asked.key
+        result.1 result.0.state.pool }
     ensures made { InBlock result.0.at }
 {
-    let (number, expired) = asked;
-    let mut state = pool.into_state();
-    let reply = state.pool.ask(Ticket::from_number(number), expired);
-    (ManagedPool::of(state), managed_reply::ask(reply))
-}
-
-pub fn again(pool: ManagedPool, allowance: (bool, usize)) -> (ManagedPool, Reply)
-    requires { InBlock pool.at }
-    ensures step { AsksAgainRaw pool.state.pool
-        (allowance_of allowance.0 allowance.1) result.1 result.0.state.pool }
-    ensures made { InBlock result.0.at }
-{
-    let allowed = if allowance.0 { Some(allowance.1) } else { None };
-    let mut state = pool.into_state();
-    let reply = state.pool.again(allowed);
-    (ManagedPool::of(state), managed_reply::again(reply))
-}
-
-pub fn discard(pool: ManagedPool, _unit: ()) -> (ManagedPool, Reply)
-    requires { InBlock pool.at }
-    ensures step { DiscardsRaw pool.state.pool result.1 result.0.state.pool }
-    ensures made { InBlock result.0.at }
-{
-    let mut state = pool.into_state();
-    let reply = state.pool.discard();
-    (ManagedPool::of(state), reply::step(reply))
-}
-
-pub fn created(pool: ManagedPool, _unit: ()) -> (ManagedPool, Reply)
-    requires { InBlock pool.at }
-    ensures step { CreatesRaw pool.state.pool result.1 result.0.state.pool }
-    ensures made { InBlock result.0.at }
-{
-    let mut state = pool.into_state();
-    let reply = state.pool.created();
-    (ManagedPool::of(state), managed_reply::created(reply))
-}
-
-pub fn failed(pool: ManagedPool, _unit: ()) -> (ManagedPool, Reply)
-    requires { InBlock pool.at }
-    ensures step { FailsRaw pool.state.pool result.1 result.0.state.pool }
-    ensures made { InBlock result.0.at }
-{
-    let mut state = pool.into_state();
-    let reply = state.pool.failed();
-    (ManagedPool::of(state), reply::step(reply))
-}
-
-pub fn refused(pool: ManagedPool, _unit: ()) -> (ManagedPool, Reply)
-    requires { InBlock pool.at }
-    ensures step { RefusesRaw pool.state.pool result.1 result.0.state.pool }
-    ensures made { InBlock result.0.at }
-{
-    let mut state = pool.into_state();
-    let reply = state.pool.refused();
-    (ManagedPool::of(state), reply::step(reply))
-}
-
-pub fn back(pool: ManagedPool, object: (usize, u64)) -> (ManagedPool, Reply)
-    requires { InBlock pool.at }
-    ensures step { TakesBackRaw pool.state.pool object.0 object.1 result.1 result.0.state.pool }
-    ensures made { InBlock result.0.at }
-{
-    let (number, value) = object;
-    let slot = Slot {
+    let Asked {
+        step,
+        is_set,
         number,
-        value,
-        metrics: Metrics::new(Moment(0)),
+        key,
+    } = asked;
+    let Some(step) = step::asked(step, is_set, number) else {
+        return (pool, plain(UNKNOWN));
     };
+    let mut hand = brought(&step, number, key);
     let mut state = pool.into_state();
-    let reply = state.pool.back(slot);
-    (ManagedPool::of(state), managed_reply::back(reply))
-}
-
-pub fn take(pool: ManagedPool, _unit: ()) -> (ManagedPool, Reply)
-    requires { InBlock pool.at }
-    ensures step { TakesRaw pool.state.pool result.1 result.0.state.pool }
-    ensures made { InBlock result.0.at }
-{
-    let mut state = pool.into_state();
-    let reply = state.pool.take();
-    (ManagedPool::of(state), managed_reply::take(reply))
-}
-
-pub fn cancel_ticket(pool: ManagedPool, number: usize) -> (ManagedPool, Reply)
-    requires { InBlock pool.at }
-    ensures step { CancelsRaw pool.state.pool (Held.Ticket number) result.1 result.0.state.pool }
-    ensures made { InBlock result.0.at }
-{
-    let mut state = pool.into_state();
-    let held = Held::Ticket(Ticket::from_number(number));
-    let reply = state.pool.cancel(held);
-    (ManagedPool::of(state), reply::step(reply))
-}
-
-pub fn cancel_place(pool: ManagedPool, _unit: ()) -> (ManagedPool, Reply)
-    requires { InBlock pool.at }
-    ensures step { CancelsRaw pool.state.pool Held.Place result.1 result.0.state.pool }
-    ensures made { InBlock result.0.at }
-{
-    let mut state = pool.into_state();
-    let reply = state.pool.cancel(Held::Place);
-    (ManagedPool::of(state), reply::step(reply))
-}
-
-pub fn cancel_creation(pool: ManagedPool, _unit: ()) -> (ManagedPool, Reply)
-    requires { InBlock pool.at }
-    ensures step { CancelsRaw pool.state.pool Held.Creation result.1 result.0.state.pool }
-    ensures made { InBlock result.0.at }
-{
-    let mut state = pool.into_state();
-    let reply = state.pool.cancel(Held::Creation);
-    (ManagedPool::of(state), reply::step(reply))
-}
-
-pub fn cancel_object(pool: ManagedPool, _unit: ()) -> (ManagedPool, Reply)
-    requires { InBlock pool.at }
-    ensures step { CancelsRaw pool.state.pool Held.Object result.1 result.0.state.pool }
-    ensures made { InBlock result.0.at }
-{
-    let mut state = pool.into_state();
-    let reply = state.pool.cancel(Held::Object);
-    (ManagedPool::of(state), reply::step(reply))
+    let reply = state.pool.make(&step, &mut hand);
+    (
+        ManagedPool::of(state),
+        managed_reply::in_hand(&reply, &hand),
+    )
 }
 
 pub fn status(pool: ManagedPool, _unit: ()) -> (ManagedPool, Standing)

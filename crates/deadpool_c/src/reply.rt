@@ -33,8 +33,8 @@ pub struct Standing {
     pub waiting: usize,
 }
 
-/// What the call names is not there, and nothing has changed: no such ticket, object or key, nothing held, nobody
-/// to wake.
+/// What the call names is not there, and nothing has changed: no such step, ticket, object or key, nothing held,
+/// nobody to wake. With it comes the object that was brought.
 pub const UNKNOWN: u64 = 0;
 
 /// The step is made. With it comes what the call says.
@@ -58,8 +58,8 @@ pub const CLOSED: u64 = 6;
 /// Nothing is free, and the get or the add does not wait. With it comes the key that an add brought.
 pub const FULL: u64 = 7;
 
-/// The get or the add is in the queue; one that has joined it is given its ticket. With it comes the key that an
-/// add brought.
+/// The get or the add is in the queue. With it comes its ticket, if it has joined it or the pool is managed, and the
+/// key that an add brought.
 pub const WAITING: u64 = 8;
 
 /// There was no memory, and nothing has changed. With it comes the key that an add brought.

@@ -1,5 +1,5 @@
 -- The names that the proofs cite, passed on from one place.
-pub use Rattle.std.proofs.Common.{◌≡◌, ℕ, ◌+◌, ◌-◌, ◌<◌, ◌≤◌, true, false, not, [], ◌∷◌, ◌++◌, length, take, drop, max, refl, arith, ap, ◌∙◌, append_assoc, zero, suc, Bool, List, min, sym, length-append, length-take, if◌then◌else◌, Some, None, slice_get, inl, inr, add-zero, length-drop, Ok, rules, vec_len, vec_capacity, subst}
+pub use Rattle.std.proofs.Common.{◌≡◌, ℕ, ◌+◌, ◌-◌, ◌<◌, ◌≤◌, true, false, not, [], ◌∷◌, ◌++◌, length, take, drop, max, refl, arith, ap, ◌∙◌, append_assoc, zero, suc, Bool, Option, List, min, sym, length-append, length-take, if◌then◌else◌, Some, None, slice_get, inl, inr, add-zero, length-drop, Ok, rules, vec_len, vec_capacity, subst}
 pub use Rattle.std.proofs.lemmas.List.{append-nil, take-append-drop}
 pub use Rattle.deadpool_gate.proofs.GateAnswers.{grant_count-length, asked-granted, asked-waiting, asked-closed, asked-unknown, withdrawn-unknown, withdrawn-known, entered-waiting, entered-without_memory, unlisted}
 pub use Rattle.deadpool_gate.proofs.GateTickets.{granted_tickets-arrived, waiting_tickets-arrived, granted_tickets-without_waiter, waiting_tickets-without_waiter, untold_tickets-arrived, untold_tickets-without_waiter, length-both_tickets, granted_count-length, waiting_count-length}

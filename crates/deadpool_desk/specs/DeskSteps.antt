@@ -1,39 +1,27 @@
--- The steps at a desk, each by its reply: when the reply comes, and the state after it.
+-- The steps at a desk: when each reply comes, and the state after it. Those of a get or an object are one table.
 use Rattle.std.specs.Prelude.{◌≡◌, ◌≢◌, ℕ, ◌+◌, ◌-◌, ◌<◌, ◌≤◌, Bool, true, false, ◌||◌, ◌==◌, nat_lt, if◌then◌else◌, [], ◌∷◌, ◌++◌, length, drop, min, max, Option, Some, None, unwrap_or, Result, Ok, Err}
 use Rattle.std.specs.declared.alloc.AllocError.{AllocError}
 use Rattle.deadpool_gate.specs.Numbers.{has_number, without_number, largest_usize, most_handles}
 use Rattle.deadpool_parts.specs.declared.status.Status.{Status}
-use Rattle.deadpool_desk.specs.DeskState.{DeskState, least_idle, next_idle, other_idle, places, size, settled, status_of}
-use Rattle.deadpool_desk.specs.declared.desk.Serving.{Serving}
-use Rattle.deadpool_desk.specs.declared.desk.Serving.TheVariants as serving
-use Rattle.deadpool_desk.specs.declared.desk.EnterReply.{EnterReply}
-use Rattle.deadpool_desk.specs.declared.desk.EnterReply.TheVariants as enter
-use Rattle.deadpool_desk.specs.declared.desk.AskReply.{AskReply}
-use Rattle.deadpool_desk.specs.declared.desk.AskReply.TheVariants as ask
-use Rattle.deadpool_desk.specs.declared.desk.AgainReply.{AgainReply}
-use Rattle.deadpool_desk.specs.declared.desk.AgainReply.TheVariants as again
-use Rattle.deadpool_parts.specs.declared.replies.StepReply.{StepReply}
-use Rattle.deadpool_parts.specs.declared.replies.StepReply.TheVariants.{Done, Unknown}
-use Rattle.deadpool_desk.specs.declared.desk.CreatedReply.{CreatedReply}
-use Rattle.deadpool_desk.specs.declared.desk.CreatedReply.TheVariants as created
-use Rattle.deadpool_desk.specs.declared.desk.BackReply.{BackReply}
-use Rattle.deadpool_desk.specs.declared.desk.BackReply.TheVariants as back
-use Rattle.deadpool_desk.specs.declared.desk.TakeReply.{TakeReply}
-use Rattle.deadpool_desk.specs.declared.desk.TakeReply.TheVariants as taking
 use Rattle.deadpool_parts.specs.declared.replies.HandleReply.{HandleReply}
 use Rattle.deadpool_parts.specs.declared.replies.HandleReply.TheVariants as handle
-use Rattle.deadpool_desk.specs.declared.desk.Held.{Held}
-use Rattle.deadpool_desk.specs.declared.desk.Held.TheVariants as held
+use Rattle.deadpool_desk.specs.DeskState.{DeskState, least_idle, next_idle, other_idle, places, size, settled, status_of}
+use Rattle.deadpool_desk.specs.declared.step.Held.TheVariants as held
+use Rattle.deadpool_desk.specs.declared.step.Reply.{Reply}
+use Rattle.deadpool_desk.specs.declared.step.Reply.TheVariants.{Object, Create, Going, Exhausted, Closed, Full, Waiting, OutOfMemory, Expired, Done, Number, Kept, Detach, Dropped, Taken, Unknown}
+use Rattle.deadpool_desk.specs.declared.step.Step.{Step}
+use Rattle.deadpool_desk.specs.declared.step.Step.TheVariants.{Enter, Ask, Again, Discard, Created, Failed, Refused, Back, Withdraw, Cancel, Take}
 
 module _ {O : Type 0} where
   -- A get is served whose place is in no count of d. It may take so many idle objects; none set is as many as are idle.
-  abbrev pub Serves : DeskState O → Option ℕ → Serving O → DeskState O → Type 0
-  Serves d allowance (serving.Object slot left) d' =
+  abbrev pub Serves : DeskState O → Option ℕ → Option O → Reply → DeskState O → Type 0
+  Serves d allowance (Some slot) (Object left) d' =
       (next_idle d.mode d.idle ≡ Some slot) × (left + 1 ≡ unwrap_or allowance (length d.idle))
       × (d' ≡ record d { idle = other_idle d.mode d.idle; outside = d.outside + 1 })
-  Serves d allowance serving.Going d' = (d.idle ≢ []) × (unwrap_or allowance (length d.idle) ≡ 0) × (d' ≡ record d { going = d.going + 1 })
-  Serves d allowance serving.Create d' = (d.idle ≡ []) × (d.next + d.creations < largest_usize) × (d' ≡ record d { creations = d.creations + 1 })
-  Serves d allowance serving.Exhausted d' = (d.idle ≡ []) × (largest_usize ≤ d.next + d.creations) × (d' ≡ settled d)
+  Serves d allowance None Going d' = (d.idle ≢ []) × (unwrap_or allowance (length d.idle) ≡ 0) × (d' ≡ record d { going = d.going + 1 })
+  Serves d allowance None Create d' = (d.idle ≡ []) × (d.next + d.creations < largest_usize) × (d' ≡ record d { creations = d.creations + 1 })
+  Serves d allowance None Exhausted d' = (d.idle ≡ []) × (largest_usize ≤ d.next + d.creations) × (d' ≡ settled d)
+  Serves d allowance _ _ d' = ⊥
 
   -- the queue without a ticket
   abbrev pub unqueued : ℕ → DeskState O → DeskState O
@@ -43,74 +31,58 @@ module _ {O : Type 0} where
   abbrev pub is_listed : ℕ → DeskState O → Bool
   is_listed ticket d = has_number ticket d.granted || has_number ticket d.waiting
 
+  -- what is given up is counted, or it is unknown
+  abbrev pub GivesUp : DeskState O → ℕ → Reply → DeskState O → DeskState O → Type 0
+  GivesUp d count Done without d' = (0 < count) × (d' ≡ without)
+  GivesUp d count Unknown without d' = (count ≡ 0) × (d' ≡ d)
+  GivesUp d count _ without d' = ⊥
+
+  -- a step with its reply, and the object that is taken or given, if there is one
+  abbrev pub Does : DeskState O → Step → Option O → Reply → DeskState O → Type 0
   -- a get that is not in the queue yet
-  abbrev pub Enters : DeskState O → Bool → EnterReply O → DeskState O → Type 0
-  Enters d wait enter.Closed d' = (d.is_open ≡ false) × (d' ≡ d)
-  Enters d wait (enter.Served served) d' = (d.is_open ≡ true) × (places d < d.limit) × Serves d None served d'
-  Enters d wait enter.Full d' = (d.is_open ≡ true) × (d.limit ≤ places d) × (wait ≡ false) × (d' ≡ d)
-  Enters d wait (enter.Waiting ticket) d' =
+  Does d (Enter wait) None Closed d' = (d.is_open ≡ false) × (d' ≡ d)
+  Does d (Enter wait) None Full d' = (d.is_open ≡ true) × (d.limit ≤ places d) × (wait ≡ false) × (d' ≡ d)
+  Does d (Enter wait) None (Waiting ticket) d' =
       (d.is_open ≡ true) × (d.limit ≤ places d) × (wait ≡ true) × (is_listed ticket d ≡ false)
       × (d' ≡ record d { waiting = d.waiting ++ ticket ∷ [] })
-  Enters d wait enter.OutOfMemory d' = (d.is_open ≡ true) × (d.limit ≤ places d) × (wait ≡ true) × (d' ≡ d)
-
+  Does d (Enter wait) None OutOfMemory d' = (d.is_open ≡ true) × (d.limit ≤ places d) × (wait ≡ true) × (d' ≡ d)
+  Does d (Enter wait) object reply d' = (d.is_open ≡ true) × (places d < d.limit) × Serves d None object reply d'
   -- a get in the queue
-  abbrev pub Asks : DeskState O → ℕ → Bool → AskReply O → DeskState O → Type 0
-  Asks d ticket expired ask.Unknown d' = (is_listed ticket d ≡ false) × (d' ≡ d)
-  Asks d ticket expired ask.Closed d' = (d.is_open ≡ false) × (is_listed ticket d ≡ true) × (d' ≡ unqueued ticket d)
-  Asks d ticket expired (ask.Served served) d' = (d.is_open ≡ true) × (has_number ticket d.granted ≡ true) × Serves (unqueued ticket d) None served d'
-  Asks d ticket expired ask.Expired d' =
+  Does d (Ask ticket expired) None Unknown d' = (is_listed ticket d ≡ false) × (d' ≡ d)
+  Does d (Ask ticket expired) None Closed d' = (d.is_open ≡ false) × (is_listed ticket d ≡ true) × (d' ≡ unqueued ticket d)
+  Does d (Ask ticket expired) None Expired d' =
       (d.is_open ≡ true) × (has_number ticket d.granted ≡ false) × (has_number ticket d.waiting ≡ true) × (expired ≡ true) × (d' ≡ unqueued ticket d)
-  Asks d ticket expired ask.Waiting d' =
-      (d.is_open ≡ true) × (has_number ticket d.granted ≡ false) × (has_number ticket d.waiting ≡ true) × (expired ≡ false) × (d' ≡ d)
-
+  Does d (Ask ticket expired) None (Waiting same) d' =
+      (d.is_open ≡ true) × (has_number ticket d.granted ≡ false) × (has_number ticket d.waiting ≡ true) × (expired ≡ false) × (same ≡ ticket) × (d' ≡ d)
+  Does d (Ask ticket expired) object reply d' =
+      (d.is_open ≡ true) × (has_number ticket d.granted ≡ true) × Serves (unqueued ticket d) None object reply d'
   -- a get that holds a place and nothing else
-  abbrev pub AsksAgain : DeskState O → Option ℕ → AgainReply O → DeskState O → Type 0
-  AsksAgain d allowance again.Unknown d' = (d.going ≡ 0) × (d' ≡ d)
-  AsksAgain d allowance (again.Served served) d' = (0 < d.going) × Serves (record d { going = d.going - 1 }) allowance served d'
-
-  -- a get gives up the idle object that it prepared, and keeps the place
-  abbrev pub Discards : DeskState O → StepReply → DeskState O → Type 0
-  Discards d Unknown d' = (d.outside ≡ 0) × (d' ≡ d)
-  Discards d Done d' = (0 < d.outside) × (d' ≡ record d { outside = d.outside - 1; going = d.going + 1 })
-
-  -- a creation has ended well
-  abbrev pub Creates : DeskState O → CreatedReply → DeskState O → Type 0
-  Creates d created.Unknown d' = (d.creations ≡ 0) × (d' ≡ d)
-  Creates d (created.Created number) d' =
+  Does d (Again allowance) None Unknown d' = (d.going ≡ 0) × (d' ≡ d)
+  Does d (Again allowance) object reply d' = (0 < d.going) × Serves (record d { going = d.going - 1 }) allowance object reply d'
+  -- a get that gives up the idle object that it prepared, and keeps the place
+  Does d Discard None reply d' = GivesUp d d.outside reply (record d { outside = d.outside - 1; going = d.going + 1 }) d'
+  -- a creation that has ended
+  Does d Created None Unknown d' = (d.creations ≡ 0) × (d' ≡ d)
+  Does d Created None (Number number) d' =
       (0 < d.creations) × (number ≡ d.next) × (d' ≡ record d { creations = d.creations - 1; next = d.next + 1; outside = d.outside + 1 })
-
-  -- a creation has ended without an object
-  abbrev pub Fails : DeskState O → StepReply → DeskState O → Type 0
-  Fails d Unknown d' = (d.creations ≡ 0) × (d' ≡ d)
-  Fails d Done d' = (0 < d.creations) × (d' ≡ settled (record d { creations = d.creations - 1 }))
-
-  -- an object that is not idle is given up with its place
-  abbrev pub Refuses : DeskState O → StepReply → DeskState O → Type 0
-  Refuses d Unknown d' = (d.outside ≡ 0) × (d' ≡ d)
-  Refuses d Done d' = (0 < d.outside) × (d' ≡ settled (record d { outside = d.outside - 1 }))
-
-  -- an object comes back
-  abbrev pub TakesBack : DeskState O → O → BackReply O → DeskState O → Type 0
-  TakesBack d slot (back.Unknown given) d' = (d.outside ≡ 0) × (given ≡ slot) × (d' ≡ d)
-  TakesBack d slot (back.Dropped given) d' = (0 < d.outside) × (d.handles ≡ 0) × (given ≡ slot) × (d' ≡ settled (record d { outside = d.outside - 1 }))
-  TakesBack d slot (back.Detach given) d' =
-      (0 < d.outside) × (0 < d.handles) × (d.limit < size d) × (given ≡ slot) × (d' ≡ settled (record d { outside = d.outside - 1 }))
-  TakesBack d slot back.Kept d' =
+  Does d Failed None reply d' = GivesUp d d.creations reply (settled (record d { creations = d.creations - 1 })) d'
+  -- an object that is given up with its place, comes back, or leaves for good
+  Does d Refused None reply d' = GivesUp d d.outside reply (settled (record d { outside = d.outside - 1 })) d'
+  Does d Back (Some slot) Unknown d' = (d.outside ≡ 0) × (d' ≡ d)
+  Does d Back (Some slot) Dropped d' = (0 < d.outside) × (d.handles ≡ 0) × (d' ≡ settled (record d { outside = d.outside - 1 }))
+  Does d Back (Some slot) Detach d' =
+      (0 < d.outside) × (0 < d.handles) × (d.limit < size d) × (d' ≡ settled (record d { outside = d.outside - 1 }))
+  Does d Back (Some slot) Kept d' =
       (0 < d.outside) × (0 < d.handles) × (size d ≤ d.limit) × (d' ≡ settled (record d { idle = d.idle ++ slot ∷ []; outside = d.outside - 1 }))
-
-  -- a get gives back what it holds
-  abbrev pub Cancels : DeskState O → Held → StepReply → DeskState O → Type 0
-  Cancels d (held.Ticket ticket) Unknown d' = (is_listed ticket d ≡ false) × (d' ≡ d)
-  Cancels d (held.Ticket ticket) Done d' = (is_listed ticket d ≡ true) × (d' ≡ settled (unqueued ticket d))
-  Cancels d held.Place Unknown d' = (d.going ≡ 0) × (d' ≡ d)
-  Cancels d held.Place Done d' = (0 < d.going) × (d' ≡ settled (record d { going = d.going - 1 }))
-  Cancels d held.Creation reply d' = Fails d reply d'
-  Cancels d held.Object reply d' = Refuses d reply d'
-
-  -- an object that is out leaves for good
-  abbrev pub Takes : DeskState O → TakeReply → DeskState O → Type 0
-  Takes d taking.Unknown d' = (d.outside ≡ 0) × (d' ≡ d)
-  Takes d (taking.Taken detach) d' = (0 < d.outside) × (detach ≡ nat_lt 0 d.handles) × (d' ≡ settled (record d { outside = d.outside - 1 }))
+  Does d Take None Unknown d' = (d.outside ≡ 0) × (d' ≡ d)
+  Does d Take None (Taken detach) d' = (0 < d.outside) × (detach ≡ nat_lt 0 d.handles) × (d' ≡ settled (record d { outside = d.outside - 1 }))
+  -- a get that gives back what it holds
+  Does d (Withdraw ticket) None Unknown d' = (is_listed ticket d ≡ false) × (d' ≡ d)
+  Does d (Withdraw ticket) None Done d' = (is_listed ticket d ≡ true) × (d' ≡ settled (unqueued ticket d))
+  Does d (Cancel held.Place) None reply d' = GivesUp d d.going reply (settled (record d { going = d.going - 1 })) d'
+  Does d (Cancel held.Creation) None reply d' = GivesUp d d.creations reply (settled (record d { creations = d.creations - 1 })) d'
+  Does d (Cancel held.Object) None reply d' = GivesUp d d.outside reply (settled (record d { outside = d.outside - 1 })) d'
+  Does d _ _ _ d' = ⊥
 
   -- the pool says how it stands, and stays as it is
   abbrev pub Stands : DeskState O → Status → DeskState O → Type 0

@@ -2,6 +2,8 @@
 
 -- What is known of an object's past.
 pub mod Metrics
+-- The replies to each step, and what is in the hand then.
+pub mod Replies
 -- The desk machine: the pool's state by tickets and counts, and its steps by their replies.
 pub mod DeskState
 pub mod DeskSteps
@@ -13,11 +15,6 @@ pub mod CoreSteps
 pub mod Settled
 -- What a pool counts.
 pub mod Counts
--- What every desk keeps: of an allowance, and of what a get holds.
-pub mod Allowance
-pub mod Held
--- A reply whose object is in a place of its own.
-pub mod Parts
 -- The places by queue and counts, how the fields of a core are seen as its state, and the machine as a desk. No contract
 -- of a user cites them.
 pub mod Places

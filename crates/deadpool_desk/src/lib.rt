@@ -13,18 +13,17 @@ mod retain;
 mod review;
 mod slot;
 mod state;
+mod step;
 
 pub use counts::Counts;
 pub use deadpool_gate::gate;
 pub use deadpool_parts::config::QueueMode;
-pub use deadpool_parts::{HandleReply, Moment, Status, StepReply};
-pub use desk::{
-    AgainReply, AskReply, BackReply, CreatedReply, Desk, EnterReply, Held, Holding, Serving,
-    TakeReply,
-};
+pub use deadpool_parts::{HandleReply, Moment, Status};
+pub use desk::Desk;
 pub use metrics::Metrics;
 pub use object_id::ObjectId;
 pub use owner_desk::OwnerDesk;
 pub use retain::{Removal, Removals, RetainResult, Retainer};
 pub use slot::Slot;
 pub use state::Core;
+pub use step::{Held, Holding, Reply, Step};

@@ -2,23 +2,20 @@
 //!
 //! `places` has the counts, and settles them with the queue. `counted` has what a core says of itself, and `owner` the
 //! steps of the pool's owner.
-ghost use Rattle.std.specs.Prelude.{◌≡◌, ◌+◌, ◌-◌, ◌≤◌, ◌++◌, [], is_some, length, IfOk};
+ghost use Rattle.std.specs.Prelude.{◌≡◌, ◌+◌, ◌-◌, ◌≤◌, ◌++◌, [], None, is_some, length, IfOk, IsSome};
 ghost use Rattle.deadpool_gate.specs.Orders.{IsOnce};
 ghost use Rattle.deadpool_desk.specs.DeskState.{new_core, next_idle, other_idle, places};
 ghost use Rattle.deadpool_desk.specs.DeskSteps.{Serves};
-ghost use Rattle.deadpool_desk.specs.Parts.{IsPartedServing};
-ghost use Rattle.deadpool_desk.specs.CoreSteps.{Enters, Asks, AsksAgain, Discards, Creates, Fails, Refuses, TakesBack, Cancels, Takes, Tells, due_now};
+ghost use Rattle.deadpool_desk.specs.Replies.{IsReplyTo, Leaves};
+ghost use Rattle.deadpool_desk.specs.CoreSteps.{Makes, Steps, Tells, due_now};
 ghost use Rattle.deadpool_desk.specs.Settled.{NobodyWaits};
 
 mod counted;
 mod owner;
 mod places;
 
-use crate::desk::{
-    AgainReply, AskReply, BackReply, CreatedReply, Desk, EnterReply, Held, Serving, TakeReply,
-};
 use crate::gate::{Ask, Entry, Gate, Ticket, Withdrawn};
-use crate::{QueueMode, Slot, StepReply};
+use crate::{Desk, Held, QueueMode, Reply, Slot, Step};
 use circular_buffer::HeapCircularBuffer;
 use places::Places;
 use std::alloc::{AllocError, Global};
@@ -113,198 +110,198 @@ impl<T: Drop> Core<T> {
         self.gate.is_wake_due()
     }
 
-    // Serves a get whose place is one of those going. Its object goes into `place`.
+    // Serves a get whose place is one of those going. Its object goes into the hand.
     #[inline(always)]
-    fn serve_in(&mut self, allowance: Option<usize>, place: &mut Option<Slot<T>>) -> Serving<()>
-        requires { 1 ≤ self.old.desk.going }
-        ensures served { (whole : Serving (Slot T))
-            × (Serves (record self.old.desk { going = self.old.desk.going - 1 })
-            allowance whole self.new.desk
-            × IsPartedServing whole result place.old place.new) }
+    fn serve(&mut self, allowance: Option<usize>, hand: &mut Option<Slot<T>>) -> Reply
+        requires going { 1 ≤ self.old.desk.going }
+        requires hand { hand.old ≡ None }
+        ensures served { Serves (record self.old.desk { going = self.old.desk.going - 1 })
+            allowance hand.new result self.new.desk }
+        ensures hand { Leaves result hand.old hand.new }
         ensures untold { self.new.untold ≡ self.old.untold }
     {
         let allowed = allowance.unwrap_or(self.ring.len());
         if allowed == 0 && !self.ring.is_empty() {
-            return Serving::Going;
+            return Reply::Going;
         }
         self.places.going -= 1;
         match take_idle(&mut self.ring, self.mode) {
             Some(slot) => {
-                *place = Some(slot);
+                *hand = Some(slot);
                 self.places.outside += 1;
-                Serving::Object((), allowed - 1)
+                Reply::Object { left: allowed - 1 }
             }
             None if self.next + self.places.creations < usize::MAX => {
                 self.places.creations += 1;
-                Serving::Create
+                Reply::Create
             }
             None => {
                 self.places.settle(&mut self.gate);
-                Serving::Exhausted
+                Reply::Exhausted
             }
         }
     }
-}
-
-impl<T: Drop> Desk<T> for Core<T> {
-    ghost enters = { Enters };
-
-    ghost asks = { Asks };
-
-    ghost asks_again = { AsksAgain };
-
-    ghost discards = { Discards };
-
-    ghost creates = { Creates };
-
-    ghost fails = { Fails };
-
-    ghost refuses = { Refuses };
-
-    ghost takes_back = { TakesBack };
-
-    ghost cancels = { Cancels };
-
-    ghost takes = { Takes };
 
     // It is served, joins the queue, or is refused. The place that it is given is one of those going until it is served.
     #[inline(always)]
-    fn enter_in(&mut self, wait: bool, place: &mut Option<Slot<T>>) -> EnterReply<()> {
+    fn enter(&mut self, wait: bool, hand: &mut Option<Slot<T>>) -> Reply
+        requires { hand.old ≡ None }
+        ensures made { Steps self.old (Step.Enter wait) hand.new result self.new }
+        ensures hand { Leaves result hand.old hand.new }
+    {
         let room = self.places.room(&self.gate);
         if room > 0 && !self.gate.is_closed() {
             self.places.going += 1;
-            return EnterReply::Served(self.serve_in(None, place));
+            return self.serve(None, hand);
         }
         match self.gate.enter(room, wait) {
             Entry::Granted => {
                 self.places.going += 1;
-                EnterReply::Served(self.serve_in(None, place))
+                self.serve(None, hand)
             }
-            Entry::Closed => EnterReply::Closed,
-            Entry::Full => EnterReply::Full,
-            Entry::Waiting(ticket) => EnterReply::Waiting(ticket),
-            Entry::OutOfMemory => EnterReply::OutOfMemory,
+            Entry::Closed => Reply::Closed,
+            Entry::Full => Reply::Full,
+            Entry::Waiting(ticket) => Reply::Waiting(ticket),
+            Entry::OutOfMemory => Reply::OutOfMemory,
         }
     }
 
     // It is served, stays, or leaves the queue. If it was granted a place, that is one of those going until it is served.
-    fn ask_in(
-        &mut self,
-        ticket: Ticket,
-        expired: bool,
-        place: &mut Option<Slot<T>>,
-    ) -> AskReply<()> {
+    fn ask(&mut self, ticket: Ticket, expired: bool, hand: &mut Option<Slot<T>>) -> Reply
+        requires { hand.old ≡ None }
+        ensures made { Steps self.old (Step.Ask ticket expired) hand.new result self.new }
+        ensures hand { Leaves result hand.old hand.new }
+    {
         match self.gate.ask(ticket) {
             Ask::Granted => {
                 self.places.going += 1;
-                AskReply::Served(self.serve_in(None, place))
+                self.serve(None, hand)
             }
-            Ask::Closed => AskReply::Closed,
-            Ask::Unknown => AskReply::Unknown,
+            Ask::Closed => Reply::Closed,
+            Ask::Unknown => Reply::Unknown,
             Ask::Waiting => {
                 if expired {
                     self.gate.withdraw(ticket);
-                    AskReply::Expired
+                    Reply::Expired
                 } else {
-                    AskReply::Waiting
+                    Reply::Waiting(ticket)
                 }
             }
         }
     }
 
     // Its place is one of those going.
-    fn again_in(
-        &mut self,
-        allowance: Option<usize>,
-        place: &mut Option<Slot<T>>,
-    ) -> AgainReply<()> {
+    fn again(&mut self, allowance: Option<usize>, hand: &mut Option<Slot<T>>) -> Reply
+        requires { hand.old ≡ None }
+        ensures made { Steps self.old (Step.Again allowance) hand.new result self.new }
+        ensures hand { Leaves result hand.old hand.new }
+    {
         if self.places.going == 0 {
-            return AgainReply::Unknown;
+            return Reply::Unknown;
         }
-        AgainReply::Served(self.serve_in(allowance, place))
+        self.serve(allowance, hand)
     }
 
     // The place of the object is one of those going again.
-    fn discard(&mut self) -> StepReply {
+    fn discard(&mut self) -> Reply
+        ensures { Steps self.old Step.Discard None result self.new }
+    {
         if self.places.outside == 0 {
-            return StepReply::Unknown;
+            return Reply::Unknown;
         }
         self.places.outside -= 1;
         self.places.going += 1;
-        StepReply::Done
+        Reply::Done
     }
 
     // The place of the creation is that of an object.
-    fn created(&mut self) -> CreatedReply {
+    fn created(&mut self) -> Reply
+        ensures { Steps self.old Step.Created None result self.new }
+    {
         if self.places.creations == 0 {
-            return CreatedReply::Unknown;
+            return Reply::Unknown;
         }
         let number = self.next;
         self.places.creations -= 1;
         self.next += 1;
         self.places.outside += 1;
-        CreatedReply::Created(number)
+        Reply::Number(number)
     }
 
     // The place of the creation is free.
-    fn failed(&mut self) -> StepReply {
+    fn failed(&mut self) -> Reply
+        ensures { Steps self.old Step.Failed None result self.new }
+    {
         if self.places.creations == 0 {
-            return StepReply::Unknown;
+            return Reply::Unknown;
         }
         self.places.creations -= 1;
         self.places.settle(&mut self.gate);
-        StepReply::Done
+        Reply::Done
     }
 
     // The place of the object is free.
-    fn refused(&mut self) -> StepReply {
+    fn refused(&mut self) -> Reply
+        ensures { Steps self.old Step.Refused None result self.new }
+    {
         if self.places.outside == 0 {
-            return StepReply::Unknown;
+            return Reply::Unknown;
         }
         self.places.outside -= 1;
         self.places.settle(&mut self.gate);
-        StepReply::Done
+        Reply::Done
     }
 
     // It is idle, or there are too many, or no handle is left.
-    fn back(&mut self, slot: Slot<T>) -> BackReply<Slot<T>>
-        ensures { TakesBack self.old slot result self.new }
+    fn back(&mut self, hand: &mut Option<Slot<T>>) -> Reply
+        requires { IsSome hand.old }
+        ensures made { Steps self.old Step.Back hand.old result self.new }
+        ensures hand { Leaves result hand.old hand.new }
     {
         if self.places.outside == 0 {
-            return BackReply::Unknown(slot);
+            return Reply::Unknown;
         }
         let size = self.ring.len() + self.places.outside;
         self.places.outside -= 1;
         if self.handles == 0 {
             self.places.settle(&mut self.gate);
-            return BackReply::Dropped(slot);
+            return Reply::Dropped;
         }
         if size > self.places.limit {
             self.places.settle(&mut self.gate);
-            return BackReply::Detach(slot);
+            return Reply::Detach;
         }
+        let Some(slot) = hand.take() else {
+            unreachable!();
+        };
         self.ring.push_back(slot);
         self.places.settle(&mut self.gate);
-        BackReply::Kept
+        Reply::Kept
+    }
+
+    // The place that it may have is free.
+    fn withdraw(&mut self, ticket: Ticket) -> Reply
+        ensures { Steps self.old (Step.Withdraw ticket) None result self.new }
+    {
+        if let Withdrawn::Unknown = self.gate.withdraw(ticket) {
+            return Reply::Unknown;
+        }
+        self.places.settle(&mut self.gate);
+        Reply::Done
     }
 
     // The place that it holds is free.
-    fn cancel(&mut self, held: Held) -> StepReply {
+    fn cancel(&mut self, held: Held) -> Reply
+        ensures { Steps self.old (Step.Cancel held) None result self.new }
+    {
         match held {
-            Held::Ticket(ticket) => {
-                if let Withdrawn::Unknown = self.gate.withdraw(ticket) {
-                    return StepReply::Unknown;
-                }
-                self.places.settle(&mut self.gate);
-                StepReply::Done
-            }
             Held::Place => {
                 if self.places.going == 0 {
-                    return StepReply::Unknown;
+                    return Reply::Unknown;
                 }
                 self.places.going -= 1;
                 self.places.settle(&mut self.gate);
-                StepReply::Done
+                Reply::Done
             }
             Held::Creation => self.failed(),
             Held::Object => self.refused(),
@@ -312,13 +309,36 @@ impl<T: Drop> Desk<T> for Core<T> {
     }
 
     // Its place is free.
-    fn take(&mut self) -> TakeReply {
+    fn take(&mut self) -> Reply
+        ensures { Steps self.old Step.Take None result self.new }
+    {
         if self.places.outside == 0 {
-            return TakeReply::Unknown;
+            return Reply::Unknown;
         }
         let detach = self.handles > 0;
         self.places.outside -= 1;
         self.places.settle(&mut self.gate);
-        TakeReply::Taken { detach }
+        Reply::Taken { detach }
+    }
+}
+
+impl<T: Drop> Desk<T> for Core<T> {
+    ghost makes = { Makes };
+
+    #[inline(always)]
+    fn make(&mut self, step: &Step, hand: &mut Option<Slot<T>>) -> Reply {
+        match step {
+            Step::Enter { wait } => self.enter(*wait, hand),
+            Step::Ask { ticket, expired } => self.ask(*ticket, *expired, hand),
+            Step::Again { allowance } => self.again(*allowance, hand),
+            Step::Discard => self.discard(),
+            Step::Created => self.created(),
+            Step::Failed => self.failed(),
+            Step::Refused => self.refused(),
+            Step::Back => self.back(hand),
+            Step::Withdraw { ticket } => self.withdraw(*ticket),
+            Step::Cancel(held) => self.cancel(*held),
+            Step::Take => self.take(),
+        }
     }
 }

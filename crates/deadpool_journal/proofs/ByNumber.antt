@@ -1,5 +1,9 @@
 -- A step of a desk, by number, is the same step of the desk by number.
-use Rattle.deadpool_journal.proofs.Words.{◌≡◌, ◌≢◌, ℕ, ◌+◌, ◌-◌, Bool, true, false, List, [], ◌∷◌, length, map, refl, sym, ap, ◌∙◌, Option, Some, None, drop, if◌then◌else◌, ◌==◌, max, Result, Ok, Err, option_map, AllocError, length-map, map-append, take-map, drop-map, slice_get-map, most_handles, QueueMode, Fifo, Lifo, Status, StepReply, HandleReply, DeskState, next_idle, other_idle, settled, status_of, Serves, Enters, Asks, AsksAgain, Discards, Creates, Fails, Refuses, TakesBack, Cancels, Stands, Takes, Resizes, Closes, Clones, DropsHandle, Upgrades, unqueued, given_up, resized, Slot, Serving, EnterReply, AskReply, AgainReply, CreatedReply, BackReply, TakeReply, Held, number_of, numbered, numbered_serving, numbered_enter, numbered_ask, numbered_again, numbered_back, IsStep, Entry}
+use Rattle.deadpool_journal.proofs.Words.{◌≡◌, ◌≢◌, ℕ, ◌+◌, ◌-◌, Bool, true, false, List, [], ◌∷◌, length, map, refl, sym, ap, ◌∙◌, Option, Some, None, drop, if◌then◌else◌, ◌==◌, max, Result, Ok, Err, option_map, AllocError, length-map, map-append, take-map, drop-map, slice_get-map, most_handles, QueueMode, Fifo, Lifo, Status, HandleReply, DeskState, next_idle, other_idle, settled, status_of, Serves, Stands, Resizes, Closes, Clones, DropsHandle, Upgrades, unqueued, given_up, resized, Slot, number_of, number_in, numbered, IsStep, Entry, Does, GivesUp, Reply, Step}
+use Rattle.std.specs.Option.{option_or}
+use Rattle.deadpool_desk.specs.declared.step.Held.TheVariants as held
+use Rattle.deadpool_desk.specs.declared.step.Reply.TheVariants.{Object, Create, Going, Exhausted, Closed, Full, Waiting, OutOfMemory, Expired, Done, Number, Kept, Detach, Dropped, Taken, Unknown}
+use Rattle.deadpool_desk.specs.declared.step.Step.TheVariants.{Enter, Ask, Again, Discard, Created, Failed, Refused, Back, Withdraw, Cancel, Take}
 
 module _ {T : Type 0} where
   next_numbered : (mode : QueueMode) (idle : List (Slot T)) (slot : Slot T) → next_idle mode idle ≡ Some slot → next_idle mode (map number_of idle) ≡ Some slot.number
@@ -14,77 +18,66 @@ module _ {T : Type 0} where
   some_numbered [] h = absurd (h refl)
   some_numbered (x ∷ xs) h = λ e. cc
 
-  serves_numbered : (d d' : DeskState (Slot T)) (allowance : Option ℕ) (s : Serving (Slot T)) → Serves d allowance s d' → Serves (numbered d) allowance (numbered_serving s) (numbered d')
-  serves_numbered d d' allowance (Serving.Object slot left) h = (
+  pub or_numbered : (was hand : Option (Slot T)) → option_or (number_in was) (number_in hand) ≡ number_in (option_or was hand)
+  or_numbered (Some slot) hand = refl
+  or_numbered None hand = refl
+
+  serves_numbered : (d d' : DeskState (Slot T)) (allowance : Option ℕ) (o : Option (Slot T)) (reply : Reply) → Serves d allowance o reply d' → Serves (numbered d) allowance (number_in o) reply (numbered d')
+  serves_numbered d d' allowance (Some slot) (Object left) h = (
     next_numbered d.mode d.idle slot h.0,
     rw (length-map d.idle (number_of {T = T})) h.1,
     ap numbered h.2 ∙ ap (λ (i : List ℕ). record (numbered d) { idle = i; outside = d.outside + 1 }) (sym (other_numbered d.mode d.idle)),
   )
-  serves_numbered d d' allowance Serving.Going h = (some_numbered d.idle h.0, rw (length-map d.idle (number_of {T = T})) h.1, ap numbered h.2)
-  serves_numbered d d' allowance Serving.Create h = (ap (map number_of) h.0, h.1, ap numbered h.2)
-  serves_numbered d d' allowance Serving.Exhausted h = (ap (map number_of) h.0, h.1, ap numbered h.2)
+  serves_numbered d d' allowance None Going h = (some_numbered d.idle h.0, rw (length-map d.idle (number_of {T = T})) h.1, ap numbered h.2)
+  serves_numbered d d' allowance None Create h = (ap (map number_of) h.0, h.1, ap numbered h.2)
+  serves_numbered d d' allowance None Exhausted h = (ap (map number_of) h.0, h.1, ap numbered h.2)
+  serves_numbered d d' allowance _ _ h = absurd h
 
-  pub enter_numbered : (d d' : DeskState (Slot T)) (wait : Bool) (reply : EnterReply (Slot T)) → Enters d wait reply d' → IsStep (numbered d) (Entry.Enter wait (numbered_enter reply)) (numbered d')
-  enter_numbered d d' wait EnterReply.Closed h = (h.0, ap numbered h.1)
-  enter_numbered d d' wait (EnterReply.Served s) h = (h.0, h.1, serves_numbered d d' None s h.2)
-  enter_numbered d d' wait EnterReply.Full h = (h.0, h.1, h.2, ap numbered h.3)
-  enter_numbered d d' wait (EnterReply.Waiting ticket) h = (h.0, h.1, h.2, h.3, ap numbered h.4)
-  enter_numbered d d' wait EnterReply.OutOfMemory h = (h.0, h.1, h.2, ap numbered h.3)
+  gives_up_numbered : (d without d' : DeskState (Slot T)) (count : ℕ) (reply : Reply) → GivesUp d count reply without d' → GivesUp (numbered d) count reply (numbered without) (numbered d')
+  gives_up_numbered d without d' count Done h = (h.0, ap numbered h.1)
+  gives_up_numbered d without d' count Unknown h = (h.0, ap numbered h.1)
+  gives_up_numbered d without d' count _ h = absurd h
 
-  pub ask_numbered : (d d' : DeskState (Slot T)) (ticket : ℕ) (expired : Bool) (reply : AskReply (Slot T)) → Asks d ticket expired reply d' → IsStep (numbered d) (Entry.Ask ticket expired (numbered_ask reply)) (numbered d')
-  ask_numbered d d' ticket expired AskReply.Unknown h = (h.0, ap numbered h.1)
-  ask_numbered d d' ticket expired AskReply.Closed h = (h.0, h.1, ap numbered h.2)
-  ask_numbered d d' ticket expired (AskReply.Served s) h = (h.0, h.1, serves_numbered (unqueued ticket d) d' None s h.2)
-  ask_numbered d d' ticket expired AskReply.Expired h = (h.0, h.1, h.2, h.3, ap numbered h.4)
-  ask_numbered d d' ticket expired AskReply.Waiting h = (h.0, h.1, h.2, h.3, ap numbered h.4)
-
-  pub again_numbered : (d d' : DeskState (Slot T)) (allowance : Option ℕ) (reply : AgainReply (Slot T)) → AsksAgain d allowance reply d' → IsStep (numbered d) (Entry.Again allowance (numbered_again reply)) (numbered d')
-  again_numbered d d' allowance AgainReply.Unknown h = (h.0, ap numbered h.1)
-  again_numbered d d' allowance (AgainReply.Served s) h = (h.0, serves_numbered (record d { going = d.going - 1 }) d' allowance s h.1)
-
-  pub discard_numbered : (d d' : DeskState (Slot T)) (reply : StepReply) → Discards d reply d' → IsStep (numbered d) (Entry.Discard reply) (numbered d')
-  discard_numbered d d' StepReply.Unknown h = (h.0, ap numbered h.1)
-  discard_numbered d d' StepReply.Done h = (h.0, ap numbered h.1)
-
-  pub created_numbered : (d d' : DeskState (Slot T)) (reply : CreatedReply) → Creates d reply d' → IsStep (numbered d) (Entry.Created reply) (numbered d')
-  created_numbered d d' CreatedReply.Unknown h = (h.0, ap numbered h.1)
-  created_numbered d d' (CreatedReply.Created number) h = (h.0, h.1, ap numbered h.2)
-
-  pub failed_numbered : (d d' : DeskState (Slot T)) (reply : StepReply) → Fails d reply d' → IsStep (numbered d) (Entry.Failed reply) (numbered d')
-  failed_numbered d d' StepReply.Unknown h = (h.0, ap numbered h.1)
-  failed_numbered d d' StepReply.Done h = (h.0, ap numbered h.1)
-
-  pub refused_numbered : (d d' : DeskState (Slot T)) (reply : StepReply) → Refuses d reply d' → IsStep (numbered d) (Entry.Refused reply) (numbered d')
-  refused_numbered d d' StepReply.Unknown h = (h.0, ap numbered h.1)
-  refused_numbered d d' StepReply.Done h = (h.0, ap numbered h.1)
-
-  pub back_numbered : (d d' : DeskState (Slot T)) (slot : Slot T) (reply : BackReply (Slot T)) → TakesBack d slot reply d' → IsStep (numbered d) (Entry.Back slot.number (numbered_back reply)) (numbered d')
-  back_numbered d d' slot (BackReply.Unknown given) h = (h.0, ap number_of h.1, ap numbered h.2)
-  back_numbered d d' slot (BackReply.Dropped given) h = (h.0, h.1, ap number_of h.2, ap numbered h.3)
-  back_numbered d d' slot (BackReply.Detach given) h = (h.0, h.1, rw (length-map d.idle (number_of {T = T})) h.2, ap number_of h.3, ap numbered h.4)
-  back_numbered d d' slot BackReply.Kept h = (
+  pub does_numbered : (d d' : DeskState (Slot T)) (step : Step) (o : Option (Slot T)) (reply : Reply) → Does d step o reply d' → Does (numbered d) step (number_in o) reply (numbered d')
+  does_numbered d d' (Enter wait) None Closed h = (h.0, ap numbered h.1)
+  does_numbered d d' (Enter wait) None Full h = (h.0, h.1, h.2, ap numbered h.3)
+  does_numbered d d' (Enter wait) None (Waiting ticket) h = (h.0, h.1, h.2, h.3, ap numbered h.4)
+  does_numbered d d' (Enter wait) None OutOfMemory h = (h.0, h.1, h.2, ap numbered h.3)
+  does_numbered d d' (Enter wait) o reply h = (h.0, h.1, serves_numbered d d' None o reply h.2)
+  does_numbered d d' (Ask ticket expired) None Unknown h = (h.0, ap numbered h.1)
+  does_numbered d d' (Ask ticket expired) None Closed h = (h.0, h.1, ap numbered h.2)
+  does_numbered d d' (Ask ticket expired) None Expired h = (h.0, h.1, h.2, h.3, ap numbered h.4)
+  does_numbered d d' (Ask ticket expired) None (Waiting same) h = (h.0, h.1, h.2, h.3, h.4, ap numbered h.5)
+  does_numbered d d' (Ask ticket expired) o reply h = (h.0, h.1, serves_numbered (unqueued ticket d) d' None o reply h.2)
+  does_numbered d d' (Again allowance) None Unknown h = (h.0, ap numbered h.1)
+  does_numbered d d' (Again allowance) o reply h = (h.0, serves_numbered (record d { going = d.going - 1 }) d' allowance o reply h.1)
+  does_numbered d d' Discard None reply h = gives_up_numbered d (record d { outside = d.outside - 1; going = d.going + 1 }) d' d.outside reply h
+  does_numbered d d' Created None Unknown h = (h.0, ap numbered h.1)
+  does_numbered d d' Created None (Number number) h = (h.0, h.1, ap numbered h.2)
+  does_numbered d d' Failed None reply h = gives_up_numbered d (settled (record d { creations = d.creations - 1 })) d' d.creations reply h
+  does_numbered d d' Refused None reply h = gives_up_numbered d (settled (record d { outside = d.outside - 1 })) d' d.outside reply h
+  does_numbered d d' Back (Some slot) Unknown h = (h.0, ap numbered h.1)
+  does_numbered d d' Back (Some slot) Dropped h = (h.0, h.1, ap numbered h.2)
+  does_numbered d d' Back (Some slot) Detach h = (h.0, h.1, rw (length-map d.idle (number_of {T = T})) h.2, ap numbered h.3)
+  does_numbered d d' Back (Some slot) Kept h = (
     h.0,
     h.1,
     rw (length-map d.idle (number_of {T = T})) h.2,
     ap numbered h.3 ∙ ap (λ (i : List ℕ). settled (record (numbered d) { idle = i; outside = d.outside - 1 })) (map-append number_of d.idle (slot ∷ [])),
   )
-
-  pub cancel_numbered : (d d' : DeskState (Slot T)) (what : Held) (reply : StepReply) → Cancels d what reply d' → IsStep (numbered d) (Entry.Cancel what reply) (numbered d')
-  cancel_numbered d d' (Held.Ticket ticket) StepReply.Unknown h = (h.0, ap numbered h.1)
-  cancel_numbered d d' (Held.Ticket ticket) StepReply.Done h = (h.0, ap numbered h.1)
-  cancel_numbered d d' Held.Place StepReply.Unknown h = (h.0, ap numbered h.1)
-  cancel_numbered d d' Held.Place StepReply.Done h = (h.0, ap numbered h.1)
-  cancel_numbered d d' Held.Creation reply h = failed_numbered d d' reply h
-  cancel_numbered d d' Held.Object reply h = refused_numbered d d' reply h
+  does_numbered d d' Take None Unknown h = (h.0, ap numbered h.1)
+  does_numbered d d' Take None (Taken detach) h = (h.0, h.1, ap numbered h.2)
+  does_numbered d d' (Withdraw ticket) None Unknown h = (h.0, ap numbered h.1)
+  does_numbered d d' (Withdraw ticket) None Done h = (h.0, ap numbered h.1)
+  does_numbered d d' (Cancel held.Place) None reply h = gives_up_numbered d (settled (record d { going = d.going - 1 })) d' d.going reply h
+  does_numbered d d' (Cancel held.Creation) None reply h = gives_up_numbered d (settled (record d { creations = d.creations - 1 })) d' d.creations reply h
+  does_numbered d d' (Cancel held.Object) None reply h = gives_up_numbered d (settled (record d { outside = d.outside - 1 })) d' d.outside reply h
+  does_numbered d d' _ _ _ h = absurd h
 
   pub status_numbered : (d d' : DeskState (Slot T)) (status : Status) → Stands d status d' → IsStep (numbered d) (Entry.Status status) (numbered d')
   status_numbered d d' status h =
       let same : status_of d ≡ status_of (numbered d) = rw (length-map d.idle (number_of {T = T})) refl in
       (h.0 ∙ same, ap numbered h.1)
-
-  pub take_numbered : (d d' : DeskState (Slot T)) (reply : TakeReply) → Takes d reply d' → IsStep (numbered d) (Entry.Take reply) (numbered d')
-  take_numbered d d' TakeReply.Unknown h = (h.0, ap numbered h.1)
-  take_numbered d d' (TakeReply.Taken detach) h = (h.0, h.1, ap numbered h.2)
 
   resized_numbered : (limit : ℕ) (d : DeskState (Slot T)) → numbered (resized limit d) ≡ resized limit (numbered d)
   resized_numbered limit d =

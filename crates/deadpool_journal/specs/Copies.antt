@@ -1,7 +1,7 @@
 -- A journal as it is handed out.
 use Rattle.std.specs.Prelude.{ℕ}
 use Rattle.deadpool_desk.specs.DeskState.{DeskState, new_core}
-use Rattle.deadpool_journal.specs.Replay.{AreSteps}
+use Rattle.deadpool_journal.specs.Replay.{Runs}
 use Rattle.deadpool_journal.specs.declared.journal.Journal.{Journal}
 
 -- the desk that its pool opened as
@@ -10,4 +10,4 @@ opened_as journal = new_core journal.limit journal.mode 0 journal.min_idle
 
 -- its entries are steps from there on
 abbrev pub HasSteps : Journal → Type 0
-HasSteps journal = AreSteps (opened_as journal) journal.entries.items
+HasSteps journal = (last : DeskState ℕ) × Runs (opened_as journal) journal.entries.items last

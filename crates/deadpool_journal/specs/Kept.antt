@@ -1,14 +1,13 @@
 -- What a pool's state with its journal keeps.
-use Rattle.std.specs.Prelude.{◌≡◌, ◌≤◌, true, false, length}
+use Rattle.std.specs.Prelude.{◌≡◌, ◌≤◌, ℕ, true, false, length}
+use Rattle.deadpool_desk.specs.DeskState.{DeskState}
 use Rattle.deadpool_journal.specs.ByNumber.{numbered}
 use Rattle.deadpool_journal.specs.Journaling.{Journaling, opening}
-use Rattle.deadpool_journal.specs.Replay.{replayed, AreSteps}
+use Rattle.deadpool_journal.specs.Replay.{Runs}
 
 pub record IsKept {T : Type 0} (j : Journaling T) : Type 0 where
-  -- each entry has the reply of the desk machine at its point
-  pub steps : AreSteps (opening j) j.log.entries
-  -- until the mark is set, the replay is the state
-  pub replays : j.log.is_full ≡ false → replayed (opening j) j.log.entries ≡ numbered j.core.desk
+  -- the entries are steps from the pool as it opened, and lead to the state until the mark is set
+  pub steps : (last : DeskState ℕ) × Runs (opening j) j.log.entries last × (j.log.is_full ≡ false → last ≡ numbered j.core.desk)
   -- there are no more entries than there may be
   pub within : length j.log.entries ≤ j.log.most
   -- and just as many once the mark is set

@@ -1,66 +1,27 @@
 -- The steps of a pool with its journal: each is the pool's own, and is noted with its reply, objects by number.
 use Rattle.std.specs.Prelude.{◌≡◌, ℕ, Bool, List, Option, Result, Ok, Err}
+use Rattle.std.specs.Option.{option_or}
 use Rattle.std.specs.declared.alloc.AllocError.{AllocError}
 use Rattle.deadpool_parts.specs.declared.replies.HandleReply.{HandleReply}
-use Rattle.deadpool_parts.specs.declared.replies.StepReply.{StepReply}
 use Rattle.deadpool_parts.specs.declared.status.Status.{Status}
-use Rattle.deadpool_desk.specs.CoreSteps.{Enters, Asks, AsksAgain, Discards, Creates, Fails, Refuses, TakesBack, Cancels, Stands, Takes, Resizes, Retains, RetainsNoting, Closes, Clones, DropsHandle, Upgrades, Tells}
+use Rattle.deadpool_desk.specs.CoreSteps.{Makes, Stands, Resizes, Retains, RetainsNoting, Closes, Clones, DropsHandle, Upgrades, Tells}
 use Rattle.deadpool_desk.specs.Retained.{Retained}
-use Rattle.deadpool_desk.specs.declared.desk.AgainReply.{AgainReply}
-use Rattle.deadpool_desk.specs.declared.desk.AskReply.{AskReply}
-use Rattle.deadpool_desk.specs.declared.desk.BackReply.{BackReply}
-use Rattle.deadpool_desk.specs.declared.desk.CreatedReply.{CreatedReply}
-use Rattle.deadpool_desk.specs.declared.desk.EnterReply.{EnterReply}
-use Rattle.deadpool_desk.specs.declared.desk.Held.{Held}
-use Rattle.deadpool_desk.specs.declared.desk.TakeReply.{TakeReply}
 use Rattle.deadpool_desk.specs.declared.retain.Removal.{Removal}
 use Rattle.deadpool_desk.specs.declared.retain.Retainer.{Ghosts as RetainerOf}
 use Rattle.deadpool_desk.specs.declared.slot.Slot.{Slot}
-use Rattle.deadpool_journal.specs.ByNumber.{numbered_enter, numbered_ask, numbered_again, numbered_back}
+use Rattle.deadpool_desk.specs.declared.step.Reply.{Reply}
+use Rattle.deadpool_desk.specs.declared.step.Step.{Step}
+use Rattle.deadpool_journal.specs.ByNumber.{number_in}
 use Rattle.deadpool_journal.specs.Journaling.{Journaling, Notes}
 use Rattle.deadpool_journal.specs.declared.entry.Entry.TheVariants as entry
 
 module _ {T : Type 0} where
-  abbrev pub EntersNoted : Journaling T → Bool → EnterReply (Slot T) → Journaling T → Type 0
-  EntersNoted j wait reply j' =
-      Enters j.core wait reply j'.core × Notes (entry.Enter wait (numbered_enter reply)) j j'
-
-  abbrev pub AsksNoted : Journaling T → ℕ → Bool → AskReply (Slot T) → Journaling T → Type 0
-  AsksNoted j ticket expired reply j' =
-      Asks j.core ticket expired reply j'.core
-      × Notes (entry.Ask ticket expired (numbered_ask reply)) j j'
-
-  abbrev pub AsksAgainNoted : Journaling T → Option ℕ → AgainReply (Slot T) → Journaling T → Type 0
-  AsksAgainNoted j allowance reply j' =
-      AsksAgain j.core allowance reply j'.core
-      × Notes (entry.Again allowance (numbered_again reply)) j j'
-
-  abbrev pub DiscardsNoted : Journaling T → StepReply → Journaling T → Type 0
-  DiscardsNoted j reply j' = Discards j.core reply j'.core × Notes (entry.Discard reply) j j'
-
-  abbrev pub CreatesNoted : Journaling T → CreatedReply → Journaling T → Type 0
-  CreatesNoted j reply j' = Creates j.core reply j'.core × Notes (entry.Created reply) j j'
-
-  abbrev pub FailsNoted : Journaling T → StepReply → Journaling T → Type 0
-  FailsNoted j reply j' = Fails j.core reply j'.core × Notes (entry.Failed reply) j j'
-
-  abbrev pub RefusesNoted : Journaling T → StepReply → Journaling T → Type 0
-  RefusesNoted j reply j' = Refuses j.core reply j'.core × Notes (entry.Refused reply) j j'
-
-  abbrev pub TakesBackNoted : Journaling T → Slot T → BackReply (Slot T) → Journaling T → Type 0
-  TakesBackNoted j slot reply j' =
-      TakesBack j.core slot reply j'.core
-      × Notes (entry.Back slot.number (numbered_back reply)) j j'
-
-  abbrev pub CancelsNoted : Journaling T → Held → StepReply → Journaling T → Type 0
-  CancelsNoted j held reply j' =
-      Cancels j.core held reply j'.core × Notes (entry.Cancel held reply) j j'
+  abbrev pub MakesNoted : Journaling T → Step → Option (Slot T) → Reply → Option (Slot T) → Journaling T → Type 0
+  MakesNoted j step was reply hand j' =
+      Makes j.core step was reply hand j'.core × Notes (entry.Made step (number_in (option_or was hand)) reply) j j'
 
   abbrev pub StandsNoted : Journaling T → Status → Journaling T → Type 0
   StandsNoted j status j' = Stands j.core status j'.core × Notes (entry.Status status) j j'
-
-  abbrev pub TakesNoted : Journaling T → TakeReply → Journaling T → Type 0
-  TakesNoted j reply j' = Takes j.core reply j'.core × Notes (entry.Take reply) j j'
 
   abbrev pub ResizesNoted : Journaling T → ℕ → Result (Unit {0}) AllocError → Journaling T → Type 0
   ResizesNoted j limit reply j' =

@@ -8,14 +8,14 @@ ghost use Rattle.deadpool_desk.specs.Settled.{NobodyWaits};
 ghost use Rattle.deadpool_journal.specs.Copies.{HasSteps};
 ghost use Rattle.deadpool_journal.specs.Kept.{IsKept};
 ghost use Rattle.deadpool_journal.specs.LogState.{no_entries};
-ghost use Rattle.deadpool_journal.specs.Steps.{EntersNoted, AsksNoted, AsksAgainNoted, DiscardsNoted, CreatesNoted, FailsNoted, RefusesNoted, TakesBackNoted, CancelsNoted, StandsNoted, TakesNoted, ResizesNoted, RetainsNoted, ClosesNoted, ClonesNoted, DropsHandleNoted, UpgradesNoted, TellsUnnoted};
+ghost use Rattle.deadpool_journal.specs.Steps.{MakesNoted, StandsNoted, ResizesNoted, RetainsNoted, ClosesNoted, ClonesNoted, DropsHandleNoted, UpgradesNoted, TellsUnnoted};
 
-use crate::log::Log;
+use crate::log::{Log, number_in};
 use crate::{Entry, Journal};
 use deadpool_desk::gate::Ticket;
 use deadpool_desk::{
-    AgainReply, AskReply, BackReply, Core, CreatedReply, Desk, EnterReply, HandleReply, Held,
-    OwnerDesk, QueueMode, RetainResult, Retainer, Slot, Status, StepReply, TakeReply,
+    Core, Desk, HandleReply, OwnerDesk, QueueMode, Reply, RetainResult, Retainer, Slot, Status,
+    Step,
 };
 use std::alloc::{AllocError, Global};
 use std::marker::Model;
@@ -178,98 +178,13 @@ impl<T: Drop> Journaled<T> {
 }
 
 impl<T: Drop> Desk<T> for Journaled<T> {
-    ghost enters = { EntersNoted };
-
-    ghost asks = { AsksNoted };
-
-    ghost asks_again = { AsksAgainNoted };
-
-    ghost discards = { DiscardsNoted };
-
-    ghost creates = { CreatesNoted };
-
-    ghost fails = { FailsNoted };
-
-    ghost refuses = { RefusesNoted };
-
-    ghost takes_back = { TakesBackNoted };
-
-    ghost cancels = { CancelsNoted };
-
-    ghost takes = { TakesNoted };
+    ghost makes = { MakesNoted };
 
     #[inline(always)]
-    fn enter_in(&mut self, wait: bool, place: &mut Option<Slot<T>>) -> EnterReply<()> {
-        let reply = self.core.enter_in(wait, place);
-        self.log.add_enter(wait, &reply, place);
-        reply
-    }
-
-    fn ask_in(
-        &mut self,
-        ticket: Ticket,
-        expired: bool,
-        place: &mut Option<Slot<T>>,
-    ) -> AskReply<()> {
-        let reply = self.core.ask_in(ticket, expired, place);
-        self.log.add_ask(ticket, expired, &reply, place);
-        reply
-    }
-
-    fn again_in(
-        &mut self,
-        allowance: Option<usize>,
-        place: &mut Option<Slot<T>>,
-    ) -> AgainReply<()> {
-        let reply = self.core.again_in(allowance, place);
-        self.log.add_again(allowance, &reply, place);
-        reply
-    }
-
-    fn discard(&mut self) -> StepReply {
-        let reply = self.core.discard();
-        self.log.add(Entry::Discard(reply));
-        reply
-    }
-
-    fn created(&mut self) -> CreatedReply {
-        let reply = self.core.created();
-        self.log.add(Entry::Created(reply));
-        reply
-    }
-
-    fn failed(&mut self) -> StepReply {
-        let reply = self.core.failed();
-        self.log.add(Entry::Failed(reply));
-        reply
-    }
-
-    fn refused(&mut self) -> StepReply {
-        let reply = self.core.refused();
-        self.log.add(Entry::Refused(reply));
-        reply
-    }
-
-    fn back(&mut self, slot: Slot<T>) -> BackReply<Slot<T>>
-        ensures { TakesBackNoted self.old slot result self.new }
-    {
-        let number = slot.number;
-        let reply = self.core.back(slot);
-        self.log.add_back(number, &reply);
-        reply
-    }
-
-    fn cancel(&mut self, held: Held) -> StepReply {
-        // A copy: a call moves what may hold a ticket.
-        let what = held;
-        let reply = self.core.cancel(held);
-        self.log.add(Entry::Cancel(what, reply));
-        reply
-    }
-
-    fn take(&mut self) -> TakeReply {
-        let reply = self.core.take();
-        self.log.add(Entry::Take(reply));
+    fn make(&mut self, step: &Step, hand: &mut Option<Slot<T>>) -> Reply {
+        let taken = number_in(hand);
+        let reply = self.core.make(step, hand);
+        self.log.add_step(step, taken, hand, &reply);
         reply
     }
 }

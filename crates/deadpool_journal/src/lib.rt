@@ -1,9 +1,7 @@
 //! A managed pool's state with a journal of its steps, for whoever keeps both under a lock. Nothing here takes one.
 #![tactic(auto)]
 
-pub mod by_number;
 mod entry;
-mod in_place;
 mod journal;
 mod journaled;
 mod log;

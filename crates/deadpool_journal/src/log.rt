@@ -3,18 +3,13 @@
 //! Each get through a handle of its own enters, comes back, and counts a handle twice. So for these the mark is looked at first,
 //! and the entry is made in a function that stands apart: once the mark is set none is made.
 ghost use Rattle.std.specs.Prelude.{◌≡◌, ◌≤◌, IfOk, Option, length, nat_lt, true, option_copied, slice_get};
-ghost use Rattle.deadpool_desk.specs.Parts.{IsParted, IsPartedAgain, IsPartedAsk};
-ghost use Rattle.deadpool_desk.specs.declared.desk.AgainReply.{AgainReply};
-ghost use Rattle.deadpool_desk.specs.declared.desk.AskReply.{AskReply};
-ghost use Rattle.deadpool_desk.specs.declared.desk.EnterReply.{EnterReply};
-ghost use Rattle.deadpool_desk.specs.declared.slot.Slot.{Slot};
-ghost use Rattle.deadpool_journal.specs.ByNumber.{numbered_enter, numbered_ask, numbered_again, numbered_back};
+ghost use Rattle.std.specs.Option.{option_or};
+ghost use Rattle.deadpool_journal.specs.ByNumber.{number_in};
 ghost use Rattle.deadpool_journal.specs.LogState.{no_entries, noted};
 ghost use Rattle.deadpool_journal.specs.declared.entry.Entry.TheVariants as entry;
 
-use crate::{Entry, by_number, in_place};
-use deadpool_desk::gate::Ticket;
-use deadpool_desk::{AgainReply, AskReply, BackReply, EnterReply, HandleReply, Slot};
+use crate::Entry;
+use deadpool_desk::{HandleReply, Reply, Slot, Step};
 use deadpool_parts::tables::append;
 use std::alloc::{AllocError, Global};
 use std::marker::Model;
@@ -77,87 +72,39 @@ impl Log {
         append(&mut self.entries, entry);
     }
 
-    /// One entry more, of a new get, whose object is in its place. Nothing is made of the reply if the mark is set.
-    pub fn add_enter<T>(&mut self, wait: bool, rest: &EnterReply<()>, place: &Option<Slot<T>>)
-        requires { (whole : EnterReply (Slot T)) × (was : Option (Slot T))
-            × IsParted whole rest.now was place.now }
-        ensures { (whole : EnterReply (Slot T)) (was : Option (Slot T))
-            → IsParted whole rest.now was place.now
-            → self.new ≡ noted (entry.Enter wait (numbered_enter whole)) self.old }
+    /// One entry more, of a step, with the number of the object that it took, or of what is in the hand after it. Nothing is
+    /// made of it if the mark is set.
+    #[inline(always)]
+    pub fn add_step<T>(
+        &mut self,
+        step: &Step,
+        taken: Option<usize>,
+        hand: &Option<Slot<T>>,
+        reply: &Reply,
+    )
+        ensures { self.new
+            ≡ noted (entry.Made step.now (option_or taken (number_in hand.now)) reply.now) self.old }
     {
         if self.is_full {
             return;
         }
-        self.note_enter(wait, rest, place);
+        self.note_step(step, taken, hand, reply);
     }
 
     #[cold]
     #[inline(never)]
-    fn note_enter<T>(&mut self, wait: bool, rest: &EnterReply<()>, place: &Option<Slot<T>>)
-        requires { (whole : EnterReply (Slot T)) × (was : Option (Slot T))
-            × IsParted whole rest.now was place.now }
-        ensures { (whole : EnterReply (Slot T)) (was : Option (Slot T))
-            → IsParted whole rest.now was place.now
-            → self.new ≡ noted (entry.Enter wait (numbered_enter whole)) self.old }
-    {
-        self.add(Entry::Enter(wait, in_place::entering(rest, place)));
-    }
-
-    /// One entry more, of a get in the queue, whose object is in its place.
-    pub fn add_ask<T>(
+    fn note_step<T>(
         &mut self,
-        ticket: Ticket,
-        expired: bool,
-        rest: &AskReply<()>,
-        place: &Option<Slot<T>>,
+        step: &Step,
+        taken: Option<usize>,
+        hand: &Option<Slot<T>>,
+        reply: &Reply,
     )
-        requires { (whole : AskReply (Slot T)) × (was : Option (Slot T))
-            × IsPartedAsk whole rest.now was place.now }
-        ensures { (whole : AskReply (Slot T)) (was : Option (Slot T))
-            → IsPartedAsk whole rest.now was place.now
-            → self.new ≡ noted (entry.Ask ticket expired (numbered_ask whole)) self.old }
+        ensures { self.new
+            ≡ noted (entry.Made step.now (option_or taken (number_in hand.now)) reply.now) self.old }
     {
-        if self.is_full {
-            return;
-        }
-        self.add(Entry::Ask(ticket, expired, in_place::asking(rest, place)));
-    }
-
-    /// One entry more, of a get that goes on, whose object is in its place.
-    pub fn add_again<T>(
-        &mut self,
-        allowance: Option<usize>,
-        rest: &AgainReply<()>,
-        place: &Option<Slot<T>>,
-    )
-        requires { (whole : AgainReply (Slot T)) × (was : Option (Slot T))
-            × IsPartedAgain whole rest.now was place.now }
-        ensures { (whole : AgainReply (Slot T)) (was : Option (Slot T))
-            → IsPartedAgain whole rest.now was place.now
-            → self.new ≡ noted (entry.Again allowance (numbered_again whole)) self.old }
-    {
-        if self.is_full {
-            return;
-        }
-        self.add(Entry::Again(allowance, in_place::asking_again(rest, place)));
-    }
-
-    /// One entry more, of an object that comes back.
-    pub fn add_back<T>(&mut self, number: usize, reply: &BackReply<Slot<T>>)
-        ensures { self.new ≡ noted (entry.Back number (numbered_back reply.now)) self.old }
-    {
-        if self.is_full {
-            return;
-        }
-        self.note_back(number, reply);
-    }
-
-    #[cold]
-    #[inline(never)]
-    fn note_back<T>(&mut self, number: usize, reply: &BackReply<Slot<T>>)
-        ensures { self.new ≡ noted (entry.Back number (numbered_back reply.now)) self.old }
-    {
-        self.add(Entry::Back(number, by_number::coming_back(reply)));
+        let number = taken.or(number_in(hand));
+        self.add(Entry::Made(*step, number, *reply));
     }
 
     /// One entry more, of a handle that is counted.
@@ -234,5 +181,15 @@ impl Log {
         ensures { result ≡ self.now.is_full }
     {
         self.is_full
+    }
+}
+
+/// The number of the object in a hand.
+pub(crate) fn number_in<T>(hand: &Option<Slot<T>>) -> Option<usize>
+    ensures { result ≡ number_in hand.now }
+{
+    match hand {
+        Some(slot) => Some(slot.number),
+        None => None,
     }
 }

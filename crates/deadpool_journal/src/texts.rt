@@ -1,9 +1,6 @@
 //! A journal as text: one entry a line.
 use crate::{Entry, Journal};
-use deadpool_desk::{
-    AgainReply, AskReply, BackReply, CreatedReply, EnterReply, HandleReply, Held, QueueMode,
-    Removal, Removals, Serving, Status, StepReply, TakeReply,
-};
+use deadpool_desk::{HandleReply, Held, QueueMode, Removal, Removals, Reply, Status, Step};
 use std::fmt;
 
 impl fmt::Display for Journal {
@@ -28,35 +25,15 @@ impl fmt::Display for Journal {
 impl fmt::Display for Entry {
     fn fmt<W: fmt::Write>(&self, f: &mut fmt::Formatter<W>) -> fmt::Result {
         match self {
-            Entry::Enter(wait, reply) => {
-                f.write_str(if *wait { "enter " } else { "enter at_once " })?;
-                write_entered(f, reply)
-            }
-            Entry::Ask(ticket, expired, reply) => {
-                let number = ticket.number();
-                let late = if *expired { "late " } else { "" };
-                write!(f, "ask {number} {late}")?;
-                write_asked(f, reply)
-            }
-            Entry::Again(allowance, reply) => {
-                f.write_str("again ")?;
-                if let Some(allowance) = allowance {
-                    write!(f, "{allowance} ")?;
+            Entry::Made(step, number, reply) => {
+                write_step(f, step, *number)?;
+                match (step, reply) {
+                    // (under the ticket by which it asked)
+                    (Step::Ask { .. }, Reply::Waiting(_)) => f.write_str("waiting"),
+                    _ => write_reply(f, *number, reply),
                 }
-                write_gone_on(f, reply)
-            }
-            Entry::Discard(reply) => write!(f, "discard {}", step_word(*reply)),
-            Entry::Created(CreatedReply::Created(number)) => write!(f, "created {number}"),
-            Entry::Created(CreatedReply::Unknown) => f.write_str("created unknown"),
-            Entry::Failed(reply) => write!(f, "failed {}", step_word(*reply)),
-            Entry::Refused(reply) => write!(f, "refused {}", step_word(*reply)),
-            Entry::Back(number, reply) => write!(f, "back {number} {}", back_word(reply)),
-            Entry::Cancel(held, reply) => {
-                write_cancel(f, *held)?;
-                f.write_str(step_word(*reply))
             }
             Entry::Status(status) => write_status(f, *status),
-            Entry::Take(reply) => write!(f, "take {}", take_word(*reply)),
             Entry::Resize(limit, Ok(())) => write!(f, "resize {limit} done"),
             Entry::Resize(limit, Err(_)) => write!(f, "resize {limit} out_of_memory"),
             Entry::Retain(Ok(removals)) => write_removals(f, removals),
@@ -69,54 +46,64 @@ impl fmt::Display for Entry {
     }
 }
 
-fn write_served<W: fmt::Write>(f: &mut fmt::Formatter<W>, serving: &Serving<usize>) -> fmt::Result {
-    match serving {
-        Serving::Object(number, left) => write!(f, "object {number} left {left}"),
-        Serving::Create => f.write_str("create"),
-        Serving::Going => f.write_str("going"),
-        Serving::Exhausted => f.write_str("exhausted"),
+fn write_step<W: fmt::Write>(
+    f: &mut fmt::Formatter<W>,
+    step: &Step,
+    number: Option<usize>,
+) -> fmt::Result {
+    match step {
+        Step::Enter { wait } => f.write_str(if *wait { "enter " } else { "enter at_once " }),
+        Step::Ask { ticket, expired } => {
+            let number = ticket.number();
+            let late = if *expired { "late " } else { "" };
+            write!(f, "ask {number} {late}")
+        }
+        Step::Again { allowance: None } => f.write_str("again "),
+        Step::Again {
+            allowance: Some(allowance),
+        } => write!(f, "again {allowance} "),
+        Step::Discard => f.write_str("discard "),
+        Step::Created => f.write_str("created "),
+        Step::Failed => f.write_str("failed "),
+        Step::Refused => f.write_str("refused "),
+        Step::Back => {
+            let number = number.unwrap_or(0);
+            write!(f, "back {number} ")
+        }
+        Step::Withdraw { ticket } => write!(f, "cancel ticket {} ", ticket.number()),
+        Step::Cancel(Held::Place) => f.write_str("cancel place "),
+        Step::Cancel(Held::Creation) => f.write_str("cancel creation "),
+        Step::Cancel(Held::Object) => f.write_str("cancel object "),
+        Step::Take => f.write_str("take "),
     }
 }
 
-fn write_entered<W: fmt::Write>(
+fn write_reply<W: fmt::Write>(
     f: &mut fmt::Formatter<W>,
-    reply: &EnterReply<usize>,
+    number: Option<usize>,
+    reply: &Reply,
 ) -> fmt::Result {
     match reply {
-        EnterReply::Served(serving) => write_served(f, serving),
-        EnterReply::Closed => f.write_str("closed"),
-        EnterReply::Full => f.write_str("full"),
-        EnterReply::Waiting(ticket) => write!(f, "waiting {}", ticket.number()),
-        EnterReply::OutOfMemory => f.write_str("out_of_memory"),
-    }
-}
-
-fn write_asked<W: fmt::Write>(f: &mut fmt::Formatter<W>, reply: &AskReply<usize>) -> fmt::Result {
-    match reply {
-        AskReply::Served(serving) => write_served(f, serving),
-        AskReply::Closed => f.write_str("closed"),
-        AskReply::Expired => f.write_str("expired"),
-        AskReply::Waiting => f.write_str("waiting"),
-        AskReply::Unknown => f.write_str("unknown"),
-    }
-}
-
-fn write_gone_on<W: fmt::Write>(
-    f: &mut fmt::Formatter<W>,
-    reply: &AgainReply<usize>,
-) -> fmt::Result {
-    match reply {
-        AgainReply::Served(serving) => write_served(f, serving),
-        AgainReply::Unknown => f.write_str("unknown"),
-    }
-}
-
-fn write_cancel<W: fmt::Write>(f: &mut fmt::Formatter<W>, held: Held) -> fmt::Result {
-    match held {
-        Held::Ticket(ticket) => write!(f, "cancel ticket {} ", ticket.number()),
-        Held::Place => f.write_str("cancel place "),
-        Held::Creation => f.write_str("cancel creation "),
-        Held::Object => f.write_str("cancel object "),
+        Reply::Object { left } => {
+            let number = number.unwrap_or(0);
+            write!(f, "object {number} left {left}")
+        }
+        Reply::Create => f.write_str("create"),
+        Reply::Going => f.write_str("going"),
+        Reply::Exhausted => f.write_str("exhausted"),
+        Reply::Closed => f.write_str("closed"),
+        Reply::Full => f.write_str("full"),
+        Reply::Waiting(ticket) => write!(f, "waiting {}", ticket.number()),
+        Reply::OutOfMemory => f.write_str("out_of_memory"),
+        Reply::Expired => f.write_str("expired"),
+        Reply::Done => f.write_str("done"),
+        Reply::Number(number) => write!(f, "{number}"),
+        Reply::Kept => f.write_str("kept"),
+        Reply::Detach => f.write_str("detach"),
+        Reply::Dropped => f.write_str("dropped"),
+        Reply::Taken { detach: true } => f.write_str("detach"),
+        Reply::Taken { detach: false } => f.write_str("taken"),
+        Reply::Unknown => f.write_str("unknown"),
     }
 }
 
@@ -139,34 +126,9 @@ fn write_removals<W: fmt::Write>(f: &mut fmt::Formatter<W>, removals: &Removals)
     Ok(())
 }
 
-fn step_word(reply: StepReply) -> &'static str {
-    match reply {
-        StepReply::Done => "done",
-        StepReply::Unknown => "unknown",
-    }
-}
-
 fn handle_word(reply: HandleReply) -> &'static str {
     match reply {
         HandleReply::Done => "done",
         HandleReply::NoHandle => "no_handle",
-    }
-}
-
-fn take_word(reply: TakeReply) -> &'static str {
-    match reply {
-        TakeReply::Taken { detach: true } => "detach",
-        TakeReply::Taken { detach: false } => "taken",
-        TakeReply::Unknown => "unknown",
-    }
-}
-
-// The number of the object stands before it.
-fn back_word(reply: &BackReply<usize>) -> &'static str {
-    match reply {
-        BackReply::Kept => "kept",
-        BackReply::Detach(_) => "detach",
-        BackReply::Dropped(_) => "dropped",
-        BackReply::Unknown(_) => "unknown",
     }
 }

@@ -8,4 +8,5 @@ pub mod HookLists
 pub mod IdleLists
 pub mod Phases
 pub mod Polls
+pub mod Served
 pub mod Words

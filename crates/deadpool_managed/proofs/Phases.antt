@@ -1,14 +1,14 @@
 -- What a get's phase, with its object beside it, comes to.
-use Rattle.deadpool_managed.proofs.Words.{⊤, ◌≡◌, ◌≢◌, ℕ, Option, Some, None, Ok, refl, ap, PoolError, StepReply, HookError, Moment, Runtime, Timeouts, HookLists, May, ended_by, AdvancesFrom, CancelsFrom, no_step, discarding, refusing, cancelling, IsPlaced, recycling_at, stage_of, turn_of, came_by, preparation_of, PreparesIn, ChecksIn, GivesUpIn, DiscardsIn, RefusesIn, Position, Preparing, Turn, Slot, Stage, Prepared, Phase, Came, Held, Outcome, Verdict}
+use Rattle.deadpool_managed.proofs.Words.{⊤, ◌≡◌, ◌≢◌, ℕ, Option, Some, None, Ok, refl, ap, PoolError, HookError, Moment, Runtime, Timeouts, HookLists, May, ended_by, AdvancesFrom, CancelsFrom, no_step, making, IsPlaced, recycling_at, stage_of, turn_of, came_by, preparation_of, PreparesIn, ChecksIn, GivesUpIn, DiscardsIn, RefusesIn, Position, Preparing, Turn, Slot, Stage, Prepared, Phase, Came, Held, Reply, Step, Outcome, Verdict}
 
 module _ {V C R S : Type 0} where
   pub finished : (phase : Phase C R S) (slot : Option (Slot V)) → phase ≡ Phase.Finished → stage_of phase slot ≡ Stage.Finished
   finished phase slot is = rw is refl
 
 module _ {V E : Type 0} where
-  pub ended_is : (cause : PoolError E) (reply : StepReply) (came : Came E) (slot : Option (Slot V)) → came ≡ came_by cause reply → turn_of came slot ≡ ended_by cause reply
-  ended_is cause StepReply.Done came slot is = rw is refl
-  ended_is cause StepReply.Unknown came slot is = rw is refl
+  pub ended_is : (cause : PoolError E) (reply : Reply) (came : Came E) (slot : Option (Slot V)) → came ≡ came_by cause reply → turn_of came slot ≡ ended_by cause reply
+  ended_is cause Reply.Done came slot is = rw is refl
+  ended_is cause _ came slot is = rw is refl
 
   pub more_is : (x : Came E) (slot : Option (Slot V)) → x ≡ Came.More → turn_of x slot ≡ Turn.More
   more_is x slot is = rw is refl
@@ -45,9 +45,9 @@ module _ {V E C R S F A : Type 0} (may : May V E C R S F A) (runtime : Option Ru
   pending_in preparing next allowance None (Some left) given = absurd given
   pending_in preparing next allowance None None given = absurd given
 
-  pub given_up_in : (preparing : Preparing R S) (allowance : Option ℕ) (place left : Option (Slot V)) (reply : StepReply) (after : Stage V C R S) (turn : Turn V E)
+  pub given_up_in : (preparing : Preparing R S) (allowance : Option ℕ) (place left : Option (Slot V)) (reply : Reply) (after : Stage V C R S) (turn : Turn V E)
       → PreparesIn may now runtime timeouts.recycle hooks preparing place Outcome.GivenUp left → DiscardsIn may left allowance reply after turn
-      → AdvancesFrom may runtime hooks now timeouts (recycling_at {C = C} preparing allowance place) (discarding reply) after turn
+      → AdvancesFrom may runtime hooks now timeouts (recycling_at {C = C} preparing allowance place) (making Step.Discard reply None) after turn
   given_up_in preparing allowance (Some slot) (Some left) reply after turn given discards = (Prepared.GivenUp left, (given, discards))
   given_up_in preparing allowance (Some slot) None reply after turn given discards = absurd given
   given_up_in preparing allowance None (Some left) reply after turn given discards = absurd given
@@ -69,9 +69,9 @@ module _ {V E C R S F A : Type 0} (may : May V E C R S F A) (runtime : Option Ru
   checking_in at next None (Some left) given = absurd given
   checking_in at next None None given = absurd given
 
-  pub refused_in : (at : Position S) (cause : HookError E) (place left : Option (Slot V)) (reply : StepReply) (after : Stage V C R S) (turn : Turn V E)
+  pub refused_in : (at : Position S) (cause : HookError E) (place left : Option (Slot V)) (reply : Reply) (after : Stage V C R S) (turn : Turn V E)
       → ChecksIn may hooks at place (Verdict.Refused cause) left → RefusesIn may left cause reply after turn
-      → AdvancesFrom may runtime hooks now timeouts (stage_of (Phase.Checking at) place) (refusing reply) after turn
+      → AdvancesFrom may runtime hooks now timeouts (stage_of (Phase.Checking at) place) (making Step.Refused reply None) after turn
   refused_in at cause (Some slot) (Some left) reply after turn given refuses = ((Verdict.Refused cause, left.value), (given.0, refuses))
   refused_in at cause (Some slot) None reply after turn given refuses = absurd given
   refused_in at cause None (Some left) reply after turn given refuses = absurd given
@@ -86,15 +86,15 @@ HasObject _ = ⊥
 
 -- an object under preparation that is given up when its get is cancelled
 module _ {V E C R S F A : Type 0} (may : May V E C R S F A) (P : V → Type 0) where
-  pub cancelled_in : (phase : Phase C R S) (place : Option (Slot V)) (reply : StepReply) → HasObject phase → IsPlaced P phase place → GivesUpIn may place reply
-      → CancelsFrom may (stage_of phase place) (cancelling Held.Object reply)
-  cancelled_in (Phase.Served left) (Some slot) reply has placed given = (refl, given)
+  pub cancelled_in : (phase : Phase C R S) (place : Option (Slot V)) (reply : Reply) → HasObject phase → IsPlaced P phase place → GivesUpIn may place reply
+      → CancelsFrom may (stage_of phase place) (making (Step.Cancel Held.Object) reply None)
+  cancelled_in (Phase.Served left) (Some slot) reply has placed given = given
   cancelled_in (Phase.Served left) None reply has placed given = absurd placed
-  cancelled_in (Phase.Recycling (Preparing.PreRecycle at)) (Some slot) reply has placed given = (refl, given)
-  cancelled_in (Phase.Recycling (Preparing.Recycle r deadline)) (Some slot) reply has placed given = (refl, given)
-  cancelled_in (Phase.Recycling (Preparing.PostRecycle at)) (Some slot) reply has placed given = (refl, given)
+  cancelled_in (Phase.Recycling (Preparing.PreRecycle at)) (Some slot) reply has placed given = given
+  cancelled_in (Phase.Recycling (Preparing.Recycle r deadline)) (Some slot) reply has placed given = given
+  cancelled_in (Phase.Recycling (Preparing.PostRecycle at)) (Some slot) reply has placed given = given
   cancelled_in (Phase.Recycling preparing) None reply has placed given = absurd placed
-  cancelled_in (Phase.Checking at) (Some slot) reply has placed given = (refl, given)
+  cancelled_in (Phase.Checking at) (Some slot) reply has placed given = given
   cancelled_in (Phase.Checking at) None reply has placed given = absurd placed
   cancelled_in Phase.Unpolled place reply has placed given = absurd has
   cancelled_in (Phase.Queued ticket deadline) place reply has placed given = absurd has

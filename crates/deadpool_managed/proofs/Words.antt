@@ -1,16 +1,18 @@
 -- The words of a get, its desk and its manager, and those of std, that the proofs cite, passed on from one place.
 pub use Rattle.deadpool_desk.specs.CoreState.{CoreState}
-pub use Rattle.deadpool_desk.specs.CoreSteps.{Enters, Asks, AsksAgain, Discards, Creates, Fails, Refuses, TakesBack, Cancels, Takes}
+pub use Rattle.deadpool_desk.specs.CoreSteps.{Makes as CoreMakes, untold_after, Queues}
 pub use Rattle.deadpool_desk.specs.DeskState.{DeskState, places, next_idle, other_idle, settled}
-pub use Rattle.deadpool_desk.specs.DeskSteps.{Serves}
+pub use Rattle.deadpool_desk.specs.DeskSteps.{Serves, Does}
+pub use Rattle.deadpool_desk.specs.Replies.{IsReplyTo}
 pub use Rattle.deadpool_desk.specs.Metrics.{new_metrics}
-pub use Rattle.deadpool_desk.specs.declared.desk.{AgainReply.AgainReply, CreatedReply.CreatedReply, Desk.Ghosts as DeskOf, EnterReply.EnterReply, Held.Held, Serving.Serving}
+pub use Rattle.deadpool_desk.specs.declared.desk.{Desk.Ghosts as DeskOf}
+pub use Rattle.deadpool_desk.specs.declared.step.{Held.Held, Reply.Reply, Step.Step}
 pub use Rattle.deadpool_desk.specs.declared.metrics.Metrics.{Metrics}
 pub use Rattle.deadpool_desk.specs.declared.slot.Slot.{Slot}
 pub use Rattle.deadpool_managed.specs.Bounds.{until_allowance, lacks_allowance, weight, Falls, IsNewObject}
 pub use Rattle.deadpool_managed.specs.Calls.{start, ask_hook, followed, ask_hooks}
 pub use Rattle.deadpool_managed.specs.FirstPoll.{AtOnce, FirstPoll, FirstPollEnded, FirstCreation, in_order, IsGivenUp, EndsAt, TakesFirst, ChecksAs, CreatesAs, CreatesOne, MayPrepare}
-pub use Rattle.deadpool_managed.specs.Get.{Made, no_step, entering, asking, asking_again, discarding, creating, failing, refusing, cancelling, Makes, AfterServing, AfterCreation, AfterDiscard, AfterPrepared, AfterChecked, AdvancesCreation, AdvancesFrom, Advanced, Advances, PollsOver, ended_by, CancelsFrom}
+pub use Rattle.deadpool_managed.specs.Get.{Made, no_step, making, Makes, IsReport, IsServing, AfterServed, AfterCreated, AfterCreation, AfterDiscard, AfterPrepared, AfterChecked, AdvancesCreation, AdvancesFrom, Advanced, Advances, PollsOver, ended_by, CancelsFrom}
 pub use Rattle.deadpool_managed.specs.Held.{held_at}
 pub use Rattle.deadpool_managed.specs.HookLists.{HookLists}
 pub use Rattle.deadpool_managed.specs.Outside.{May, Asking, PollCreation, PollHook, PollRecycling, Question, Answer, may, may_hook, BeginCreation, BeginRecycling, CallHook, BeginHook, Detach, Reserve}
@@ -30,7 +32,6 @@ pub use Rattle.deadpool_parts.specs.Runs.{Each}
 pub use Rattle.deadpool_parts.specs.declared.config.{QueueMode.QueueMode, Timeouts.Timeouts}
 pub use Rattle.deadpool_parts.specs.declared.errors.{HookError.HookError, PoolError.PoolError, RecycleError.RecycleError}
 pub use Rattle.deadpool_parts.specs.declared.moment.{Moment.Moment, Runtime.Runtime}
-pub use Rattle.deadpool_parts.specs.declared.replies.StepReply.{StepReply}
 pub use Rattle.futures.specs.Task.{Keeps}
 pub use Rattle.futures.specs.declared.task.Poll.{Poll}
 pub use Rattle.std.proofs.Common.{ap, ◌≡◌, ◌≢◌, ◌<◌, ℕ, Bool, List, [], ◌∷◌, map, true, false, Option, Some, None, Result, Ok, Err, refl, sym, ◌∙◌, subst, inl, inr, arith, ◌+◌, drop, ◌-◌, ◌++◌, length, not, ◌⊎◌, get_or, drop-cons, add-one, take, length-drop, length-take}

@@ -3,8 +3,8 @@ use Rattle.std.specs.Prelude.{Bool, true, false, Ok}
 use Rattle.deadpool_managed.specs.Stages.{Stage, Unpolled, Queued, Going, Creating, Recycling, Checking, Finished}
 use Rattle.deadpool_managed.specs.declared.get.Turn.{Turn}
 use Rattle.deadpool_managed.specs.declared.get.Turn.TheVariants.{Done}
-use Rattle.deadpool_desk.specs.declared.desk.Holding.{Holding}
-use Rattle.deadpool_desk.specs.declared.desk.Holding.TheVariants as holding
+use Rattle.deadpool_desk.specs.declared.step.Holding.{Holding}
+use Rattle.deadpool_desk.specs.declared.step.Holding.TheVariants as holding
 
 -- what a get holds at a stage
 abbrev pub held_at : {V C R S : Type 0} → Stage V C R S → Holding

@@ -18,4 +18,4 @@ pub mod FirstPoll
 pub mod Phases
 pub mod Steps
 -- What contracts of this crate cite of the one below.
-pub use Rattle.deadpool_desk.specs.declared.desk.Holding
+pub use Rattle.deadpool_desk.specs.declared.step.Holding

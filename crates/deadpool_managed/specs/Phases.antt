@@ -14,8 +14,8 @@ use Rattle.deadpool_parts.specs.declared.errors.HookError.{HookError}
 use Rattle.deadpool_managed.specs.Get.{AfterDiscard, GivesUp, ended_by}
 use Rattle.deadpool_managed.specs.declared.calls.Position.{Position}
 use Rattle.deadpool_managed.specs.declared.calls.Verdict.{Verdict}
-use Rattle.deadpool_parts.specs.declared.replies.StepReply.{StepReply}
-use Rattle.deadpool_parts.specs.declared.replies.StepReply.TheVariants as step
+use Rattle.deadpool_desk.specs.declared.step.Reply.{Reply}
+use Rattle.deadpool_desk.specs.declared.step.Reply.TheVariants as reply
 use Rattle.deadpool_desk.specs.declared.slot.Slot.{Slot}
 use Rattle.deadpool_managed.specs.Stages.{Preparation, PreRecycle, Recycle, PostRecycle, Prepared, Accepted, GivenUp, Pending, Stage}
 use Rattle.deadpool_managed.specs.declared.prepare.Preparing.{Preparing}
@@ -58,15 +58,19 @@ module _ {V C R S : Type 0} where
   stage_of (phase.Checking at) None = Stage.Finished
   stage_of phase.Finished slot = Stage.Finished
 
-  -- the object is there where it is prepared or checked, and ready where it has to be
+  -- The object is there where it is prepared or checked, and ready where it has to be. Before that there is none.
   abbrev pub IsPlaced : (V → Type 0) → Phase C R S → Option (Slot V) → Type 0
+  IsPlaced P phase.Unpolled slot = slot ≡ None
+  IsPlaced P (phase.Queued ticket deadline) slot = slot ≡ None
+  IsPlaced P (phase.Going allowance) slot = slot ≡ None
+  IsPlaced P (phase.Creating begun deadline) slot = slot ≡ None
   IsPlaced P (phase.Recycling preparing) (Some slot) = IsReadyPreparation P (preparation_of slot preparing)
   IsPlaced P (phase.Recycling preparing) None = ⊥
   IsPlaced P (phase.Served left) (Some slot) = ⊤
   IsPlaced P (phase.Served left) None = ⊥
   IsPlaced P (phase.Checking at) (Some slot) = P slot.value
   IsPlaced P (phase.Checking at) None = ⊥
-  IsPlaced P _ _ = ⊤
+  IsPlaced P phase.Finished slot = ⊤
 
 -- neither unpolled nor served just now
 abbrev pub IsPending : {C R S : Type 0} → Phase C R S → Type 0
@@ -89,9 +93,9 @@ module _ {V E : Type 0} where
   turn_of (came.Failed cause) slot = turn.Done (Err cause)
 
 -- what a step comes to whose last reply was this
-abbrev pub came_by : {E : Type 0} → PoolError E → StepReply → Came E
-came_by cause step.Done = came.Failed cause
-came_by cause step.Unknown = came.Failed Closed
+abbrev pub came_by : {E : Type 0} → PoolError E → Reply → Came E
+came_by cause reply.Done = came.Failed cause
+came_by cause _ = came.Failed Closed
 
 module _ {V E C R S F A : Type 0} (may : May V E C R S F A) where
   -- the object in its place is prepared further, and stays there
@@ -105,15 +109,15 @@ module _ {V E C R S F A : Type 0} (may : May V E C R S F A) where
   ChecksIn hooks at _ verdict _ = ⊥
 
   -- an object that was given up, if there was one
-  abbrev pub GivesUpIn : Option (Slot V) → StepReply → Type 0
+  abbrev pub GivesUpIn : Option (Slot V) → Reply → Type 0
   GivesUpIn (Some slot) reply = GivesUp may slot.value reply
   GivesUpIn None reply = ⊤
 
-  abbrev pub DiscardsIn : Option (Slot V) → Option ℕ → StepReply → Stage V C R S → Turn V E → Type 0
+  abbrev pub DiscardsIn : Option (Slot V) → Option ℕ → Reply → Stage V C R S → Turn V E → Type 0
   DiscardsIn (Some slot) allowance reply after came = AfterDiscard may slot.value allowance reply after came
   DiscardsIn None allowance reply after came = ⊤
 
-  abbrev pub RefusesIn : Option (Slot V) → HookError E → StepReply → Stage V C R S → Turn V E → Type 0
+  abbrev pub RefusesIn : Option (Slot V) → HookError E → Reply → Stage V C R S → Turn V E → Type 0
   RefusesIn (Some slot) cause reply after came = GivesUp may slot.value reply × (after ≡ Stage.Finished) × (came ≡ ended_by (PostCreateHook cause) reply)
   RefusesIn None cause reply after came = ⊤
 

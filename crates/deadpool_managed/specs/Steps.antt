@@ -19,7 +19,7 @@ use Rattle.deadpool_managed.specs.declared.work.Came.TheVariants.{Given}
 use Rattle.deadpool_managed.specs.declared.work.Phase.TheVariants.{Finished}
 use Rattle.deadpool_managed.specs.declared.work.Work.{Work}
 use Rattle.deadpool_desk.specs.declared.desk.Desk.{Ghosts as DeskOf}
-use Rattle.deadpool_desk.specs.declared.desk.Holding.{Holding}
+use Rattle.deadpool_desk.specs.declared.step.Holding.{Holding}
 
 -- what a get is lent for a step: which answers its manager and hooks may give, what may serve its timeouts, its hooks, what
 -- time it is, and its timeouts

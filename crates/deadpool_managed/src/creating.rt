@@ -4,19 +4,21 @@ ghost use Rattle.futures.specs.Task.{Keeps};
 ghost use Rattle.deadpool_managed.specs.Answers.{IfReadyOk};
 ghost use Rattle.deadpool_managed.specs.Bounds.{IsNewObject};
 ghost use Rattle.deadpool_managed.specs.Get.{Made, Makes, AfterCreation, AfterCreated};
-ghost use Rattle.deadpool_desk.specs.Held.{held_if_created};
+ghost use Rattle.deadpool_desk.specs.Replies.{left_by};
 ghost use Rattle.deadpool_managed.specs.Phases.{IsPlaced, came_by};
 ghost use Rattle.deadpool_managed.specs.Steps.{AdvancesAt, held_now, lent, stage_at, turn_at};
 ghost use Rattle.deadpool_managed.specs.Stages.{Creating};
-ghost use Rattle.deadpool_desk.specs.declared.desk.Holding.{Holding};
+ghost use Rattle.deadpool_desk.specs.declared.step.Holding.{Holding};
+ghost use Rattle.deadpool_desk.specs.declared.step.Step.{Step};
 
 use crate::calls::Position;
+use crate::reporting::report;
 use crate::work::{Came, Phase, Work};
 use crate::{
-    AsyncHook, Environment, Manager, Metrics, Moment, PoolError, Slot, StepReply, SyncHook,
-    TimeoutType, Timeouts,
+    AsyncHook, Environment, Manager, Metrics, Moment, PoolError, Slot, SyncHook, TimeoutType,
+    Timeouts,
 };
-use deadpool_desk::{CreatedReply, Desk};
+use deadpool_desk::{Desk, Reply, Step};
 use deadpool_parts::deadline::{deadline_after, is_reached, lacks_runtime};
 use futures::task::{Context, Poll};
 
@@ -31,6 +33,7 @@ impl<M: Manager, A: AsyncHook<M>> Work<M, A> {
         cx: &mut Context<'_>,
     ) -> Came<M::Error>
         requires finished { self.old.phase ≡ Phase.Finished }
+        requires empty { self.old.slot ≡ Option.None }
         requires holds { D.holds desk.old Holding.Creation }
         ensures advanced { AdvancesAt D.Desk
             (lent M.Manager F.SyncHook A.AsyncHook environment.now now timeouts.now)
@@ -44,7 +47,7 @@ impl<M: Manager, A: AsyncHook<M>> Work<M, A> {
     {
         let timeout = timeouts.create;
         if lacks_runtime(environment.runtime, timeout) {
-            let reply = desk.failed();
+            let reply = report(desk, &Step::Failed);
             return ended(PoolError::NoRuntimeSpecified, reply);
         }
         let deadline = deadline_after(now, timeout);
@@ -65,6 +68,7 @@ impl<M: Manager, A: AsyncHook<M>> Work<M, A> {
         cx: &mut Context<'_>,
     ) -> Came<M::Error>
         requires finished { self.old.phase ≡ Phase.Finished }
+        requires empty { self.old.slot ≡ Option.None }
         requires holds { D.holds desk.old Holding.Creation }
         ensures advanced { AdvancesAt D.Desk
             (lent M.Manager F.SyncHook A.AsyncHook environment.now now timeouts.now)
@@ -90,6 +94,7 @@ impl<M: Manager, A: AsyncHook<M>> Work<M, A> {
         now: Moment,
     ) -> Came<M::Error>
         requires finished { self.old.phase ≡ Phase.Finished }
+        requires empty { self.old.slot ≡ Option.None }
         requires ready { IfReadyOk answer M.is_ready }
         requires holds { D.holds desk.old Holding.Creation }
         ensures advanced { (made : Made M.Type) × (Makes D.Desk desk.old made desk.new
@@ -103,17 +108,17 @@ impl<M: Manager, A: AsyncHook<M>> Work<M, A> {
         match answer {
             Poll::Ready(created) => match created {
                 Ok(value) => {
-                    let reply = desk.created();
+                    let reply = report(desk, &Step::Created);
                     self.after_created(value, now, reply)
                 }
                 Err(cause) => {
-                    let reply = desk.failed();
+                    let reply = report(desk, &Step::Failed);
                     ended(PoolError::Backend(cause), reply)
                 }
             },
             Poll::Pending => {
                 if is_reached(deadline, now) {
-                    let reply = desk.failed();
+                    let reply = report(desk, &Step::Failed);
                     return ended(PoolError::Timeout(TimeoutType::Create), reply);
                 }
                 self.phase = Phase::Creating(Some(state), deadline);
@@ -122,17 +127,18 @@ impl<M: Manager, A: AsyncHook<M>> Work<M, A> {
         }
     }
 
-    fn after_created(&mut self, value: M::Type, now: Moment, reply: CreatedReply) -> Came<M::Error>
+    fn after_created(&mut self, value: M::Type, now: Moment, reply: Reply) -> Came<M::Error>
         requires finished { self.old.phase ≡ Phase.Finished }
+        requires empty { self.old.slot ≡ Option.None }
         requires ready { M.is_ready value }
         ensures after { AfterCreated value now reply (stage_at self.new) (turn_at result self.new) }
         ensures falls { result ≡ Came.More → IsNewObject (stage_at self.new) }
         ensures placed { IsPlaced M.is_ready self.new.phase self.new.slot }
         ensures not_given { result ≢ Came.Given }
-        ensures holds { held_now result self.new ≡ held_if_created reply }
+        ensures holds { held_now result self.new ≡ left_by Step.Created reply }
     {
         match reply {
-            CreatedReply::Created(number) => {
+            Reply::Number(number) => {
                 self.slot = Some(Slot {
                     number,
                     value,
@@ -141,17 +147,17 @@ impl<M: Manager, A: AsyncHook<M>> Work<M, A> {
                 self.phase = Phase::Checking(Position::start());
                 Came::More
             }
-            CreatedReply::Unknown => Came::Failed(PoolError::Closed),
+            _ => Came::Failed(PoolError::Closed),
         }
     }
 }
 
 // What a get comes to whose creation has ended without an object.
-fn ended<E: Drop>(cause: PoolError<E>, reply: StepReply) -> Came<E>
+fn ended<E: Drop>(cause: PoolError<E>, reply: Reply) -> Came<E>
     ensures { result ≡ came_by cause reply }
 {
     match reply {
-        StepReply::Done => Came::Failed(cause),
-        StepReply::Unknown => Came::Failed(PoolError::Closed),
+        Reply::Done => Came::Failed(cause),
+        _ => Came::Failed(PoolError::Closed),
     }
 }

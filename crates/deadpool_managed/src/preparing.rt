@@ -4,16 +4,17 @@ ghost use Rattle.futures.specs.Task.{Keeps};
 ghost use Rattle.deadpool_managed.specs.Outside.{may};
 ghost use Rattle.deadpool_managed.specs.Phases.{IsPlaced, DiscardsIn, RefusesIn, stage_of};
 ghost use Rattle.deadpool_managed.specs.Steps.{AdvancesAt, Leaves, held_now, lent, stage_at, turn_at};
-ghost use Rattle.deadpool_desk.specs.declared.desk.Holding.{Holding};
-ghost use Rattle.deadpool_parts.specs.declared.replies.StepReply.{StepReply};
+ghost use Rattle.deadpool_managed.specs.Get.{Makes, making};
+ghost use Rattle.deadpool_desk.specs.declared.step.Holding.{Holding};
+ghost use Rattle.deadpool_desk.specs.declared.step.Reply.{Reply};
+ghost use Rattle.deadpool_desk.specs.declared.step.Step.{Step};
 
 use crate::calls::{Position, Verdict};
 use crate::prepare::{Outcome, Preparing, post_create_in, pre_recycle_in, prepare_in};
+use crate::reporting::report;
 use crate::work::{Came, Phase, Work};
-use crate::{
-    AsyncHook, Environment, HookError, Manager, Moment, PoolError, StepReply, SyncHook, Timeouts,
-};
-use deadpool_desk::Desk;
+use crate::{AsyncHook, Environment, HookError, Manager, Moment, PoolError, SyncHook, Timeouts};
+use deadpool_desk::{Desk, Reply, Step};
 use futures::task::Context;
 
 impl<M: Manager, A: AsyncHook<M>> Work<M, A> {
@@ -97,7 +98,8 @@ impl<M: Manager, A: AsyncHook<M>> Work<M, A> {
     ) -> Came<M::Error>
         requires finished { self.old.phase ≡ Phase.Finished }
         requires holds { D.holds desk.old Holding.Object }
-        ensures advanced { (reply : StepReply) × (D.discards desk.old reply desk.new
+        ensures advanced { (reply : Reply)
+            × (Makes D.Desk desk.old (making Step.Discard reply Option.None) desk.new
             × DiscardsIn (may M.Manager F.SyncHook A.AsyncHook environment.now.manager)
             self.old.slot allowance reply (stage_at self.new) (turn_at result self.new)) }
         ensures placed { IsPlaced M.is_ready self.new.phase self.new.slot }
@@ -106,15 +108,15 @@ impl<M: Manager, A: AsyncHook<M>> Work<M, A> {
         ensures holds { D.holds desk.new (held_now result self.new) }
     {
         let held = self.slot.take();
-        match desk.discard() {
-            StepReply::Done => {
+        match report(desk, &Step::Discard) {
+            Reply::Done => {
                 if let Some(mut slot) = held {
                     environment.manager.detach(&mut slot.value);
                 }
                 self.phase = Phase::Going(allowance);
                 Came::More
             }
-            StepReply::Unknown => Came::Failed(PoolError::Closed),
+            _ => Came::Failed(PoolError::Closed),
         }
     }
 
@@ -159,7 +161,8 @@ impl<M: Manager, A: AsyncHook<M>> Work<M, A> {
     ) -> Came<M::Error>
         requires finished { self.old.phase ≡ Phase.Finished }
         requires holds { D.holds desk.old Holding.Object }
-        ensures advanced { (reply : StepReply) × (D.refuses desk.old reply desk.new
+        ensures advanced { (reply : Reply)
+            × (Makes D.Desk desk.old (making Step.Refused reply Option.None) desk.new
             × RefusesIn (may M.Manager F.SyncHook A.AsyncHook environment.now.manager)
             self.old.slot cause reply (stage_at self.new) (turn_at result self.new)) }
         ensures placed { IsPlaced M.is_ready self.new.phase self.new.slot }
@@ -167,14 +170,14 @@ impl<M: Manager, A: AsyncHook<M>> Work<M, A> {
         ensures holds { D.holds desk.new (held_now result self.new) }
     {
         let held = self.slot.take();
-        match desk.refused() {
-            StepReply::Done => {
+        match report(desk, &Step::Refused) {
+            Reply::Done => {
                 if let Some(mut slot) = held {
                     environment.manager.detach(&mut slot.value);
                 }
                 Came::Failed(PoolError::PostCreateHook(cause))
             }
-            StepReply::Unknown => Came::Failed(PoolError::Closed),
+            _ => Came::Failed(PoolError::Closed),
         }
     }
 }

@@ -6,7 +6,7 @@ ghost use Rattle.deadpool_managed.specs.Outside.{may};
 ghost use Rattle.deadpool_managed.specs.Get.{IfReadyObject, deadline_of};
 ghost use Rattle.deadpool_managed.specs.Held.{is_going, held_at, held_after};
 ghost use Rattle.deadpool_managed.specs.Kinds.{kind_of};
-ghost use Rattle.deadpool_desk.specs.declared.desk.Holding.{Holding};
+ghost use Rattle.deadpool_desk.specs.declared.step.Holding.{Holding};
 ghost use Rattle.deadpool_managed.specs.Phases.{stage_of, turn_of};
 ghost use Rattle.deadpool_managed.specs.Steps.{AdvancesAt, PollsAt, CancelsAt, lent};
 

@@ -5,22 +5,24 @@ ghost use Rattle.std.specs.Prelude.{◌≡◌, true, false, None};
 ghost use Rattle.futures.specs.Task.{Keeps};
 ghost use Rattle.deadpool_managed.specs.Bounds.{lacks_allowance, Falls};
 ghost use Rattle.deadpool_managed.specs.Outside.{may};
-ghost use Rattle.deadpool_managed.specs.Get.{deadline_of};
 ghost use Rattle.deadpool_managed.specs.Held.{is_going, held_at};
 ghost use Rattle.deadpool_managed.specs.Kinds.{kind_of};
-ghost use Rattle.deadpool_desk.specs.declared.desk.Holding.{Holding};
-ghost use Rattle.deadpool_parts.specs.declared.replies.StepReply.{StepReply};
+ghost use Rattle.deadpool_managed.specs.Get.{Makes, deadline_of, making};
+ghost use Rattle.deadpool_desk.specs.declared.step.Held.{Held};
+ghost use Rattle.deadpool_desk.specs.declared.step.Holding.{Holding};
+ghost use Rattle.deadpool_desk.specs.declared.step.Reply.{Reply};
+ghost use Rattle.deadpool_desk.specs.declared.step.Step.{Step};
 ghost use Rattle.deadpool_managed.specs.Phases.{IsPlaced, IsPending, GivesUpIn, turn_of};
 ghost use Rattle.deadpool_managed.specs.Steps.{AdvancesAt, PollsAt, CancelsAt, Leaves, lent, stage_at, turn_at};
 
 use crate::calls::Position;
 use crate::gate::Ticket;
 use crate::prepare::Preparing;
+use crate::reporting::report;
 use crate::{
-    AsyncHook, Environment, Manager, Moment, PoolError, Slot, StageKind, StepReply, SyncHook,
-    Timeouts, Turn,
+    AsyncHook, Environment, Manager, Moment, PoolError, Slot, StageKind, SyncHook, Timeouts, Turn,
 };
-use deadpool_desk::{Desk, Held};
+use deadpool_desk::{Desk, Held, Reply, Step};
 use deadpool_parts::deadline::is_reached;
 use futures::task::Context;
 use std::mem;
@@ -205,12 +207,13 @@ impl<M: Manager, A: AsyncHook<M>> Work<M, A> {
             Phase::Unpolled => Came::Pending,
             Phase::Served(_) => Came::Pending,
             Phase::Queued(ticket, deadline) => {
-                let rest = desk.ask_in(ticket, is_reached(deadline, now), &mut self.slot);
-                self.after_asked(ticket, deadline, rest)
+                let expired = is_reached(deadline, now);
+                let reply = desk.make(&Step::Ask { ticket, expired }, &mut self.slot);
+                self.served(deadline, reply)
             }
             Phase::Going(allowance) => {
-                let rest = desk.again_in(allowance, &mut self.slot);
-                self.after_asked_again(rest)
+                let reply = desk.make(&Step::Again { allowance }, &mut self.slot);
+                self.served(None, reply)
             }
             Phase::Creating(begun, deadline) => match begun {
                 None => self.begin_creation(timeouts, desk, environment, now, cx),
@@ -307,13 +310,13 @@ impl<M: Manager, A: AsyncHook<M>> Work<M, A> {
             Phase::Unpolled => {}
             Phase::Finished => {}
             Phase::Queued(ticket, _) => {
-                desk.cancel(Held::Ticket(ticket));
+                report(desk, &Step::Withdraw { ticket });
             }
             Phase::Going(_) => {
-                desk.cancel(Held::Place);
+                report(desk, &Step::Cancel(Held::Place));
             }
             Phase::Creating(_, _) => {
-                desk.cancel(Held::Creation);
+                report(desk, &Step::Cancel(Held::Creation));
             }
             Phase::Served(_) => give_up(self.slot.take(), desk, environment),
             Phase::Recycling(_) => give_up(self.slot.take(), desk, environment),
@@ -358,11 +361,12 @@ fn give_up<M: Manager, F: SyncHook<M>, A: AsyncHook<M>, D: Desk<M::Type>>(
     environment: &Environment<M, F, A>,
 )
     requires { D.holds desk.old Holding.Object }
-    ensures given_up { (reply : StepReply) × (D.cancels desk.old Held.Object reply desk.new
+    ensures given_up { (reply : Reply)
+        × (Makes D.Desk desk.old (making (Step.Cancel Held.Object) reply None) desk.new
         × GivesUpIn (may M.Manager F.SyncHook A.AsyncHook environment.now.manager) held reply) }
     ensures holds { D.holds desk.new Holding.Nothing }
 {
-    if desk.cancel(Held::Object) == StepReply::Done {
+    if report(desk, &Step::Cancel(Held::Object)) == Reply::Done {
         if let Some(mut slot) = held {
             environment.manager.detach(&mut slot.value);
         }

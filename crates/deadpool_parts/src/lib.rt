@@ -2,6 +2,7 @@
 #![tactic(auto)]
 
 pub mod config;
+pub mod config_json;
 pub mod deadline;
 pub mod errors;
 mod moment;

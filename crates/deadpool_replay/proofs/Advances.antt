@@ -1,15 +1,13 @@
 -- Advances of a get with a creation under way, with an object, or that has ended.
 use Rattle.deadpool_replay.proofs.Basics.{◌≡◌, ℕ, ◌+◌, ◌-◌, ◌≤◌, List, false, set, refl, ap, ◌∙◌, arith, inl, inr, Option, Some, None, Result, Ok, Err, slice_get, cond-true, cond-false, Return, ◌>>=◌, Gives, Gives-bind, set-same, owned-set, length-with_numbered, length}
-use Rattle.deadpool_replay.proofs.Words.{Poll, deadline_after, is_reached, lacks_runtime, Moment, Timeouts, PoolError, Timeout, Backend, NoRuntimeSpecified, PostCreateHook, start, new_metrics, DeskState, settled, Fails, Getting, May, create, prepare, post_create, with_value, Made, no_step, discarding, by_creation as creating, failing, refusing, Makes, AfterCreation, AfterPrepared, AfterChecked, AdvancesCreation, ended_by, Pool, fail, rest, go_on, with_slot, slot_number, created, reviewed, checked, hand_out, advance_at, party_of, standing_of, IsCounted, has_ticket, queue_of, given, reply_to, Slot, Position, Verdict, Preparation, Prepared, Stage, Turn, StepReply, Reply, core_desk, Fixed, image, get_at, party_at}
+use Rattle.deadpool_replay.proofs.Words.{Poll, deadline_after, is_reached, lacks_runtime, Moment, Timeouts, PoolError, Timeout, Backend, NoRuntimeSpecified, PostCreateHook, start, new_metrics, DeskState, settled, Does, Getting, May, create, prepare, post_create, with_value, Made, no_step, making, Makes, AfterCreation, AfterPrepared, AfterChecked, AdvancesCreation, ended_by, Pool, fail, rest, go_on, with_slot, slot_number, created, reviewed, checked, hand_out, advance_at, party_of, standing_of, IsCounted, has_ticket, queue_of, given, reply_to, Slot, Position, Verdict, Preparation, Prepared, Stage, Turn, Step, DeskReply, Reply, core_desk, Fixed, image, get_at, party_at}
 use Rattle.futures.specs.declared.task.Poll.TheVariants as poll
 use Rattle.deadpool_parts.specs.declared.errors.TimeoutType.TheVariants as phase
 use Rattle.deadpool_managed.specs.declared.calls.Verdict.TheVariants as verdict
 use Rattle.deadpool_managed.specs.Stages as stage
 use Rattle.deadpool_managed.specs.declared.get.Turn.TheVariants as turn
-use Rattle.deadpool_parts.specs.declared.replies.StepReply.TheVariants as step
-use Rattle.deadpool_desk.specs.declared.desk.CreatedReply.TheVariants as numbered
 use Rattle.deadpool_replay.specs.declared.moves.Reply.TheVariants as reply
-use Rattle.deadpool_replay.proofs.DeskImage.{NoTicket, owned-same, goes, creates, prepares, lasts, Shifts, put, put_off, IsCounted-set, put-image, put_off-image, Gives-same, holds_creation, holds_object, ends_free}
+use Rattle.deadpool_replay.proofs.DeskImage.{NoTicket, is_done, owned-same, goes, creates, prepares, lasts, Shifts, put, put_off, IsCounted-set, put-image, put_off-image, Gives-same, holds_creation, holds_object, ends_free}
 
 module _ {M V E C R S F A : Type 0} (may : May V E C R S F A) (fixed : Fixed M F A V E C R S) (n : ℕ) (now : Moment)
     (core core' : DeskState (Slot V)) (gets : List (Option (Getting V C R S))) (out : List (Slot V)) (own : Timeouts) (k : IsCounted core gets out) where
@@ -55,14 +53,14 @@ module _ {M V E C R S F A : Type 0} (may : May V E C R S F A) (fixed : Fixed M F
     one_creation = holds_creation core gets out k n (get_at own creator) h
 
     -- a creation that ends without an object frees its place
-    creation_failed : (cause : PoolError E) (reply : StepReply) (s : Stage V C R S) (t : Turn V E) → Fails core reply core' → s ≡ stage.Finished → t ≡ ended_by cause reply
+    creation_failed : (cause : PoolError E) (r : DeskReply) (s : Stage V C R S) (t : Turn V E) → Does core Step.Failed None r core' → s ≡ stage.Finished → t ≡ ended_by cause r
         → Pairs core' s t (fail n (party_at own creator) cause pool)
-    creation_failed cause step.Done s t e is_s is_t =
+    creation_failed cause r s t e is_s is_t =
+        let done = is_done core core' (settled without_creation) core.creations r one_creation e in
         let all = ends_free fixed core gets out n (get_at own stage.Finished) without_creation (put_off_as creator h (λ u. refl) stage.Finished (λ u. refl))
         (moves_on creator h (λ u. refl) without_creation stage.Finished out refl refl (λ u. refl)
         record { going = refl; creations = let one = one_creation in omega arith; outside = refl; room = omega arith }) in
-        rw (is_s, is_t, e.1) (ap (λ (q : Pool V C R S F A). (reply.Failed cause, q)) all.0, all.1)
-    creation_failed cause step.Unknown s t e is_s is_t = absurd (let one = one_creation in omega (arith, one, e.0))
+        rw (is_s, is_t, done.0, done.1) (ap (λ (q : Pool V C R S F A). (reply.Failed cause, q)) all.0, all.1)
 
     -- one that ends well is an object with the next number
     creation_ends : (value : V) (c : C) (deadline : Option Moment)
@@ -79,19 +77,20 @@ module _ {M V E C R S F A : Type 0} (may : May V E C R S F A) (fixed : Fixed M F
     -- what a creation came to, at the desk and in the pool
     creation_answered : (deadline : Option Moment) (x : Poll (Result V E) × C) (made : Made V) (s : Stage V C R S) (t : Turn V E)
         → Makes core_desk core made core' → AfterCreation now deadline x made s t → Pairs core' s t (created n (party_at own creator) now deadline pool x)
-    creation_answered deadline (poll.Ready (Ok value), c) (creating (numbered.Created number)) s t e a =
-        rw (a.0, a.1, e.2, e.1) (creation_ends value c deadline)
-    creation_answered deadline (poll.Ready (Ok value), c) (creating numbered.Unknown) s t e a =
-        absurd (let one = one_creation in omega (arith, one, e.0))
-    creation_answered deadline (poll.Ready (Err cause), c) (failing reply) s t e a = creation_failed (Backend cause) reply s t e a.0 a.1
+    creation_answered deadline (poll.Ready (Ok value), c) (making Step.Created (DeskReply.Number number) None) s t e a =
+        rw (a.0, a.1, e.1.2, e.1.1) (creation_ends value c deadline)
+    creation_answered deadline (poll.Ready (Ok value), c) (making Step.Created DeskReply.Unknown None) s t e a =
+        absurd (let one = one_creation in omega (arith, one, e.1.0))
+    creation_answered deadline (poll.Ready (Ok value), c) (making Step.Created _ None) s t e a = absurd e.0
+    creation_answered deadline (poll.Ready (Err cause), c) (making Step.Failed r None) s t e a = creation_failed (Backend cause) r s t e.1 a.0 a.1
     creation_answered deadline (poll.Pending, c) no_step s t e a =
         let new : Stage V C R S = stage.Creating (Some c) deadline in
         rw (a.1, a.2, e) (
           cond-false (is_reached deadline now) _ _ a.0 ∙ ap (λ (q : Pool V C R S F A). (reply.Pending, q)) (put_as creator h (λ u. refl) new (λ u. refl)),
           moves_on creator h (λ u. refl) core new out refl refl (λ u. refl) record { going = refl; creations = refl; outside = refl; room = omega arith },
         )
-    creation_answered deadline (poll.Pending, c) (failing reply) s t e a =
-        let all = creation_failed (Timeout phase.Create) reply s t e a.1 a.2 in
+    creation_answered deadline (poll.Pending, c) (making Step.Failed r None) s t e a =
+        let all = creation_failed (Timeout phase.Create) r s t e.1 a.1 a.2 in
         (cond-true (is_reached deadline now) _ _ a.0 ∙ all.0, all.1)
     creation_answered deadline _ _ s t e a = absurd a
 
@@ -117,14 +116,11 @@ module _ {M V E C R S F A : Type 0} (may : May V E C R S F A) (fixed : Fixed M F
   pub from_creating : (begun : Option C) (until : Option Moment) (made : Made V) (s : Stage V C R S) (t : Turn V E) → slice_get gets n ≡ Some (get_at own (stage.Creating begun until))
       → Makes core_desk core made core' → AdvancesCreation may fixed.environment.runtime now own.create begun until made s t → Goal (stage.Creating begun until) core' s t
   from_creating (Some c) until made s t h e a = creation_made (Some c) until until made s t h e a.0 a.1.0 a.1.1
-  from_creating None until (failing reply) s t h e a =
-      elim a [
-        | inl b ↦
-            let all = creation_failed None until h NoRuntimeSpecified reply s t e b.1 b.2 in
-            (Gives-same may _ _ _ (cond-true (lacks_runtime fixed.environment.runtime own.create) _ _ b.0) all.0, all.1)
-        | inr b ↦ creation_begins until (failing reply) s t h e b.0 b.1.0 b.1.1.0 b.1.1.1
-      ]
-  from_creating None until made s t h e a = creation_begins until made s t h e a.0 a.1.0 a.1.1.0 a.1.1.1
+  from_creating None until made s t h e (inl a) =
+      let e' = rw a.1.1 at e in
+      let all = creation_failed None until h NoRuntimeSpecified a.0 s t e'.1 a.1.2 a.1.3 in
+      (Gives-same may _ _ _ (cond-true (lacks_runtime fixed.environment.runtime own.create) _ _ a.1.0) all.0, all.1)
+  from_creating None until made s t h e (inr a) = creation_begins until made s t h e a.0 a.1.0 a.1.1.0 a.1.1.1
 
   module _ (old : Stage V C R S) (h : slice_get gets n ≡ Some (get_at own old)) (none : NoTicket (get_at own old))
       (goes_none : goes (get_at own old) ≡ 0) (creates_none : creates (get_at own old) ≡ 0) (prepares_one : prepares (get_at own old) ≡ 1) (lasts_still : lasts (get_at own old) ≡ 1) where
@@ -187,11 +183,12 @@ module _ {M V E C R S F A : Type 0} (may : May V E C R S F A) (fixed : Fixed M F
   prepared_answered preparation allowance (Prepared.Pending left) no_step s t h e a =
       rw (a.0, a.1, e)
       (object_rests (stage.Recycling preparation allowance) h (λ u. refl) refl refl refl refl (stage.Recycling left None) (λ u. refl) refl refl refl refl)
-  prepared_answered preparation allowance (Prepared.GivenUp slot) (discarding step.Done) s t h e a =
+  prepared_answered preparation allowance (Prepared.GivenUp slot) (making Step.Discard r None) s t h e a =
+      let one = one_object (stage.Recycling preparation allowance) h (λ u. refl) refl refl refl refl in
+      let done = is_done core core' (record core { outside = core.outside - 1; going = core.going + 1 }) core.outside r one e.1 in
       let all = object_discarded (stage.Recycling preparation allowance) h (λ u. refl) refl refl refl refl allowance in
-      rw (a.1, a.2, e.1) ((a.0.0, (a.0.1, all.0)), all.1)
-  prepared_answered preparation allowance (Prepared.GivenUp slot) (discarding step.Unknown) s t h e a =
-      absurd (let one = one_object (stage.Recycling preparation allowance) h (λ u. refl) refl refl refl refl in omega (arith, one, e.0))
+      let b = rw done.0 at a in
+      rw (b.1, b.2, done.1) ((b.0.0, (b.0.1, all.0)), all.1)
   prepared_answered preparation allowance _ _ s t h e a = absurd a
 
   -- a get with an idle object
@@ -214,11 +211,12 @@ module _ {M V E C R S F A : Type 0} (may : May V E C R S F A) (fixed : Fixed M F
   checked_answered slot at (verdict.Pending left, v) no_step s t h e a =
       rw (a.0, a.1, e)
       (object_rests (stage.Checking slot at) h (λ u. refl) refl refl refl refl (stage.Checking (with_value v slot) left) (λ u. refl) refl refl refl refl)
-  checked_answered slot at (verdict.Refused cause, v) (refusing step.Done) s t h e a =
+  checked_answered slot at (verdict.Refused cause, v) (making Step.Refused r None) s t h e a =
+      let one = one_object (stage.Checking slot at) h (λ u. refl) refl refl refl refl in
+      let done = is_done core core' (settled (record core { outside = core.outside - 1 })) core.outside r one e.1 in
       let all = object_refused (stage.Checking slot at) h (λ u. refl) refl refl refl refl (PostCreateHook cause) in
-      rw (a.1, a.2, e.1) ((a.0.0, (a.0.1, all.0)), all.1)
-  checked_answered slot at (verdict.Refused cause, v) (refusing step.Unknown) s t h e a =
-      absurd (let one = one_object (stage.Checking slot at) h (λ u. refl) refl refl refl refl in omega (arith, one, e.0))
+      let b = rw done.0 at a in
+      rw (b.1, b.2, done.1) ((b.0.0, (b.0.1, all.0)), all.1)
   checked_answered slot at _ _ s t h e a = absurd a
 
   -- a get with a new object

@@ -1,7 +1,7 @@
 -- What every move has, whatever the outside answers: a lawful pool within the reach, the numbers of the objects, the object that
 -- the reply gives or keeps, and how many stay idle.
 use Rattle.deadpool_replay.proofs.Basics.{one_if, count-push, held-push, get-append, length-without_numbered, count-cons, count-append, count-without, count-found, order_same, Always-bind, has_number, most_handles, Return, Always, ◌≡◌, ℕ, ◌+◌, ◌-◌, ◌≤◌, List, true, false, refl, ap, ◌∙◌, arith, inl, inr, Option, Some, None, [], ◌∷◌, ◌++◌, ◌==◌, nat_le, sym, Bool, not, min, length, length-drop, nat_lt, unwrap_or, max, take, drop, length-append, zero, suc, if◌then◌else◌, cond_both, cases_Bool, leb-true, nat_tests, slice_get, filter}
-use Rattle.deadpool_replay.proofs.Words.{IsLawful, queue, is_queued, moved, by_party, resize, staying, give_up, retain_with, retain, by_handle, started, put_at, back_at, take_at, cancel, advance, Pool, Party, size, prepared_at, is_going, is_creating, prepared_by, settle, least_idle, unpolled, reach, status_of, LeavesEnough, IsOutIfGiven, IsIdleIfKept, HasFewIdle, prepared_in, sets_limit, named, may_leave, slot_number, find_slot, without_slot, given_up, resized, with_put, closed, cloned, handle_dropped, Move, Reply, Asking, Slot, Timeouts, grants}
+use Rattle.deadpool_replay.proofs.Words.{IsLawful, queue, is_queued, one_step, by_party, resize, staying, give_up, retain_with, retain, by_handle, started, put_at, back_at, take_at, cancel, advance, Pool, Party, size, prepared_at, is_going, is_creating, prepared_by, settle, least_idle, unpolled, reach, status_of, LeavesEnough, IsOutIfGiven, IsIdleIfKept, HasFewIdle, prepared_in, sets_limit, named, may_leave, slot_number, find_slot, without_slot, given_up, resized, with_put, closed, cloned, handle_dropped, Move, Reply, Asking, Slot, Timeouts, grants}
 use Rattle.deadpool_replay.specs.declared.moves.Move.TheVariants as move
 use Rattle.deadpool_replay.specs.declared.moves.Reply.TheVariants as reply
 use Rattle.deadpool_replay.proofs.NumberCounts.{held, held-with_put, held-drop, held-split, has_number-held, find_slot-number}
@@ -219,7 +219,7 @@ module _ {V C R S F A : Type 0} (E : Type 0) (p : Pool V C R S F A) (l : IsLawfu
       Always-more (Advanced E m n party.timeouts p party.standing) _ (λ x h. (h.0, h.1, h.2, tt, tt)) (step party p) (has party e)
   by_party_moved m n step _ e has = (Follows-self p l, passes_self false (Some n) [] p, tt, tt, tt)
 
-  pub moved_has : (m : Move V) → Always (Moved {E = E} p m) (moved m p)
+  pub moved_has : (m : Move V) → Always (Moved {E = E} p m) (one_step m p)
   moved_has (move.Start timeouts) = by_handle_moved (move.Start timeouts) (started timeouts) tt tt (λ some. started_moved timeouts)
   moved_has (move.Advance n now) = by_party_moved (move.Advance n now) n (advance n now) _ refl (λ party e. advanced E (move.Advance n now) n party.timeouts p l now party.standing e)
   moved_has (move.Poll n now) = by_party_moved (move.Poll n now) n (advance n now) _ refl (λ party e. advanced E (move.Poll n now) n party.timeouts p l now party.standing e)

@@ -1,11 +1,9 @@
 -- A get that is cancelled over the desk is a party that is cancelled in the pool.
 use Rattle.deadpool_replay.proofs.Basics.{◌≡◌, ℕ, ◌-◌, ◌≤◌, List, true, false, set, refl, sym, ap, ◌∙◌, subst, arith, Option, Some, None, eq-eqb, slice_get, Gives, owner, owned-set, owned-leaves}
-use Rattle.deadpool_replay.proofs.Words.{given, Moment, Timeouts, DeskState, settled, is_listed, desk_unqueued as unqueued, Fails, Refuses, DeskCancels, Getting, May, object_of, Made, no_step, cancelling, Makes, CancelsFrom, GivesUp, Pool, prepared_at, removed, cancel, NobodyWaits, standing_of, has_ticket, queue_of, IsCounted, Slot, Stage, StepReply, Held, core_desk, Fixed, image, get_at}
+use Rattle.deadpool_replay.proofs.Words.{Moment, Timeouts, DeskState, settled, is_listed, desk_unqueued as unqueued, Does, Getting, May, object_of, Made, no_step, making, Makes, CancelsFrom, GivesUp, Pool, prepared_at, removed, cancel, NobodyWaits, standing_of, has_ticket, queue_of, IsCounted, Slot, Stage, Step, DeskReply, Held, core_desk, Fixed, image, get_at}
 use Rattle.deadpool_managed.specs.Stages as stage
-use Rattle.deadpool_parts.specs.declared.replies.StepReply.TheVariants as step
-use Rattle.deadpool_desk.specs.declared.desk.Held.TheVariants as held
 use Rattle.deadpool_replay.specs.declared.moves.Reply.TheVariants as reply
-use Rattle.deadpool_replay.proofs.DeskImage.{NoTicket, goes, creates, prepares, Shifts, IsCounted-set, put_off-unqueued, put_off-image, holds_place, holds_creation, holds_object, ends_free, ends_empty}
+use Rattle.deadpool_replay.proofs.DeskImage.{NoTicket, is_done, goes, creates, prepares, Shifts, IsCounted-set, put_off-unqueued, put_off-image, holds_place, holds_creation, holds_object, ends_free, ends_empty}
 
 module _ {M V E C R S F A : Type 0} (may : May V E C R S F A) (fixed : Fixed M F A V E C R S) (n : ℕ)
     (core core' : DeskState (Slot V)) (gets : List (Option (Getting V C R S))) (out : List (Slot V)) (own : Timeouts)
@@ -50,39 +48,29 @@ module _ {M V E C R S F A : Type 0} (may : May V E C R S F A) (fixed : Fixed M F
         record { going = refl; creations = refl; outside = refl; room = omega arith })
 
     -- so it is at the desk
-    cancels_queued : (reply : StepReply) → DeskCancels core (held.Ticket ticket) reply core' → Goal (stage.Queued ticket deadline) core'
-    cancels_queued step.Done e = rw e.1 (ap (λ (q : Pool V C R S F A). (reply.Cancelled, q)) removes_queued.0, removes_queued.1)
-    cancels_queued step.Unknown e = absurd (let differ : true ≡ false = sym is_ours.0 ∙ e.0 in cc)
+    cancels_queued : (r : DeskReply) → Does core (Step.Withdraw ticket) None r core' → Goal (stage.Queued ticket deadline) core'
+    cancels_queued DeskReply.Done e = rw e.1 (ap (λ (q : Pool V C R S F A). (reply.Cancelled, q)) removes_queued.0, removes_queued.1)
+    cancels_queued DeskReply.Unknown e = absurd (let differ : true ≡ false = sym is_ours.0 ∙ e.0 in cc)
+    cancels_queued _ e = absurd e
 
-  -- a get with a place and nothing else
-  cancels_going : (allowance : Option ℕ) (reply : StepReply) → slice_get gets n ≡ Some (get_at own (stage.Going allowance)) → DeskCancels core held.Place reply core' → Goal (stage.Going allowance) core'
-  cancels_going allowance step.Done h e =
-      let all = removes_counted (stage.Going allowance) (core.going - 1) core.creations core.outside h (λ u. refl)
-      record { going = let some = e.0 in omega arith; creations = refl; outside = refl; room = omega arith } in
-      rw e.1 (ap (λ (q : Pool V C R S F A). (reply.Cancelled, q)) all.0, all.1)
-  cancels_going allowance step.Unknown h e =
-      absurd (let one : 1 ≤ core.going = holds_place core gets out k n (get_at own (stage.Going allowance)) h in omega (arith, one, e.0))
-
-  -- a get with a creation under way
-  cancels_creating : (begun : Option C) (until : Option Moment) (reply : StepReply) → slice_get gets n ≡ Some (get_at own (stage.Creating begun until)) → Fails core reply core'
-      → Goal (stage.Creating begun until) core'
-  cancels_creating begun until step.Done h e =
-      let all = removes_counted (stage.Creating begun until) core.going (core.creations - 1) core.outside h (λ u. refl)
-      record { going = refl; creations = let some = e.0 in omega arith; outside = refl; room = omega arith } in
-      rw e.1 (ap (λ (q : Pool V C R S F A). (reply.Cancelled, q)) all.0, all.1)
-  cancels_creating begun until step.Unknown h e =
-      absurd (let one : 1 ≤ core.creations = holds_creation core gets out k n (get_at own (stage.Creating begun until)) h in omega (arith, one, e.0))
+  -- a get that held a place or a creation, and no object
+  cancels_held : (old : Stage V C R S) (going creations : ℕ) → slice_get gets n ≡ Some (get_at own old) → NoTicket (get_at own old) → ◌≡◌ {A = Option (Slot V)} (prepared_at (standing_of old)) None
+      → Shifts core (record core { going = going; creations = creations }) (get_at own old) None out out → core' ≡ settled (record core { going = going; creations = creations }) → Goal old core'
+  cancels_held old going creations h none holds shifts e =
+      let all = removes_counted old going creations core.outside h none shifts in
+      rw (e, holds) (ap (λ (q : Pool V C R S F A). (reply.Cancelled, q)) all.0, all.1)
 
   -- a get with an idle object, or with a new one: the object is given up
-  cancels_object : (old : Stage V C R S) (slot : Slot V) (reply : StepReply) → slice_get gets n ≡ Some (get_at own old) → NoTicket (get_at own old)
+  cancels_object : (old : Stage V C R S) (slot : Slot V) (r : DeskReply) → slice_get gets n ≡ Some (get_at own old) → NoTicket (get_at own old)
       → ◌≡◌ {A = Option (Slot V)} (prepared_at (standing_of old)) (Some slot)
-      → goes (get_at own old) ≡ 0 → creates (get_at own old) ≡ 0 → prepares (get_at own old) ≡ 1 → Refuses core reply core' → GivesUp may slot.value reply → Goal old core'
-  cancels_object old slot step.Done h none holds g c p e gives =
+      → goes (get_at own old) ≡ 0 → creates (get_at own old) ≡ 0 → prepares (get_at own old) ≡ 1 → Does core (Step.Cancel Held.Object) None r core' → GivesUp may slot.value r → Goal old core'
+  cancels_object old slot r h none holds g c p e gives =
+      let one = holds_object core gets out k n (get_at own old) h in
+      let done = is_done core core' (settled (record core { outside = core.outside - 1 })) core.outside r (omega (arith, one, p)) e in
       let all = removes_counted old core.going core.creations (core.outside - 1) h none
-      record { going = omega (arith, g); creations = omega (arith, c); outside = let some = e.0 in omega (arith, p); room = omega arith } in
-      rw (e.1, holds) ((gives.0, (gives.1, ap (λ (q : Pool V C R S F A). (reply.Cancelled, q)) all.0)), all.1)
-  cancels_object old slot step.Unknown h none holds g c p e gives =
-      absurd (let one = holds_object core gets out k n (get_at own old) h in omega (arith, one, p, e.0))
+      record { going = omega (arith, g); creations = omega (arith, c); outside = omega (arith, one, p); room = omega arith } in
+      let asked = rw done.0 at gives in
+      rw (done.1, holds) ((asked.0, (asked.1, ap (λ (q : Pool V C R S F A). (reply.Cancelled, q)) all.0)), all.1)
 
   -- a get that holds nothing
   cancels_empty : (old : Stage V C R S) → slice_get gets n ≡ Some (get_at own old) → NoTicket (get_at own old) → Shifts core core (get_at own old) None out out
@@ -92,20 +80,22 @@ module _ {M V E C R S F A : Type 0} (may : May V E C R S F A) (fixed : Fixed M F
       IsCounted-set core core gets n (get_at own old) None out out h k (owned-set has_ticket (queue_of core) gets k.tickets n (get_at own old) None h none (λ u. refl)) shifts in
       rw (e, holds) (ap (λ (q : Pool V C R S F A). (reply.Cancelled, q)) (ends_empty fixed core gets out n None k nobody (get_at own old) h none (λ u. refl) counted), counted)
 
-  -- the step of what the get holds
-  as_held : (what given : Held) (reply : StepReply) → DeskCancels core given reply core' → given ≡ what → DeskCancels core what reply core'
-  as_held what given reply e same = subst (λ w. DeskCancels core w reply core') same e
-
   pub get_cancelled : (old : Stage V C R S) (made : Made V) → slice_get gets n ≡ Some (get_at own old) → Makes core_desk core made core' → CancelsFrom may old made → Goal old core'
   get_cancelled stage.Unpolled no_step h e a =
       cancels_empty stage.Unpolled h (λ u. refl) record { going = refl; creations = refl; outside = refl; room = omega arith } refl e
   get_cancelled stage.Finished no_step h e a =
       cancels_empty stage.Finished h (λ u. refl) record { going = refl; creations = refl; outside = refl; room = omega arith } refl e
-  get_cancelled (stage.Queued ticket deadline) (cancelling what reply) h e a = cancels_queued ticket deadline h reply (as_held (held.Ticket ticket) what reply e a)
-  get_cancelled (stage.Going allowance) (cancelling what reply) h e a = cancels_going allowance reply h (as_held held.Place what reply e a)
-  get_cancelled (stage.Creating begun deadline) (cancelling what reply) h e a = cancels_creating begun deadline reply h (as_held held.Creation what reply e a)
-  get_cancelled (stage.Recycling preparation allowance) (cancelling what reply) h e a =
-      cancels_object (stage.Recycling preparation allowance) (object_of preparation) reply h (λ u. refl) refl refl refl refl (as_held held.Object what reply e a.0) a.1
-  get_cancelled (stage.Checking slot at) (cancelling what reply) h e a =
-      cancels_object (stage.Checking slot at) slot reply h (λ u. refl) refl refl refl refl (as_held held.Object what reply e a.0) a.1
+  get_cancelled (stage.Queued ticket deadline) (making (Step.Withdraw named) r None) h e a =
+      cancels_queued ticket deadline h r (subst (λ t. Does core (Step.Withdraw t) None r core') a e.1)
+  get_cancelled (stage.Going allowance) (making (Step.Cancel Held.Place) r None) h e a =
+      let one : 1 ≤ core.going = holds_place core gets out k n (get_at own (stage.Going allowance)) h in
+      let done = is_done core core' (settled (record core { going = core.going - 1 })) core.going r one e.1 in
+      cancels_held (stage.Going allowance) (core.going - 1) core.creations h (λ u. refl) refl record { going = omega (arith, one); creations = refl; outside = refl; room = omega arith } done.1
+  get_cancelled (stage.Creating begun deadline) (making (Step.Cancel Held.Creation) r None) h e a =
+      let one : 1 ≤ core.creations = holds_creation core gets out k n (get_at own (stage.Creating begun deadline)) h in
+      let done = is_done core core' (settled (record core { creations = core.creations - 1 })) core.creations r one e.1 in
+      cancels_held (stage.Creating begun deadline) core.going (core.creations - 1) h (λ u. refl) refl record { going = refl; creations = omega (arith, one); outside = refl; room = omega arith } done.1
+  get_cancelled (stage.Recycling preparation allowance) (making (Step.Cancel Held.Object) r None) h e a =
+      cancels_object (stage.Recycling preparation allowance) (object_of preparation) r h (λ u. refl) refl refl refl refl e.1 a
+  get_cancelled (stage.Checking slot at) (making (Step.Cancel Held.Object) r None) h e a = cancels_object (stage.Checking slot at) slot r h (λ u. refl) refl refl refl refl e.1 a
   get_cancelled _ _ h e a = absurd a

@@ -1,12 +1,18 @@
 -- The pool that a desk, its gets and the objects out stand for: as it settles, as one get changes, ends or starts, and its counts.
 use Rattle.deadpool_replay.proofs.Basics.{cond_both, ◌≡◌, ℕ, List, ◌∷◌, [], ◌++◌, false, eqb, Option, IsOwned, ◌+◌, length, map, take, drop, refl, ◌∙◌, arith, take-map, drop-map, map-append, length-map, owner, owned-granting, ◌≤◌, cond, set, sym, ap, inl, inr, Some, append-nil, is_some, slice_get, cases_lt, map-set, length-set, slice_get-map, Queue, absent, renamed-set, renamed-leaves, renamed-joins, one_if, count-set, held-set, ◌<◌, true, subst, None, has_number, without_number, Program, Gives, without_number-same, length-append, owned-push, renamed-push, count-push, held-push}
-use Rattle.deadpool_replay.proofs.Words.{may, Slot, DeskState, Getting, has_ticket, queue_of, desk_places as places, desk_grants as grants, settled, Pool, Party, is_going, is_creating, prepared_by, places as pool_places, grants as pool_grants, settle, party_of, IsCounted, is_listed, desk_unqueued as unqueued, unqueued as pool_unqueued, NobodyWaits, is_under_way, Timeouts, unpolled, desk_size as size, desk_pending as pending, desk_status_of as status_of, size as pool_size, pending as pool_pending, status_of as pool_status_of, Fixed, image}
+use Rattle.deadpool_replay.proofs.Words.{may, Slot, DeskState, Getting, has_ticket, queue_of, desk_places as places, desk_grants as grants, settled, Pool, Party, is_going, is_creating, prepared_by, places as pool_places, grants as pool_grants, settle, party_of, IsCounted, is_listed, desk_unqueued as unqueued, unqueued as pool_unqueued, NobodyWaits, is_under_way, Timeouts, unpolled, desk_size as size, desk_pending as pending, desk_status_of as status_of, DeskReply, DeskGivesUp, size as pool_size, pending as pool_pending, status_of as pool_status_of, Fixed, image}
 use Rattle.deadpool_managed.specs.Stages as stage
 
 module _ {V : Type 0} where
   -- the queue with one more ticket
   abbrev pub queueing : ℕ → DeskState (Slot V) → DeskState (Slot V)
   queueing t d = record d { waiting = d.waiting ++ t ∷ [] }
+
+  -- what is counted is given up
+  pub is_done : (d d' without : DeskState (Slot V)) (count : ℕ) (r : DeskReply) → 1 ≤ count → DeskGivesUp d count r without d' → (r ≡ DeskReply.Done) × (d' ≡ without)
+  is_done d d' without count DeskReply.Done some e = (refl, e.1)
+  is_done d d' without count DeskReply.Unknown some e = absurd (omega (arith, some, e.0))
+  is_done d d' without count _ some e = absurd e
 
 module _ {V C R S : Type 0} where
   -- the tickets of a desk's queue are those of the gets, one each

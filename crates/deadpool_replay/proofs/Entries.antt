@@ -1,12 +1,9 @@
 -- Advances of a get that was not polled, that is in the queue, or that holds a place and nothing else.
 use Rattle.deadpool_replay.proofs.Basics.{◌+◌, cond-true, cond-false, ◌≡◌, ℕ, ◌-◌, ◌<◌, ◌≤◌, List, Bool, true, false, not, ◌&&◌, set, map, refl, sym, ap, ◌∙◌, subst, arith, Option, Some, None, Err, is_none, nat_lt, option_map, eq-eqb, lt-ltb, le-ltb, slice_get, slice_get-map, has_number, without_number, Gives, owner, set-same, owned-set, owned-joins, owned-leaves, granted-renamed, not-true, not-false}
-use Rattle.deadpool_replay.proofs.Words.{Standing, deadline_after, is_reached, is_positive, Moment, Timeouts, PoolError, Timeout, Closed, NoRuntimeSpecified, OutOfMemory, DeskState, desk_places as places, is_listed, desk_unqueued as unqueued, Enters, Asks, AsksAgain, Getting, May, Reserve, AfterEntered, AfterAsked, AfterAskedAgain, Pool, unpolled, queued, going, places as pool_places, unqueued as pool_unqueued, fail, advance_at, NobodyWaits, party_of, standing_of, has_ticket, queue_of, IsCounted, given, reply_to, Slot, Stage, Turn, EnterReply, AskReply, AgainReply, Reply, Fixed, image, get_at, party_at}
+use Rattle.deadpool_replay.proofs.Words.{Standing, deadline_after, is_reached, is_positive, Moment, Timeouts, PoolError, Timeout, Closed, NoRuntimeSpecified, OutOfMemory, DeskState, desk_places as places, is_listed, desk_unqueued as unqueued, Serves, Does, again_served, Getting, May, Reserve, AfterServed, Pool, unpolled, queued, going, places as pool_places, unqueued as pool_unqueued, fail, advance_at, NobodyWaits, party_of, standing_of, has_ticket, queue_of, IsCounted, given, reply_to, Slot, Stage, Turn, Step, DeskReply, Reply, Fixed, image, get_at, party_at}
 use Rattle.deadpool_parts.specs.declared.errors.TimeoutType.TheVariants as phase
 use Rattle.deadpool_managed.specs.Stages as stage
 use Rattle.deadpool_managed.specs.declared.get.Turn.TheVariants as turn
-use Rattle.deadpool_desk.specs.declared.desk.EnterReply.TheVariants as entered
-use Rattle.deadpool_desk.specs.declared.desk.AskReply.TheVariants as asked
-use Rattle.deadpool_desk.specs.declared.desk.AgainReply.TheVariants as again
 use Rattle.deadpool_replay.specs.declared.moves.Reply.TheVariants as reply
 use Rattle.deadpool_replay.proofs.NumberLists.{without-twice}
 use Rattle.deadpool_replay.proofs.DeskImage.{Owns, NoTicket, queueing, put_off, IsCounted-set, put_off-unqueued, put-queueing, unqueued-none, places-image, put-image, Gives-same, holds_place, ends_quietly, ends_empty, nobody_waits-closed, nobody_waits-unqueued, goes, creates, prepares, lasts}
@@ -92,22 +89,28 @@ module _ {M V E C R S F A : Type 0} (may : May V E C R S F A) (fixed : Fixed M F
           entry_counted,
         )
 
-        pub from_entered : (wait : Bool) (reply : EnterReply (Slot V)) (s : Stage V C R S) (t : Turn V E) → wait ≡ not (is_reached (deadline_after now own.wait) now)
-            → Enters core wait reply core' → AfterEntered (deadline_after now own.wait) reply s t → Goal stage.Unpolled core' s t
-        from_entered wait (entered.Served served) s t w e a =
+        -- an entry that is served
+        entry_served : (reply : DeskReply) (object : Option (Slot V)) (s : Stage V C R S) (t : Turn V E) → core.is_open ≡ true → places core < core.limit
+            → Serves core None object reply core' → AfterServed (deadline_after now own.wait) reply object s t → Goal stage.Unpolled core' s t
+        entry_served reply object s t is_open free e a =
             let all = serves fixed n core core gets out own stage.Unpolled unpolled (map (owner has_ticket gets) core.granted) (map (owner has_ticket gets) core.waiting) h k
             (place_left stage.Unpolled unpolled core.going h (λ u. refl) (omega arith) refl refl refl)
-            core' None served s t e.2 a in
-            (Gives-same may _ _ _ (cond-false _ _ _ runs ∙ cond-false _ _ _ (ap not e.0) ∙ cond-true _ _ _ (free_as e.1)) all.0, all.1)
-        from_entered wait entered.Closed s t w e a =
+            core' None (deadline_after now own.wait) reply object s t e a in
+            (Gives-same may _ _ _ (cond-false _ _ _ runs ∙ cond-false _ _ _ (ap not is_open) ∙ cond-true _ _ _ (free_as free)) all.0, all.1)
+
+        pub from_entered : (wait : Bool) (reply : DeskReply) (object : Option (Slot V)) (s : Stage V C R S) (t : Turn V E) → wait ≡ not (is_reached (deadline_after now own.wait) now)
+            → Does core (Step.Enter wait) object reply core' → AfterServed (deadline_after now own.wait) reply object s t → Goal stage.Unpolled core' s t
+        from_entered wait DeskReply.Closed None s t w e a =
             rw (a.0, a.1, e.1) (Gives-same may _ _ _ (cond-false _ _ _ runs ∙ cond-true _ _ _ (ap not e.0)) (entry_refused Closed), entry_counted)
-        from_entered wait entered.Full s t w e a =
+        from_entered wait DeskReply.Full None s t w e a =
             rw (a.0, a.1, e.3)
             (Gives-same may _ _ _ (cond-false _ _ _ runs ∙ cond-false _ _ _ (ap not e.0) ∙ cond-false _ _ _ (full_as e.1) ∙ cond-true _ _ _ (not-false _ (sym w ∙ e.2))) (entry_refused (Timeout phase.Wait)), entry_counted)
-        from_entered wait (entered.Waiting ticket) s t w e a =
+        from_entered wait (DeskReply.Waiting ticket) None s t w e a =
             rw (a.0, a.1, e.4) (entry_waits ticket e.0 e.1 (not-true _ (sym w ∙ e.2)) e.3)
-        from_entered wait entered.OutOfMemory s t w e a =
+        from_entered wait DeskReply.OutOfMemory None s t w e a =
             rw (a.0, a.1, e.3) (entry_finds_none e.0 e.1 (not-true _ (sym w ∙ e.2)))
+        from_entered wait reply (Some slot) s t w e a = entry_served reply (Some slot) s t e.0 e.1 e.2 a
+        from_entered wait reply None s t w e a = entry_served reply None s t e.0 e.1 e.2 a
 
     -- a timeout without a runtime ends a get before its entry
     pub from_unrun : (s : Stage V C R S) (t : Turn V E) → core' ≡ core → (is_positive own.wait && is_none fixed.environment.runtime) ≡ true → s ≡ stage.Finished → t ≡ turn.Done (Err NoRuntimeSpecified)
@@ -117,12 +120,13 @@ module _ {M V E C R S F A : Type 0} (may : May V E C R S F A) (fixed : Fixed M F
 
   module _ (allowance : Option ℕ) (h : slice_get gets n ≡ Some (get_at own (stage.Going allowance))) where
     -- a get that holds a place and nothing else
-    pub from_going : (reply : AgainReply (Slot V)) (s : Stage V C R S) (t : Turn V E) → AsksAgain core allowance reply core' → AfterAskedAgain reply s t → Goal (stage.Going allowance) core' s t
-    from_going (again.Served served) s t e a =
+    pub from_going : (reply : DeskReply) (object : Option (Slot V)) (s : Stage V C R S) (t : Turn V E) → Does core (Step.Again allowance) object reply core' → AfterServed None reply object s t
+        → Goal (stage.Going allowance) core' s t
+    from_going reply object s t e a =
+        let one : 1 ≤ core.going = holds_place core gets out k n (get_at own (stage.Going allowance)) h in
         serves fixed n core (record core { going = core.going - 1 }) gets out own (stage.Going allowance) (going allowance) (map (owner has_ticket gets) core.granted) (map (owner has_ticket gets) core.waiting) h k
-        (place_left (stage.Going allowance) (going allowance) (core.going - 1) h (λ u. refl) (omega (arith, e.0)) refl refl refl) core' allowance served s t e.1 a
-    from_going again.Unknown s t e a =
-        absurd (let one : 1 ≤ core.going = holds_place core gets out k n (get_at own (stage.Going allowance)) h in omega (arith, one, e.0))
+        (place_left (stage.Going allowance) (going allowance) (core.going - 1) h (λ u. refl) (omega (arith, one)) refl refl refl)
+        core' allowance None reply object s t (again_served core core' allowance reply object (omega (arith, one)) e) a
 
   module _ (ticket : ℕ) (deadline : Option Moment) (h : slice_get gets n ≡ Some (get_at own (stage.Queued ticket deadline))) where
     abbrev waiter : Option (Getting V C R S)
@@ -183,32 +187,38 @@ module _ {M V E C R S F A : Type 0} (may : May V E C R S F A) (fixed : Fixed M F
             ap (λ ns. record (pool_unqueued n pool) { granted = ns; waiting = without_number n (pool_unqueued n pool).waiting }) (without-twice n (map (owner has_ticket gets) core.granted))
             ∙ ap (λ ns. record (pool_unqueued n pool) { waiting = ns }) (without-twice n (map (owner has_ticket gets) core.waiting))
 
-    -- a get in the queue
-    pub from_queued : (expired : Bool) (reply : AskReply (Slot V)) (s : Stage V C R S) (t : Turn V E) → expired ≡ is_reached deadline now
-        → Asks core ticket expired reply core' → AfterAsked ticket deadline reply s t → Goal (stage.Queued ticket deadline) core' s t
-    from_queued expired (asked.Served served) s t x e a =
+    -- a get in the queue that is served
+    queued_served : (reply : DeskReply) (object : Option (Slot V)) (s : Stage V C R S) (t : Turn V E) → core.is_open ≡ true → has_number ticket core.granted ≡ true
+        → Serves without_ticket None object reply core' → AfterServed deadline reply object s t → Goal (stage.Queued ticket deadline) core' s t
+    queued_served reply object s t is_open granted e a =
         let all = serves fixed n core without_ticket gets out own (stage.Queued ticket deadline) (queued deadline)
-        (pool_unqueued n pool).granted (pool_unqueued n pool).waiting h k queued_left core' None served s t e.2 a in
-        (cond-false _ _ _ (ap not e.0) ∙ cond-true _ _ _ (tells_granted ∙ e.1) ∙ all.0, all.1)
-    from_queued expired asked.Closed s t x e a =
+        (pool_unqueued n pool).granted (pool_unqueued n pool).waiting h k queued_left core' None deadline reply object s t e a in
+        (cond-false _ _ _ (ap not is_open) ∙ cond-true _ _ _ (tells_granted ∙ granted) ∙ all.0, all.1)
+
+    -- a get in the queue
+    pub from_queued : (expired : Bool) (reply : DeskReply) (object : Option (Slot V)) (s : Stage V C R S) (t : Turn V E) → expired ≡ is_reached deadline now
+        → Does core (Step.Ask ticket expired) object reply core' → AfterServed deadline reply object s t → Goal (stage.Queued ticket deadline) core' s t
+    from_queued expired DeskReply.Closed None s t x e a =
         rw (a.0, a.1, e.2) (
           cond-true _ _ _ (ap not e.0)
               ∙ left_refused Closed (nobody_waits-closed fixed core gets out n (get_at own stage.Finished) without_ticket e.0),
           left_counted,
         )
-    from_queued expired asked.Expired s t x e a =
+    from_queued expired DeskReply.Expired None s t x e a =
         rw (a.0, a.1, e.4) (
           cond-false _ _ _ (ap not e.0) ∙ cond-false _ _ _ (tells_granted ∙ e.1) ∙ cond-true _ _ _ (sym x ∙ e.3)
               ∙ left_refused (Timeout phase.Wait)
               (nobody_waits-unqueued fixed core gets out n (get_at own stage.Finished) k nobody waiter h ticket e.1 e.2 left_counted),
           left_counted,
         )
-    from_queued expired asked.Waiting s t x e a =
-        rw (a.0, a.1, e.4, set-same gets n waiter h) (
+    from_queued expired (DeskReply.Waiting same) None s t x e a =
+        rw (a.0, a.1, e.4, e.5, set-same gets n waiter h) (
           cond-false _ _ _ (ap not e.0) ∙ cond-false _ _ _ (tells_granted ∙ e.1) ∙ cond-false _ _ _ (sym x ∙ e.3)
               ∙ ap (λ ps. (reply.Pending, record pool { parties = ps }))
               (set-same (map party_of gets) n (party_of waiter) (slice_get-map party_of gets n ∙ ap (option_map party_of) h)),
           k,
         )
-    from_queued expired asked.Unknown s t x e a =
+    from_queued expired DeskReply.Unknown None s t x e a =
         absurd (let differ : true ≡ false = sym is_ours.0 ∙ e.0 in cc)
+    from_queued expired reply (Some slot) s t x e a = queued_served reply (Some slot) s t e.0 e.1 e.2 a
+    from_queued expired reply None s t x e a = queued_served reply None s t e.0 e.1 e.2 a

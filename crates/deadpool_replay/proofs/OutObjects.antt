@@ -1,7 +1,6 @@
 -- Objects that are out: one gets another value, leaves the pool for good, or comes back.
-use Rattle.deadpool_replay.proofs.Basics.{◌≡◌, ℕ, suc, List, [], ◌∷◌, ◌==◌, length, set, refl, ap, inl, inr, Some, get_or, position, position_or_len, one-add, cases_Bool, place_is, found_at_place, arith, Option, ◌+◌, ◌-◌, length-without_numbered, ◌++◌, true, false, nat_le, sym, le-leb, lt-leb, eq-eqb, ne_eqb, Gives}
-use Rattle.deadpool_replay.proofs.Words.{find_slot, with_put, Slot, DeskState, Getting, IsCounted, settled, settle, without_slot, slot_number, May, TakesBack, Pool, size, moved, IsTaken, reply_to_back, BackReply, Reply, Fixed, image}
-use Rattle.deadpool_desk.specs.declared.desk.BackReply.TheVariants as back
+use Rattle.deadpool_replay.proofs.Basics.{◌≡◌, ℕ, suc, List, [], ◌∷◌, ◌==◌, length, set, refl, ap, inl, inr, Some, None, get_or, position, position_or_len, one-add, cases_Bool, place_is, found_at_place, arith, Option, ◌+◌, ◌-◌, length-without_numbered, ◌++◌, true, false, nat_le, sym, le-leb, lt-leb, eq-eqb, ne_eqb, Gives}
+use Rattle.deadpool_replay.proofs.Words.{find_slot, with_put, Slot, DeskState, Getting, IsCounted, settled, settle, without_slot, slot_number, May, Does, IsReplyTo, LeavesInHand, Pool, size, one_step, IsTaken, reply_to_back, Step, DeskReply, Reply, Fixed, image}
 use Rattle.deadpool_replay.specs.declared.moves.Move.TheVariants as move
 use Rattle.deadpool_replay.specs.declared.moves.Reply.TheVariants as reply
 use Rattle.deadpool_replay.proofs.DeskImage.{settles, counted_settled}
@@ -71,35 +70,44 @@ module _ {M V E C R S F A : Type 0} (fixed : Fixed M F A V E C R S)
         counted_settled core1 gets (without_slot n out) counted,
       )
 
+-- nothing comes into the hand of whoever takes an object out for good
+pub takes_none : {V : Type 0} (r : DeskReply) (hand : Option (Slot V)) → IsReplyTo Step.Take r → LeavesInHand r None hand → hand ≡ None
+takes_none (DeskReply.Taken detach) hand fits left = left
+takes_none DeskReply.Unknown hand fits left = left
+takes_none _ hand fits left = absurd fits
+
 module _ {V C R S : Type 0} (core core' : DeskState (Slot V)) (gets : List (Option (Getting V C R S))) (out : List (Slot V)) (n : ℕ) (slot : Slot V) (k : IsCounted core gets out) (h : find_slot n out ≡ Some slot) where
-  -- the desk knows of an object that is out, and counts it no more
-  pub back_counted : (r : BackReply (Slot V)) → TakesBack core slot r core' → IsCounted core' gets (without_slot n out) × IsTaken r
-  back_counted back.Kept e =
-      rw e.3 (counted_settled (record core { idle = core.idle ++ slot ∷ []; outside = core.outside - 1 }) gets (without_slot n out) (taken_counted core gets out n slot k h (core.idle ++ slot ∷ [])), tt)
-  back_counted (back.Dropped given) e = rw e.3 (counted_settled (record core { outside = core.outside - 1 }) gets (without_slot n out) (taken_counted core gets out n slot k h core.idle), tt)
-  back_counted (back.Detach given) e = rw e.4 (counted_settled (record core { outside = core.outside - 1 }) gets (without_slot n out) (taken_counted core gets out n slot k h core.idle), tt)
-  back_counted (back.Unknown given) e = absurd (omega (arith, one_outside core gets out n slot k h, e.0))
+  -- the desk knows of an object that is out
+  pub back_known : (r : DeskReply) (hand : Option (Slot V)) → Does core Step.Back (Some slot) r core' → LeavesInHand r (Some slot) hand → IsTaken r hand
+  back_known DeskReply.Kept hand e left = tt
+  back_known DeskReply.Dropped hand e left = tt
+  back_known DeskReply.Detach hand e left = rw left refl
+  back_known DeskReply.Unknown hand e left = absurd (omega (arith, one_outside core gets out n slot k h, e.0))
+  back_known _ hand e left = absurd e
 
 module _ {M V E C R S F A : Type 0} (may : May V E C R S F A) (fixed : Fixed M F A V E C R S)
     (core core' : DeskState (Slot V)) (gets : List (Option (Getting V C R S))) (out : List (Slot V)) (n : ℕ) (slot : Slot V) (k : IsCounted core gets out) (h : find_slot n out ≡ Some slot) where
   -- what the desk makes of an object that comes back is what the pool makes of it
-  pub backs : (r : BackReply (Slot V)) (answer : Reply V E) → TakesBack core slot r core' → Gives may (reply_to_back r) answer
-      → Gives may (moved (move.Back n) (image fixed core gets out)) (answer, image fixed core' gets (without_slot n out))
-  backs back.Kept answer e g =
+  pub backs : (r : DeskReply) (hand : Option (Slot V)) (answer : Reply V E) → Does core Step.Back (Some slot) r core' → LeavesInHand r (Some slot) hand → Gives may (reply_to_back r hand) answer
+      → Gives may (one_step (move.Back n) (image fixed core gets out)) (answer, image fixed core' gets (without_slot n out)) × IsCounted core' gets (without_slot n out)
+  backs DeskReply.Kept hand answer e left g =
       let core1 : DeskState (Slot V) = record core { idle = core.idle ++ slot ∷ []; outside = core.outside - 1 } in
       let counted = taken_counted core gets out n slot k h (core.idle ++ slot ∷ []) in
       let has_handle : (core.handles == 0) ≡ false = ne_eqb core.handles 0 (omega (arith, e.1)) in
       let fits : nat_le (size (image fixed core gets out)) core.limit ≡ true = le-leb _ _ (omega (arith, k.outside, e.2)) in
-      rw (h, ← g, e.3) (rw (has_handle, fits)
-      (ap (λ (p : Pool V C R S F A). (reply.Kept, p)) (sym (settles fixed core1 gets (without_slot n out) counted))))
-  backs (back.Dropped given) answer e g =
+      rw (h, ← g, e.3) (
+        rw (has_handle, fits) (ap (λ (p : Pool V C R S F A). (reply.Kept, p)) (sym (settles fixed core1 gets (without_slot n out) counted))),
+        counted_settled core1 gets (without_slot n out) counted,
+      )
+  backs DeskReply.Dropped hand answer e left g =
       let no_handle : (core.handles == 0) ≡ true = eq-eqb core.handles 0 e.1 in
-      let left = takes fixed core core' gets out n slot k h e.3 in
-      rw (h, ← g) (rw no_handle (ap (λ (p : Pool V C R S F A). (reply.Dropped, p)) (sym left.0)))
-  backs (back.Detach given) answer e g =
+      let all = takes fixed core core' gets out n slot k h e.2 in
+      rw (h, ← g) (rw no_handle (ap (λ (p : Pool V C R S F A). (reply.Dropped, p)) (sym all.0)), all.1)
+  backs DeskReply.Detach hand answer e left g =
       let has_handle : (core.handles == 0) ≡ false = ne_eqb core.handles 0 (omega (arith, e.1)) in
       let full : nat_le (size (image fixed core gets out)) core.limit ≡ false = lt-leb _ _ (omega (arith, k.outside, e.2)) in
-      let left = takes fixed core core' gets out n slot k h e.4 in
-      let allowed = rw e.3 at g.1.0 in
-      rw (h, ← g.1.1) (rw (has_handle, full) (g.0, (allowed, ap (λ (p : Pool V C R S F A). (reply.Detached, p)) (sym left.0))))
-  backs (back.Unknown given) answer e g = absurd (omega (arith, one_outside core gets out n slot k h, e.0))
+      let all = takes fixed core core' gets out n slot k h e.3 in
+      let asked = rw left at g in
+      rw (h, ← asked.1.1) (rw (has_handle, full) (asked.0, (asked.1.0, ap (λ (p : Pool V C R S F A). (reply.Detached, p)) (sym all.0))), all.1)
+  backs DeskReply.Unknown hand answer e left g = absurd (omega (arith, one_outside core gets out n slot k h, e.0))
+  backs _ hand answer e left g = absurd e

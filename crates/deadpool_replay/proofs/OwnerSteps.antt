@@ -1,7 +1,6 @@
 -- The steps of a pool's owner: another limit, a close and handles, and a take, at the desk and in the pool.
-use Rattle.deadpool_replay.proofs.Basics.{eq-eqb, ne_eqb, ◌≡◌, ℕ, ◌+◌, ◌-◌, List, [], Bool, true, false, ◌==◌, length, drop, min, max, refl, ap, ◌∙◌, arith, Option, if◌then◌else◌, append-nil, drop_all, most_handles, ◌≢◌, cond, not, nat_lt, Some, Ok, Err, sym, subst, inl, inr, nat_tests, cases_Bool, Gives, Return, ask, ◌>>=◌}
-use Rattle.deadpool_replay.proofs.Words.{DeskState, desk_size as size, settled, desk_given_up as given_up_core, Getting, Pool, places, size as pool_size, settle, given_up, resized, closed, cloned, handle_dropped, IsCounted, Slot, given, Asking, May, Reserve, Takes, Resizes, Closes, Clones, DropsHandle, Upgrades, desk_resized as resized_core, find_slot, without_slot, moved, by_handle, reply_to_take, reply_to_handle, TakeReply, HandleReply, Reply, Fixed, image}
-use Rattle.deadpool_desk.specs.declared.desk.TakeReply.TheVariants as taking
+use Rattle.deadpool_replay.proofs.Basics.{eq-eqb, ne_eqb, ◌≡◌, ℕ, ◌+◌, ◌-◌, List, [], Bool, true, false, ◌==◌, length, drop, min, max, refl, ap, ◌∙◌, arith, Option, if◌then◌else◌, append-nil, drop_all, most_handles, ◌≢◌, cond, not, nat_lt, Some, None, Ok, Err, sym, subst, inl, inr, nat_tests, cases_Bool, Gives, Return, ask, ◌>>=◌}
+use Rattle.deadpool_replay.proofs.Words.{DeskState, desk_size as size, settled, desk_given_up as given_up_core, Getting, Pool, places, size as pool_size, settle, given_up, resized, closed, cloned, handle_dropped, IsCounted, Slot, given, Asking, May, Reserve, Does, Resizes, Closes, Clones, DropsHandle, Upgrades, desk_resized as resized_core, find_slot, without_slot, one_step, by_handle, reply_to_take, reply_to_handle, HandleReply, Step, DeskReply, Reply, Fixed, image}
 use Rattle.deadpool_parts.specs.declared.replies.HandleReply.TheVariants as handle
 use Rattle.deadpool_replay.specs.declared.moves.Move.TheVariants as move
 use Rattle.deadpool_replay.specs.declared.moves.Reply.TheVariants as reply
@@ -60,23 +59,25 @@ module _ {M V E C R S F A : Type 0} (may : May V E C R S F A) (memory : (found :
   after = image fixed core' gets out
 
   -- an object that is out is known
-  pub taken_known : (n : ℕ) (slot : Slot V) (r : TakeReply) → find_slot n out ≡ Some slot → Takes core r core' → r ≢ taking.Unknown
-  taken_known n slot (taking.Taken detach) here t unknown = cc
-  taken_known n slot taking.Unknown here t unknown =
+  pub taken_known : (n : ℕ) (slot : Slot V) (r : DeskReply) → find_slot n out ≡ Some slot → Does core Step.Take None r core' → r ≢ DeskReply.Unknown
+  taken_known n slot (DeskReply.Taken detach) here t unknown = cc
+  taken_known n slot DeskReply.Unknown here t unknown =
       absurd (omega (arith, one_outside core gets out n slot counted here, t.0))
+  taken_known n slot _ here t unknown = absurd t
 
-  pub taken : (n : ℕ) (slot : Slot V) (r : TakeReply) (answer : Reply V E) → find_slot n out ≡ Some slot → Takes core r core' → Gives may (reply_to_take slot.value r) answer
-      → Gives may (moved (move.Take n) before) (answer, image fixed core' gets (without_slot n out)) × IsCounted core' gets (without_slot n out)
-  taken n slot (taking.Taken true) answer here t given =
+  pub taken : (n : ℕ) (slot : Slot V) (r : DeskReply) (answer : Reply V E) → find_slot n out ≡ Some slot → Does core Step.Take None r core' → Gives may (reply_to_take slot.value r) answer
+      → Gives may (one_step (move.Take n) before) (answer, image fixed core' gets (without_slot n out)) × IsCounted core' gets (without_slot n out)
+  taken n slot (DeskReply.Taken true) answer here t given =
       let all = takes fixed core core' gets out n slot counted here t.2 in
       let some = some_handle true core.handles t.1 refl in
       rw (here, some) ((given.0, (given.1.0, ap (λ (q : Pool V C R S F A). (reply.Taken given.0, q)) (sym all.0) ∙ ap (λ (x : Reply V E). (x, image fixed core' gets (without_slot n out))) given.1.1)), all.1)
-  taken n slot (taking.Taken false) answer here t given =
+  taken n slot (DeskReply.Taken false) answer here t given =
       let all = takes fixed core core' gets out n slot counted here t.2 in
       let none = no_handle false core.handles t.1 refl in
       rw (here, none) (ap (λ (q : Pool V C R S F A). (reply.Taken slot.value, q)) (sym all.0) ∙ ap (λ (x : Reply V E). (x, image fixed core' gets (without_slot n out))) given, all.1)
-  taken n slot taking.Unknown answer here t given =
+  taken n slot DeskReply.Unknown answer here t given =
       absurd (omega (arith, one_outside core gets out n slot counted here, t.0))
+  taken n slot _ answer here t given = absurd t
 
   -- what a resize asks, whether a handle is left or not, and whether the pool is open or not
   abbrev resizing : ℕ → Bool → Bool → Asking V E C R S F A (Reply V E × Pool V C R S F A)
@@ -90,7 +91,7 @@ module _ {M V E C R S F A : Type 0} (may : May V E C R S F A) (memory : (found :
   grows n false is = ap (λ (q : Pool V C R S F A). (reply.Done, q)) (sym is)
 
   -- the pool has another limit, if it is open
-  pub resized_ok : (n : ℕ) → (core.handles == 0) ≡ false → Resizes core n (Ok tt) core' → Gives may (moved (move.Resize n) before) (reply.Done, after) × IsCounted core' gets out
+  pub resized_ok : (n : ℕ) → (core.handles == 0) ≡ false → Resizes core n (Ok tt) core' → Gives may (one_step (move.Resize n) before) (reply.Done, after) × IsCounted core' gets out
   resized_ok n some r =
       elim (cases_Bool core.is_open) [
         | inl open_ ↦
@@ -106,7 +107,7 @@ module _ {M V E C R S F A : Type 0} (may : May V E C R S F A) (memory : (found :
       ]
 
   -- and nothing changed if memory was refused
-  pub resized_err : (n : ℕ) (e : _) → (core.handles == 0) ≡ false → Resizes core n (Err e) core' → Gives may (moved (move.Resize n) before) (reply.OutOfMemory, after) × IsCounted core' gets out
+  pub resized_err : (n : ℕ) (e : _) → (core.handles == 0) ≡ false → Resizes core n (Err e) core' → Gives may (one_step (move.Resize n) before) (reply.OutOfMemory, after) × IsCounted core' gets out
   resized_err n e some r =
       let more : nat_lt before.reserve n ≡ true = grind (arith, nat_tests, r.1) in
       let same : before ≡ after = ap (λ (d : DeskState (Slot V)). image fixed d gets out) (sym r.2) in (
@@ -129,18 +130,18 @@ module _ {M V E C R S F A : Type 0} (may : May V E C R S F A) (memory : (found :
     subst (λ (d : DeskState (Slot V)). IsCounted d gets out) (sym same) counted,
   )
 
-  pub closed_all : (core.handles == 0) ≡ false → Closes core core' → Gives may (moved move.Close before) (reply.Done, after) × IsCounted core' gets out
+  pub closed_all : (core.handles == 0) ≡ false → Closes core core' → Gives may (one_step move.Close before) (reply.Done, after) × IsCounted core' gets out
   closed_all some c = by_owner closed some (closes fixed core core' gets out counted c)
 
-  pub cloned_handle : (r : HandleReply) (answer : Reply V E) → Clones core r core' → answer ≡ reply_to_handle r → Gives may (moved move.Clone before) (answer, after) × IsCounted core' gets out
+  pub cloned_handle : (r : HandleReply) (answer : Reply V E) → Clones core r core' → answer ≡ reply_to_handle r → Gives may (one_step move.Clone before) (answer, after) × IsCounted core' gets out
   cloned_handle handle.Done answer c is = rw is (by_owner cloned (ne_eqb core.handles 0 (omega (arith, c.0))) (clones fixed core core' gets out counted c.1))
   cloned_handle handle.NoHandle answer c is = rw is (unchanged cloned c.0 c.1)
 
-  pub dropped_handle : (r : HandleReply) (answer : Reply V E) → DropsHandle core r core' → answer ≡ reply_to_handle r → Gives may (moved move.DropHandle before) (answer, after) × IsCounted core' gets out
+  pub dropped_handle : (r : HandleReply) (answer : Reply V E) → DropsHandle core r core' → answer ≡ reply_to_handle r → Gives may (one_step move.DropHandle before) (answer, after) × IsCounted core' gets out
   dropped_handle handle.Done answer c is = rw is (by_owner handle_dropped (ne_eqb core.handles 0 (omega (arith, c.0))) (drops_handle fixed core core' gets out counted _ refl c.1))
   dropped_handle handle.NoHandle answer c is = rw is (unchanged handle_dropped c.0 c.1)
 
-  pub upgraded : (b : Bool) → Upgrades core b core' → Gives may (moved move.Upgrade before) (reply.Upgraded b, after) × IsCounted core' gets out
+  pub upgraded : (b : Bool) → Upgrades core b core' → Gives may (one_step move.Upgrade before) (reply.Upgraded b, after) × IsCounted core' gets out
   upgraded true u =
       let all = clones fixed core core' gets out counted u.1 in
       (ap (λ c. cond c (reply.Upgraded false, before) (reply.Upgraded true, cloned before)) (ne_eqb core.handles 0 (omega (arith, u.0))) ∙ ap (λ (q : Pool V C R S F A). (reply.Upgraded true, q)) (sym all.0), all.1)

@@ -1,6 +1,6 @@
 -- Runs, move by move: their states, and what each move keeps, which holds of every state and of each two neighbours.
 use Rattle.deadpool_replay.proofs.Basics.{◌≡◌, List, [], ◌∷◌, ◌++◌, refl, ap, last_of, all_states, Each, Neighbours, ℕ, subst, Gives, sym, Always, Later, Always-Gives}
-use Rattle.deadpool_replay.proofs.Words.{Moment, May, Pool, moved, Polls, Reply, MakesMove, PoolRuns, Move, rest, given}
+use Rattle.deadpool_replay.proofs.Words.{Moment, May, Pool, one_step, Polls, Reply, MakesMove, PoolRuns, Move, rest, given}
 use Rattle.deadpool_replay.specs.declared.moves.Move.TheVariants as move
 use Rattle.deadpool_replay.specs.declared.moves.Reply.TheVariants as reply
 
@@ -37,7 +37,7 @@ module _ {X : Type 0} where
 module _ {V E C R S F A : Type 0} (may : May V E C R S F A) (n : ℕ) (now : Moment) where
   -- an advance with more to do, before the advances of a poll
   pub polls_more : (p q : Pool V C R S F A) (answer : Reply V E) (passed : List (Pool V C R S F A))
-      → Gives may (moved (move.Advance n now) p) (reply.More, q) → Polls may n now q passed answer → Polls may n now p (q ∷ passed) answer
+      → Gives may (one_step (move.Advance n now) p) (reply.More, q) → Polls may n now q passed answer → Polls may n now p (q ∷ passed) answer
   polls_more p q answer [] g rest = absurd rest
   polls_more p q answer (t ∷ ss) g rest = (g, rest)
 
@@ -81,15 +81,15 @@ Later-more P more implies (x ∷ xs) h = (Each-more (P x) (more x) (implies x) x
 -- Some moves, a fact of a pool that they keep, and one of the pools before and after each
 module _ {V E C R S F A : Type 0} (may : May V E C R S F A) (IsMeant : Move V → Type 0) (Good : Pool V C R S F A → Type 0) (Next : Pool V C R S F A → Pool V C R S F A → Type 0)
     (advances : (n : ℕ) (now : Moment) → IsMeant (move.Poll n now) → IsMeant (move.Advance n now))
-    (step : (m : Move V) (p : Pool V C R S F A) → IsMeant m → Good p → Always (λ (x : Reply V E × Pool V C R S F A). Good x.1 × Next p x.1) (moved m p)) where
+    (step : (m : Move V) (p : Pool V C R S F A) → IsMeant m → Good p → Always (λ (x : Reply V E × Pool V C R S F A). Good x.1 × Next p x.1) (one_step m p)) where
   -- what the states that the move passed from p have, and its last step
   Passing : Move V → Pool V C R S F A → List (Pool V C R S F A) → Reply V E → Type 0
   Passing m p passed answer =
-      Each Good passed × Neighbours Next (p ∷ passed) × Good (last_of p passed) × ((q : Pool V C R S F A) × Good q × Gives may (moved m q) (answer, last_of p passed))
+      Each Good passed × Neighbours Next (p ∷ passed) × Good (last_of p passed) × ((q : Pool V C R S F A) × Good q × Gives may (one_step m q) (answer, last_of p passed))
 
   -- a move that was answered so
-  gives_next : (m : Move V) (p after : Pool V C R S F A) (answer : Reply V E) → IsMeant m → Good p → Gives may (moved m p) (answer, after) → Good after × Next p after
-  gives_next m p after answer meant good given = Always-Gives (λ (x : Reply V E × Pool V C R S F A). Good x.1 × Next p x.1) may (moved m p) (answer, after) (step m p meant good) given
+  gives_next : (m : Move V) (p after : Pool V C R S F A) (answer : Reply V E) → IsMeant m → Good p → Gives may (one_step m p) (answer, after) → Good after × Next p after
+  gives_next m p after answer meant good given = Always-Gives (λ (x : Reply V E × Pool V C R S F A). Good x.1 × Next p x.1) may (one_step m p) (answer, after) (step m p meant good) given
 
   -- the states that a poll passes
   polls_have : (n : ℕ) (now : Moment) (p : Pool V C R S F A) (passed : List (Pool V C R S F A)) (answer : Reply V E) → IsMeant (move.Advance n now) → Good p → Polls may n now p passed answer
@@ -105,7 +105,7 @@ module _ {V E C R S F A : Type 0} (may : May V E C R S F A) (IsMeant : Move V �
       ((next.0, rest.0), (next.1, rest.1), rest.2, rest.3)
 
   -- the one state that another move passes
-  one_has : (m : Move V) (p after : Pool V C R S F A) (passed : List (Pool V C R S F A)) (answer : Reply V E) → IsMeant m → Good p → passed ≡ after ∷ [] → Gives may (moved m p) (answer, after)
+  one_has : (m : Move V) (p after : Pool V C R S F A) (passed : List (Pool V C R S F A)) (answer : Reply V E) → IsMeant m → Good p → passed ≡ after ∷ [] → Gives may (one_step m p) (answer, after)
       → Passing m p passed answer
   unfolding Passing
   one_has m p after passed answer meant good e given =
@@ -123,12 +123,12 @@ module _ {V E C R S F A : Type 0} (may : May V E C R S F A) (IsMeant : Move V �
   makes_next m p passed answer meant good ran = (makes_have m p passed answer meant good ran).1
 
   -- and its reply, with the last of them
-  pub makes_reply : (P : Move V → Reply V E → Pool V C R S F A → Type 0) → ((m : Move V) (p : Pool V C R S F A) → Good p → Always (λ (x : Reply V E × Pool V C R S F A). P m x.0 x.1) (moved m p))
+  pub makes_reply : (P : Move V → Reply V E → Pool V C R S F A → Type 0) → ((m : Move V) (p : Pool V C R S F A) → Good p → Always (λ (x : Reply V E × Pool V C R S F A). P m x.0 x.1) (one_step m p))
       → (m : Move V) (p : Pool V C R S F A) (passed : List (Pool V C R S F A)) (answer : Reply V E) → IsMeant m → Good p → MakesMove may p m passed answer → P m answer (last_of p passed)
   unfolding Passing
   makes_reply P always m p passed answer meant good ran =
       let end = (makes_have m p passed answer meant good ran).3 in
-      Always-Gives (λ (x : Reply V E × Pool V C R S F A). P m x.0 x.1) may (moved m end.0) (answer, last_of p passed) (always m end.0 end.1) end.2
+      Always-Gives (λ (x : Reply V E × Pool V C R S F A). P m x.0 x.1) may (one_step m end.0) (answer, last_of p passed) (always m end.0 end.1) end.2
 
   -- the states of a whole run, one after another
   states_have : (moves : List (Move V)) (p after : Pool V C R S F A) (passed : List (List (Pool V C R S F A))) (answers : List (Reply V E)) → Each IsMeant moves → Good p

@@ -1,6 +1,6 @@
 -- What is true of every state of every run of a managed pool that begins well, and of each two neighbours.
 use Rattle.deadpool_replay.proofs.Basics.{◌≡◌, ℕ, ◌≤◌, List, false, max, arith, inl, inr, refl, cases_Bool, has_number, all_states, Each, Neighbours}
-pub use Rattle.deadpool_replay.proofs.Words.{WithinReach, EachReply, Moment, May, Pool, size, reach, moved, PoolRuns, numbers, IsWell, Succeeds, sets_limit, NoneReturns, EachState, EachStep, EachLater, EachMove, EndsWell, StaysWithin, Move, Reply, may, IsEmptyIfClosed, KeepsFloor, LeavesEnough, HasFewIdle, CountsOn, may_leave, OthersStayInPool, OthersStayQueued, OthersStand, IsNumbered, IsOutIfGiven, IsIdleIfKept, IsListedOnce, MarksQueued, KeepsQueue}
+pub use Rattle.deadpool_replay.proofs.Words.{WithinReach, EachReply, Moment, May, Pool, size, reach, one_step, PoolRuns, numbers, IsWell, Succeeds, sets_limit, NoneReturns, EachState, EachStep, EachLater, EachMove, EndsWell, StaysWithin, Move, Reply, may, IsEmptyIfClosed, KeepsFloor, LeavesEnough, HasFewIdle, CountsOn, may_leave, OthersStayInPool, OthersStayQueued, OthersStand, IsNumbered, IsOutIfGiven, IsIdleIfKept, IsListedOnce, MarksQueued, KeepsQueue}
 use Rattle.deadpool_replay.specs.declared.moves.Move.TheVariants as move
 use Rattle.deadpool_replay.proofs.Computations.{Always-more}
 use Rattle.deadpool_replay.proofs.AllMoves.{Moved, moved_has}
@@ -29,7 +29,7 @@ module _ {V E C R S F A : Type 0} (may : May V E C R S F A) where
       → Each IsWell (all_states p passed) × Neighbours (λ q r. Succeeds q r × WithinReach q r) (all_states p passed) × IsWell after
   runs_well moves p after passed answers w ran =
       runs_have may (λ m. Unit {0}) IsWell (λ q r. Succeeds q r × WithinReach q r) (λ n now meant. tt)
-      (λ m q meant h. Always-more (WellAfter q) (λ (x : Reply V E × Pool V C R S F A). IsWell x.1 × (Succeeds q x.1 × WithinReach q x.1)) (λ x k. (k.0, (k.1, k.2))) (moved m q) (moved_well E m q h))
+      (λ m q meant h. Always-more (WellAfter q) (λ (x : Reply V E × Pool V C R S F A). IsWell x.1 × (Succeeds q x.1 × WithinReach q x.1)) (λ x k. (k.0, (k.1, k.2))) (one_step m q) (moved_well E m q h))
       moves p after passed answers (each_of (λ m. Unit {0}) (λ m. tt) moves) w ran
 
   -- what follows for a pool that is well
@@ -47,14 +47,14 @@ module _ {V E C R S F A : Type 0} (may : May V E C R S F A) where
       makes_next may (λ l. (q r : Pool V C R S F A) → P l q r → P m q r) IsWell (P m) (λ n now implies q r h. implies q r (polls n now q r h))
       (λ l q implies h.
       Always-more (Moved q l) (λ (x : Reply V E × Pool V C R S F A). IsWell x.1 × P m q x.1)
-      (λ x k. let after = (well_after l q x h k).0 in (after, implies q x.1 (keeps l q x h after k))) (moved l q) (moved_has E q h.lawful l))
+      (λ x k. let after = (well_after l q x h k).0 in (after, implies q x.1 (keeps l q x h after k))) (one_step l q) (moved_has E q h.lawful l))
       m p passed answer (λ q r h. h) w made
 
   pub each_reply : (P : Move V → Reply V E → Pool V C R S F A → Type 0) → ((m : Move V) (p : Pool V C R S F A) (x : Reply V E × Pool V C R S F A) → Moved p m x → P m x.0 x.1) → EachReply may P
   each_reply P has m p passed answer w made =
       makes_reply may (λ l. Unit {0}) IsWell (λ q r. Unit {0}) (λ n now meant. tt)
-      (λ l q meant h. Always-more (WellAfter q) (λ (x : Reply V E × Pool V C R S F A). IsWell x.1 × Unit {0}) (λ x k. (k.0, tt)) (moved l q) (moved_well E l q h)) P
-      (λ l q h. Always-more (Moved q l) (λ (x : Reply V E × Pool V C R S F A). P l x.0 x.1) (has l q) (moved l q) (moved_has E q h.lawful l)) m p passed answer tt w made
+      (λ l q meant h. Always-more (WellAfter q) (λ (x : Reply V E × Pool V C R S F A). IsWell x.1 × Unit {0}) (λ x k. (k.0, tt)) (one_step l q) (moved_well E l q h)) P
+      (λ l q h. Always-more (Moved q l) (λ (x : Reply V E × Pool V C R S F A). P l x.0 x.1) (has l q) (one_step l q) (moved_has E q h.lawful l)) m p passed answer tt w made
 
   pub ends_well : EndsWell may
   ends_well moves p after passed answers w ran = (runs_well moves p after passed answers w ran).2
@@ -75,6 +75,6 @@ module _ {V E C R S F A : Type 0} (may : May V E C R S F A) where
       let before : reach q ≤ q.limit = g.1 in
       let reached : reach x.1 ≤ max x.1.limit (reach q) = next.2 in
       let limit : x.1.limit ≡ q.limit = h.1.limit same in
-      ((next.0, omega (arith, before, reached, limit)), tt)) (moved m q) (moved_has E q g.0.lawful m))
+      ((next.0, omega (arith, before, reached, limit)), tt)) (one_step m q) (moved_has E q g.0.lawful m))
       moves p after passed answers kept (w, within) ran in
       Each-more (λ q. IsWell q × (reach q ≤ q.limit)) (λ q. size q ≤ q.limit) (λ q g. let all = g.1 in omega (arith, all)) (all_states p passed) have.0

@@ -1,8 +1,7 @@
 -- A get that holds a place is served at the desk as its party is in the pool.
 use Rattle.deadpool_replay.proofs.Basics.{cond-true, cond-false, ◌≡◌, ◌≢◌, ℕ, ◌+◌, ◌-◌, ◌<◌, ◌≤◌, List, [], ◌∷◌, length, set, refl, sym, ap, ◌∙◌, subst, arith, Option, Some, None, nat_lt, unwrap_or, lt-ltb, le-ltb, slice_get, slice_get-get_or, largest_usize}
-use Rattle.deadpool_replay.proofs.Words.{QueueMode, Fifo, Lifo, Timeouts, NumbersExhausted, start, DeskState, next_idle, other_idle, settled, Serves, Getting, AfterServing, Pool, Party, Standing, recycling, creating_count, settle, unqueued as pool_unqueued, go_on, serve_from, serve, party_of, IsCounted, given, reply_to, Slot, PreRecycle, Stage, Turn, Serving, Reply, Fixed, image, get_at}
+use Rattle.deadpool_replay.proofs.Words.{QueueMode, Fifo, Lifo, Timeouts, NumbersExhausted, start, DeskState, next_idle, other_idle, settled, Serves, Getting, AfterServed, Moment, Pool, Party, Standing, recycling, creating_count, settle, unqueued as pool_unqueued, go_on, serve_from, serve, party_of, IsCounted, given, reply_to, Slot, PreRecycle, Stage, Turn, DeskReply, Reply, Fixed, image, get_at}
 use Rattle.deadpool_managed.specs.Stages as stage
-use Rattle.deadpool_desk.specs.declared.desk.Serving.TheVariants as serving
 use Rattle.deadpool_replay.specs.declared.moves.Reply.TheVariants as reply
 use Rattle.deadpool_replay.proofs.DeskImage.{Owns, NoTicket, settles, counted_settled, goes, creates, prepares, lasts, IsCounted-set, put}
 
@@ -112,11 +111,13 @@ module _ {M V E C R S F A : Type 0} (fixed : Fixed M F A V E C R S) (n : ℕ) (c
         )
 
     -- what serving does at the desk, it does in the pool
-    pub serves : (d' : DeskState (Slot V)) (allowance : Option ℕ) (served : Serving (Slot V)) (s : Stage V C R S) (t : Turn V E)
-        → Serves d allowance served d' → AfterServing served s t
+    pub serves : (d' : DeskState (Slot V)) (allowance : Option ℕ) (deadline : Option Moment) (reply : DeskReply) (object : Option (Slot V)) (s : Stage V C R S) (t : Turn V E)
+        → Serves d allowance object reply d' → AfterServed deadline reply object s t
         → (serve {E = E} n party allowance pool ≡ (reply_to t, image fixed d' (set gets n (get_at own s)) (given t out)))
         × IsCounted d' (set gets n (get_at own s)) (given t out)
-    serves d' allowance (serving.Object slot more) s t e a = rw (a.0, a.1, e.2) (served_object allowance slot more e.0 e.1)
-    serves d' allowance serving.Going s t e a = rw (a.0, a.1, e.2) (served_going allowance e.0 e.1)
-    serves d' allowance serving.Create s t e a = rw (a.0, a.1, e.2) (served_create allowance e.0 e.1)
-    serves d' allowance serving.Exhausted s t e a = rw (a.0, a.1, e.2) (served_exhausted allowance e.0 e.1)
+    serves d' allowance deadline (DeskReply.Object more) (Some slot) s t e a = rw (a.0, a.1, e.2) (served_object allowance slot more e.0 e.1)
+    serves d' allowance deadline DeskReply.Going None s t e a = rw (a.0, a.1, e.2) (served_going allowance e.0 e.1)
+    serves d' allowance deadline DeskReply.Create None s t e a = rw (a.0, a.1, e.2) (served_create allowance e.0 e.1)
+    serves d' allowance deadline DeskReply.Exhausted None s t e a = rw (a.0, a.1, e.2) (served_exhausted allowance e.0 e.1)
+    serves d' allowance deadline _ (Some slot) s t e a = absurd e
+    serves d' allowance deadline _ None s t e a = absurd e

@@ -1,6 +1,6 @@
 -- Each advance of a get over the desk is an advance of its party in the pool.
 use Rattle.deadpool_replay.proofs.Basics.{◌≡◌, ℕ, List, Bool, set, subst, Option, Some, slice_get, Gives}
-use Rattle.deadpool_replay.proofs.Words.{named, Moment, Timeouts, DeskState, Asks, AsksAgain, Getting, May, Reserve, Made, no_step, entering, asking, asking_again, Makes, AdvancesFrom, Pool, advance_at, NobodyWaits, standing_of, IsCounted, given, reply_to, Slot, Stage, Turn, core_desk, Fixed, image, get_at}
+use Rattle.deadpool_replay.proofs.Words.{named, Moment, Timeouts, DeskState, Does, Getting, May, Reserve, Made, no_step, making, Makes, AdvancesFrom, Pool, advance_at, NobodyWaits, standing_of, IsCounted, given, reply_to, Slot, Stage, Turn, Step, core_desk, Fixed, image, get_at}
 use Rattle.deadpool_managed.specs.Stages as stage
 use Rattle.deadpool_replay.proofs.Entries.{from_entered, from_unrun, from_going, from_queued}
 use Rattle.deadpool_replay.proofs.Advances.{from_creating, from_recycling, from_checking, from_finished}
@@ -18,13 +18,13 @@ module _ {M V E C R S F A : Type 0} (may : May V E C R S F A) (memory : (found :
       (reply_to t, image fixed core' (set gets n (get_at own s)) (given t out))
       × IsCounted core' (set gets n (get_at own s)) (given t out)
   get_advanced own stage.Unpolled s t no_step k nobody h e a = from_unrun may fixed n now core core' gets out own k nobody h s t e a.0 a.1 a.2
-  get_advanced own stage.Unpolled s t (entering wait reply) k nobody h e a = from_entered may fixed n now core core' gets out own k nobody h a.0 memory wait reply s t a.1 e a.2
-  get_advanced own (stage.Queued ticket deadline) s t (asking named expired reply) k nobody h e a =
-      from_queued may fixed n now core core' gets out own k nobody ticket deadline h expired reply s t a.1
-      (subst (λ u. Asks core u expired reply core') a.0 e) a.2
-  get_advanced own (stage.Going allowance) s t (asking_again asked reply) k nobody h e a =
-      from_going may fixed n now core core' gets out own k nobody allowance h reply s t
-      (subst (λ o. AsksAgain core o reply core') a.0 e) a.1
+  get_advanced own stage.Unpolled s t (making (Step.Enter wait) r object) k nobody h e a = from_entered may fixed n now core core' gets out own k nobody h a.0 memory wait r object s t a.1 e.1 a.2
+  get_advanced own (stage.Queued ticket deadline) s t (making (Step.Ask named expired) r object) k nobody h e a =
+      from_queued may fixed n now core core' gets out own k nobody ticket deadline h expired r object s t a.1
+      (subst (λ u. Does core (Step.Ask u expired) object r core') a.0 e.1) a.2
+  get_advanced own (stage.Going allowance) s t (making (Step.Again asked) r object) k nobody h e a =
+      from_going may fixed n now core core' gets out own k nobody allowance h r object s t
+      (subst (λ o. Does core (Step.Again o) object r core') a.0 e.1) a.1
   get_advanced own (stage.Creating begun until) s t made k nobody h e a = from_creating may fixed n now core core' gets out own k begun until made s t h e a
   get_advanced own (stage.Recycling preparation allowance) s t made k nobody h e a = from_recycling may fixed n now core core' gets out own k preparation allowance made s t h e a.0 a.1.0 a.1.1
   get_advanced own (stage.Checking slot at) s t made k nobody h e a = from_checking may fixed n now core core' gets out own k slot at made s t h e a.0 a.1.0 a.1.1

@@ -1,6 +1,6 @@
 -- What a step of a trial keeps: the counts, and the laws that each move keeps.
 use Rattle.deadpool_replay.proofs.Basics.{◌∙◌, option_map, slice_get-map, ◌≡◌, ◌≢◌, ℕ, ◌≤◌, List, [], ◌∷◌, Bool, true, false, nat_lt, ◌==◌, length, map, set, set-set, get-set_same, Option, Some, None, Ok, Err, refl, sym, ap, arith, slice_get, nat_tests, length-set_n as length-set, last_of, Gives, Always-Gives}
-use Rattle.deadpool_replay.proofs.Words.{party_of, by_party, cancel, advance, Makes, AdvancesFrom, Advanced, Advances, PollsOver, Moment, Timeouts, may, DeskState, TakesBack, Getting, Made, CancelsFrom, Pool, find_slot, without_slot, moved, Polls, is_more, IsWell, IsCounted, given, reply_to, reply_to_back, Slot, ManagerOf, SyncHookOf, AsyncHookOf, Stage, Turn, BackReply, Move, Reply, CoreState, core_desk, own_desk, makes_at_desk, polls_at_desk, Fixed, image, get_at}
+use Rattle.deadpool_replay.proofs.Words.{party_of, by_party, cancel, advance, Makes, AdvancesFrom, Advanced, Advances, PollsOver, Moment, Timeouts, may, DeskState, Does, LeavesInHand, Getting, Made, CancelsFrom, Pool, find_slot, without_slot, one_step, Polls, is_more, IsWell, IsCounted, given, reply_to, reply_to_back, Slot, ManagerOf, SyncHookOf, AsyncHookOf, Stage, Turn, Step, DeskReply, Move, Reply, CoreState, core_desk, own_desk, makes_at_desk, polls_at_desk, Fixed, image, get_at}
 use Rattle.deadpool_managed.specs.declared.get.Turn.TheVariants as turn
 use Rattle.deadpool_replay.specs.declared.moves.Move.TheVariants as move
 use Rattle.deadpool_replay.specs.declared.moves.Reply.TheVariants as reply
@@ -37,8 +37,8 @@ party_here gets n get here = slice_get-map party_of gets n ∙ ap (option_map pa
 
 module _ {M V E C R S F A : Type 0} (m : ManagerOf M V E C R) (f : SyncHookOf F M V E C R) (a : AsyncHookOf A M S V E C R) (manager : M) where
   -- what a move leads to is well
-  pub leads_to_well : (mv : Move V) (p q : Pool V C R S F A) (answer : Reply V E) → IsWell p → Gives (may m f a manager) (moved mv p) (answer, q) → IsWell q
-  leads_to_well mv p q answer well given = (Always-Gives (WellAfter p) (may m f a manager) (moved mv p) (answer, q) (moved_well E mv p well) given).0
+  pub leads_to_well : (mv : Move V) (p q : Pool V C R S F A) (answer : Reply V E) → IsWell p → Gives (may m f a manager) (one_step mv p) (answer, q) → IsWell q
+  leads_to_well mv p q answer well given = (Always-Gives (WellAfter p) (may m f a manager) (one_step mv p) (answer, q) (moved_well E mv p well) given).0
 
   module _ (fixed : Fixed M F A V E C R S) (n : ℕ) (now : Moment) (own : Timeouts) (out : List (Slot V)) where
     -- the pool after a turn of the get that the party n has
@@ -49,7 +49,7 @@ module _ {M V E C R S F A : Type 0} (m : ManagerOf M V E C R) (f : SyncHookOf F 
     advance_leads : (core core' : DeskState (Slot V)) (gets : List (Option (Getting V C R S))) (old s : Stage V C R S) (t : Turn V E) (made : Made V) → IsCounted core gets out
         → IsWell (image fixed core gets out) → slice_get gets n ≡ Some (get_at own old) → Makes core_desk core made core'
         → AdvancesFrom (may m f a manager) fixed.environment.runtime fixed.environment.hooks now own old made s t
-        → Gives (may m f a manager) (moved (move.Advance n now) (image fixed core gets out)) (reply_to t, after core' gets s t)
+        → Gives (may m f a manager) (one_step (move.Advance n now) (image fixed core gets out)) (reply_to t, after core' gets s t)
         × IsCounted core' (set gets n (get_at own s)) (given t out) × IsWell (after core' gets s t)
     advance_leads core core' gets old s t made counted well here makes advances =
         let all = get_advanced (may m f a manager) (λ found. tt) fixed n now core core' gets out own old s t made counted well.lawful.nobody_waits here makes advances in
@@ -86,7 +86,7 @@ module _ {M V E C R S F A : Type 0} (m : ManagerOf M V E C R) (f : SyncHookOf F 
 
       -- is advanced
       pub advanced : (made : Made V) → Makes own_desk core made core' → AdvancesFrom (may m f a manager) fixed.environment.runtime fixed.environment.hooks now g.timeouts g.stage made g'.stage t
-          → Gives (may m f a manager) (moved (move.Advance n now) (image fixed core.desk gets out)) (reply_to t, image fixed core'.desk (set gets n (Some g')) (given t out))
+          → Gives (may m f a manager) (one_step (move.Advance n now) (image fixed core.desk gets out)) (reply_to t, image fixed core'.desk (set gets n (Some g')) (given t out))
           × IsCounted core'.desk (set gets n (Some g')) (given t out) × IsWell (image fixed core'.desk (set gets n (Some g')) (given t out))
       advanced made makes advances =
           rw still at (advance_leads fixed n now g.timeouts out core.desk core'.desk gets g.stage g'.stage t made counted well here (makes_at_desk core core' made makes) advances)
@@ -102,7 +102,7 @@ module _ {M V E C R S F A : Type 0} (m : ManagerOf M V E C R) (f : SyncHookOf F 
 
     -- the party n is cancelled
     pub cancelled : (g : Getting V C R S) (made : Made V) → slice_get gets n ≡ Some (Some g) → Makes own_desk core made core' → CancelsFrom (may m f a manager) g.stage made
-        → Gives (may m f a manager) (moved (move.Cancel n) (image fixed core.desk gets out)) (reply.Cancelled, image fixed core'.desk (set gets n None) out)
+        → Gives (may m f a manager) (one_step (move.Cancel n) (image fixed core.desk gets out)) (reply.Cancelled, image fixed core'.desk (set gets n None) out)
         × IsCounted core'.desk (set gets n None) out × IsWell (image fixed core'.desk (set gets n None) out)
     cancelled g made here makes gives_back =
         let all = get_cancelled (may m f a manager) fixed n core.desk core'.desk gets out g.timeouts counted well.lawful.nobody_waits g.stage made here (makes_at_desk core core' made makes) gives_back in
@@ -110,9 +110,9 @@ module _ {M V E C R S F A : Type 0} (m : ManagerOf M V E C R) (f : SyncHookOf F 
         (done, all.1, leads_to_well (move.Cancel n) _ _ _ well done)
 
     -- the object with the number n has come back
-    pub came_back : (slot : Slot V) (r : BackReply (Slot V)) (answer : Reply V E) → find_slot n out ≡ Some slot → TakesBack core.desk slot r core'.desk → Gives (may m f a manager) (reply_to_back r) answer
-        → Gives (may m f a manager) (moved (move.Back n) (image fixed core.desk gets out)) (answer, image fixed core'.desk gets (without_slot n out))
-        × IsWell (image fixed core'.desk gets (without_slot n out))
-    came_back slot r answer here back given =
-        let all = backs (may m f a manager) fixed core.desk core'.desk gets out n slot counted here r answer back given in
-        (all, leads_to_well (move.Back n) _ _ _ well all)
+    pub came_back : (slot : Slot V) (r : DeskReply) (hand : Option (Slot V)) (answer : Reply V E) → find_slot n out ≡ Some slot → Does core.desk Step.Back (Some slot) r core'.desk → LeavesInHand r (Some slot) hand
+        → Gives (may m f a manager) (reply_to_back r hand) answer → Gives (may m f a manager) (one_step (move.Back n) (image fixed core.desk gets out)) (answer, image fixed core'.desk gets (without_slot n out))
+        × IsCounted core'.desk gets (without_slot n out) × IsWell (image fixed core'.desk gets (without_slot n out))
+    came_back slot r hand answer here does left given =
+        let all = backs (may m f a manager) fixed core.desk core'.desk gets out n slot counted here r hand answer does left given in
+        (all.0, all.1, leads_to_well (move.Back n) _ _ _ well all.0)

@@ -1,7 +1,7 @@
 -- Each move leads from a pool that is well to one that is well and succeeds it, and leaves the others as they were, whatever the
 -- outside answers.
 use Rattle.deadpool_replay.proofs.Basics.{◌≡◌, ◌≢◌, ◌⊎◌, ℕ, ◌+◌, ◌<◌, ◌≤◌, List, map, Bool, true, false, ◌&&◌, refl, sym, ap, ◌∙◌, arith, inl, inr, ◌==◌, Option, Some, None, slice_get, cases_Bool, and_parts, eqb-true, eqb_tells, nil_from_length, has_number, Always, one_if}
-use Rattle.deadpool_replay.proofs.Words.{WithinReach, reach, QueueMode, Timeouts, Runtime, HookLists, Pool, Party, opened, moved, IsLawful, is_queued, numbers, IsNumbered, IsWell, CountsOn, Succeeds, sets_limit, named, may_leave, OthersStayQueued, OthersStand, Slot, Move, Reply}
+use Rattle.deadpool_replay.proofs.Words.{WithinReach, reach, QueueMode, Timeouts, Runtime, HookLists, Pool, Party, opened, one_step, IsLawful, is_queued, numbers, IsNumbered, IsWell, CountsOn, Succeeds, sets_limit, named, may_leave, OthersStayQueued, OthersStand, Slot, Move, Reply}
 use Rattle.deadpool_replay.proofs.NumberCounts.{times, times-none, times-some, times-once, once-times, held, has_number-held}
 use Rattle.deadpool_replay.proofs.Computations.{Always-more}
 use Rattle.deadpool_replay.proofs.QueuesAndPlaces.{Follows-lawful, Follows-reach}
@@ -116,5 +116,5 @@ module _ {V E C R S F A : Type 0} where
 
 module _ {V C R S F A : Type 0} (E : Type 0) where
   -- a pool that is well stays so by any move
-  pub moved_well : (m : Move V) (p : Pool V C R S F A) → IsWell p → Always (WellAfter {E = E} p) (moved m p)
-  moved_well m p w = Always-more (Moved p m) (WellAfter p) (λ x h. well_after m p x w h) (moved m p) (moved_has E p w.lawful m)
+  pub moved_well : (m : Move V) (p : Pool V C R S F A) → IsWell p → Always (WellAfter {E = E} p) (one_step m p)
+  moved_well m p w = Always-more (Moved p m) (WellAfter p) (λ x h. well_after m p x w h) (one_step m p) (moved_has E p w.lawful m)

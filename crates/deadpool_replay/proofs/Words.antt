@@ -2,7 +2,7 @@
 use Rattle.deadpool_replay.proofs.Basics.{Option, Some}
 pub use Rattle.deadpool_replay.specs.Image.{party_of, standing_of, IsCounted, has_ticket, queue_of, is_under_way, image}
 pub use Rattle.deadpool_replay.specs.Laws.{IsLawful, queue, is_queued, waits_at, MarksQueued}
-pub use Rattle.deadpool_replay.specs.Moves.{moved, by_party, resize, staying, give_up, retain_with, retain, by_handle, started, put_at, back_at, take_at, NobodyWaits, Polls, is_more, MakesMove, PoolRuns, WithinReach, stays}
+pub use Rattle.deadpool_replay.specs.Moves.{one_step, by_party, resize, staying, give_up, retain_with, retain, by_handle, started, put_at, back_at, take_at, NobodyWaits, Polls, is_more, MakesMove, PoolRuns, WithinReach, stays}
 pub use Rattle.deadpool_replay.specs.Party.{created, reviewed, checked, hand_out, advance_at, cancel, advance, enter, inquire, joined, go_on_creating, cancel_with}
 pub use Rattle.deadpool_replay.specs.Pool.{Pool, Party, size, prepared_at, is_going, is_creating, prepared_by, settle, least_idle, unpolled, reach, status_of, grants, places, pending, Standing, queued, going, preparing, goes, creates, creating, recycling, checking, finished, creating_count, opened}
 pub use Rattle.deadpool_replay.specs.RunLaws.{LeavesEnough, IsOutIfGiven, IsIdleIfKept, HasFewIdle, prepared_in, sets_limit, named, may_leave, numbers, places_from, is_preparing, listed, IsListedOnce, EachReply, IsWell, Succeeds, NoneReturns, EachState, EachStep, EachLater, EachMove, EndsWell, StaysWithin, IsNumbered, CountsOn, OthersStayQueued, OthersStand, IsEmptyIfClosed, KeepsFloor, OthersStayInPool, KeepsQueue}
@@ -14,13 +14,15 @@ pub use Rattle.deadpool_replay.specs.declared.trial.Fixed.{Fixed}
 pub use Rattle.deadpool_replay.specs.declared.trial.owner.Keeping.{Keeping}
 pub use Rattle.deadpool_managed.proofs.CoreDesk.{core_desk, own_desk, makes_at_desk}
 pub use Rattle.deadpool_managed.proofs.CorePolls.{polls_at_desk}
+pub use Rattle.deadpool_managed.proofs.Served.{again_served}
 pub use Rattle.deadpool_managed.proofs.IdleLists.{other_idle-shorter}
 pub use Rattle.deadpool_managed.specs.Answers.{LeavesOrKeeps}
 pub use Rattle.deadpool_managed.specs.Calls.{start, ask_hooks}
 pub use Rattle.deadpool_desk.specs.CoreState.{CoreState}
 pub use Rattle.deadpool_desk.specs.DeskState.{DeskState, settled, places as desk_places, grants as desk_grants, size as desk_size, pending as desk_pending, status_of as desk_status_of, next_idle, other_idle, least_idle as desk_least_idle}
-pub use Rattle.deadpool_desk.specs.DeskSteps.{Fails, is_listed, unqueued as desk_unqueued, Refuses, Cancels as DeskCancels, Enters, Asks, AsksAgain, TakesBack, given_up as desk_given_up, Takes, Resizes, Closes, Clones, DropsHandle, Upgrades, resized as desk_resized, Serves}
-pub use Rattle.deadpool_managed.specs.Get.{Made, no_step, discarding, creating as by_creation, failing, refusing, Makes, AfterCreation, AfterPrepared, AfterChecked, AdvancesCreation, ended_by, cancelling, CancelsFrom, GivesUp, AfterEntered, AfterAsked, AfterAskedAgain, AfterServing, entering, asking, asking_again, AdvancesFrom, Advanced, Advances, PollsOver}
+pub use Rattle.deadpool_desk.specs.DeskSteps.{Does, Serves, GivesUp as DeskGivesUp, is_listed, unqueued as desk_unqueued, given_up as desk_given_up, Resizes, Closes, Clones, DropsHandle, Upgrades, resized as desk_resized}
+pub use Rattle.deadpool_desk.specs.Replies.{IsReplyTo, Leaves as LeavesInHand}
+pub use Rattle.deadpool_managed.specs.Get.{Made, no_step, making, Makes, AfterServed, AfterCreation, AfterPrepared, AfterChecked, AdvancesCreation, ended_by, CancelsFrom, GivesUp, AdvancesFrom, Advanced, Advances, PollsOver}
 pub use Rattle.deadpool_managed.specs.HookLists.{HookLists}
 pub use Rattle.deadpool_desk.specs.Metrics.{new_metrics}
 pub use Rattle.deadpool_managed.specs.Outside.{May, Asking, may, Reserve, Detach}
@@ -28,13 +30,9 @@ pub use Rattle.deadpool_managed.specs.Prepare.{create, prepare, pre_recycled, be
 pub use Rattle.deadpool_desk.specs.Retained.{Retained}
 pub use Rattle.deadpool_desk.specs.Retains.{Reviews, Retains}
 pub use Rattle.deadpool_managed.specs.Stages.{Getting, Stage, Preparation, PreRecycle, Recycle, PostRecycle, Prepared, Accepted, GivenUp, Pending}
-pub use Rattle.deadpool_desk.specs.declared.desk.AgainReply.{AgainReply}
-pub use Rattle.deadpool_desk.specs.declared.desk.AskReply.{AskReply}
-pub use Rattle.deadpool_desk.specs.declared.desk.BackReply.{BackReply}
-pub use Rattle.deadpool_desk.specs.declared.desk.EnterReply.{EnterReply}
-pub use Rattle.deadpool_desk.specs.declared.desk.Held.{Held}
-pub use Rattle.deadpool_desk.specs.declared.desk.Serving.{Serving}
-pub use Rattle.deadpool_desk.specs.declared.desk.TakeReply.{TakeReply}
+pub use Rattle.deadpool_desk.specs.declared.step.Held.{Held}
+pub use Rattle.deadpool_desk.specs.declared.step.Reply.{Reply as DeskReply}
+pub use Rattle.deadpool_desk.specs.declared.step.Step.{Step}
 pub use Rattle.deadpool_managed.specs.declared.get.Turn.{Turn}
 pub use Rattle.deadpool_managed.specs.declared.hooks.AsyncHook.{Ghosts as AsyncHookOf}
 pub use Rattle.deadpool_managed.specs.declared.hooks.SyncHook.{Ghosts as SyncHookOf}
@@ -53,7 +51,6 @@ pub use Rattle.deadpool_parts.specs.declared.errors.RecycleError.{RecycleError}
 pub use Rattle.deadpool_parts.specs.declared.moment.Moment.{Moment}
 pub use Rattle.deadpool_parts.specs.declared.moment.Runtime.{Runtime}
 pub use Rattle.deadpool_parts.specs.declared.replies.HandleReply.{HandleReply}
-pub use Rattle.deadpool_parts.specs.declared.replies.StepReply.{StepReply}
 pub use Rattle.futures.specs.Task.{Keeps}
 pub use Rattle.futures.specs.declared.task.Poll.{Poll}
 

@@ -105,34 +105,34 @@ module _ {V E C R S F A : Type 0} where
   by_party (Some (Some party)) step p = step party p
   by_party _ step p = Return (reply.NoSuch, p)
 
-  -- What one move makes. A poll is one advance or more: here it is its first, and Polls, below, says the whole.
-  abbrev pub moved : Move V → Pool V C R S F A → Asking V E C R S F A (Reply V E × Pool V C R S F A)
-  moved (move.Start timeouts) p = Return (by_handle (started timeouts) p)
-  moved (move.Advance n now) p = by_party (slice_get p.parties n) (advance n now) p
-  moved (move.Poll n now) p = by_party (slice_get p.parties n) (advance n now) p
-  moved (move.Cancel n) p = by_party (slice_get p.parties n) (cancel n) p
-  moved (move.Put n v) p = Return (put_at (find_slot n p.out) n v p)
-  moved (move.Back n) p = back_at (find_slot n p.out) n p
-  moved (move.Take n) p = take_at (find_slot n p.out) n p
-  moved (move.Resize n) p = resize n p
-  moved (move.Retain kept) p = retain kept.items p
-  moved move.Close p = Return (by_handle (λ q. (reply.Done, closed q)) p)
-  moved move.Clone p = Return (by_handle (λ q. (reply.Done, cloned q)) p)
-  moved move.DropHandle p = Return (by_handle (λ q. (reply.Done, handle_dropped q)) p)
-  moved move.Upgrade p = Return (upgrade p)
-  moved move.Status p = Return (by_handle (λ q. (reply.Stands (status_of q), q)) p)
+  -- One step of a move. A poll takes one step or more, each an advance: Polls, below, has them all. Every other move takes one.
+  abbrev pub one_step : Move V → Pool V C R S F A → Asking V E C R S F A (Reply V E × Pool V C R S F A)
+  one_step (move.Start timeouts) p = Return (by_handle (started timeouts) p)
+  one_step (move.Advance n now) p = by_party (slice_get p.parties n) (advance n now) p
+  one_step (move.Poll n now) p = by_party (slice_get p.parties n) (advance n now) p
+  one_step (move.Cancel n) p = by_party (slice_get p.parties n) (cancel n) p
+  one_step (move.Put n v) p = Return (put_at (find_slot n p.out) n v p)
+  one_step (move.Back n) p = back_at (find_slot n p.out) n p
+  one_step (move.Take n) p = take_at (find_slot n p.out) n p
+  one_step (move.Resize n) p = resize n p
+  one_step (move.Retain kept) p = retain kept.items p
+  one_step move.Close p = Return (by_handle (λ q. (reply.Done, closed q)) p)
+  one_step move.Clone p = Return (by_handle (λ q. (reply.Done, cloned q)) p)
+  one_step move.DropHandle p = Return (by_handle (λ q. (reply.Done, handle_dropped q)) p)
+  one_step move.Upgrade p = Return (upgrade p)
+  one_step move.Status p = Return (by_handle (λ q. (reply.Stands (status_of q), q)) p)
 
 module _ {V E C R S F A : Type 0} (may : May V E C R S F A) where
   -- the advances of one poll, with the state after each: each but the last is answered More
   abbrev pub Polls : ℕ → Moment → Pool V C R S F A → List (Pool V C R S F A) → Reply V E → Type 0
   Polls n now p [] answer = ⊥
-  Polls n now p (s ∷ []) answer = Gives may (moved (move.Advance n now) p) (answer, s) × (is_more answer ≡ false)
-  Polls n now p (s ∷ t ∷ ss) answer = Gives may (moved (move.Advance n now) p) (reply.More, s) × Polls n now s (t ∷ ss) answer
+  Polls n now p (s ∷ []) answer = Gives may (one_step (move.Advance n now) p) (answer, s) × (is_more answer ≡ false)
+  Polls n now p (s ∷ t ∷ ss) answer = Gives may (one_step (move.Advance n now) p) (reply.More, s) × Polls n now s (t ∷ ss) answer
 
   -- one move, with the states that it passes, and its reply
   abbrev pub MakesMove : Pool V C R S F A → Move V → List (Pool V C R S F A) → Reply V E → Type 0
   MakesMove p (move.Poll n now) passed answer = Polls n now p passed answer
-  MakesMove p m passed answer = (q : Pool V C R S F A) × (passed ≡ q ∷ []) × Gives may (moved m p) (answer, q)
+  MakesMove p m passed answer = (q : Pool V C R S F A) × (passed ≡ q ∷ []) × Gives may (one_step m p) (answer, q)
 
   -- a list of moves, with the states that each passes, the replies, and the state after them
   abbrev pub PoolRuns : Pool V C R S F A → List (Move V) → List (List (Pool V C R S F A)) → List (Reply V E) → Pool V C R S F A → Type 0

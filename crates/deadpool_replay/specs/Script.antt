@@ -19,7 +19,7 @@ use Rattle.deadpool_parts.specs.declared.config.Timeouts.{Timeouts}
 use Rattle.deadpool_parts.specs.declared.errors.PoolError.{PoolError}
 use Rattle.deadpool_parts.specs.declared.errors.HookError.TheVariants.{Message}
 use Rattle.deadpool_parts.specs.declared.errors.RecycleError.TheVariants.{Backend}
-use Rattle.deadpool_replay.specs.Moves.{moved, is_more, retain}
+use Rattle.deadpool_replay.specs.Moves.{one_step, is_more, retain}
 use Rattle.deadpool_managed.specs.Outside.{Question, Answer, Asking, BeginCreation, PollCreation, BeginRecycling, PollRecycling, CallHook, BeginHook, PollHook, Detach, Reserve}
 use Rattle.deadpool_replay.specs.Pool.{Pool, opened}
 use Rattle.deadpool_replay.specs.Steps.{find_slot}
@@ -290,15 +290,15 @@ played step s = respond outside step s
 -- A poll is advances up to the first that is not answered More, with so many left. It has More for an answer only if these
 -- do not suffice.
 abbrev pub polled : ℕ → ℕ → Moment → ScriptPool → Script → Played
-polled zero n now p s = played (moved (move.Advance n now) p) s
+polled zero n now p s = played (one_step (move.Advance n now) p) s
 polled (suc left) n now p s =
-    let x = played (moved (move.Advance n now) p) s in
+    let x = played (one_step (move.Advance n now) p) s in
     if is_more x.0.0 then polled left n now x.0.1 x.1 else x
 
 -- a poll has two advances for each idle object, which a get takes and gives up, and a few more
 abbrev pub by_move : Move ℕ → ScriptPool → Script → Played
 by_move (move.Poll n now) p s = polled (4 + (length p.idle + length p.idle)) n now p s
-by_move m p s = played (moved m p) s
+by_move m p s = played (one_step m p) s
 
 abbrev pub done : Event → ScriptPool → Script → Played
 done (move_by m) p s = by_move m p s

@@ -1,5 +1,5 @@
 -- What a trial makes of a turn and of an object that comes back, and what is seen of a get.
-use Rattle.std.specs.Prelude.{ℕ, true, false, List, Ok, Err, ⊤, if◌then◌else◌}
+use Rattle.std.specs.Prelude.{ℕ, true, false, List, Option, Some, IsSome, Ok, Err, ⊤, if◌then◌else◌}
 use Rattle.deadpool_gate.specs.Numbers.{has_number}
 use Rattle.deadpool_parts.specs.Program.{Return, ask, ◌>>=◌}
 use Rattle.deadpool_managed.specs.Outside.{Asking, Detach}
@@ -9,10 +9,7 @@ use Rattle.deadpool_managed.specs.declared.get.Turn.{Turn}
 use Rattle.deadpool_managed.specs.declared.get.Turn.TheVariants.{More, Pending, Done}
 use Rattle.deadpool_parts.specs.declared.replies.HandleReply.{HandleReply}
 use Rattle.deadpool_parts.specs.declared.replies.HandleReply.TheVariants as handle
-use Rattle.deadpool_desk.specs.declared.desk.TakeReply.{TakeReply}
-use Rattle.deadpool_desk.specs.declared.desk.TakeReply.TheVariants as taking
-use Rattle.deadpool_desk.specs.declared.desk.BackReply.{BackReply}
-use Rattle.deadpool_desk.specs.declared.desk.BackReply.TheVariants as back
+use Rattle.deadpool_desk.specs.declared.step.Reply.{Reply as DeskReply}
 use Rattle.deadpool_managed.specs.declared.kind.StageKind.{StageKind}
 use Rattle.deadpool_managed.specs.declared.kind.StageKind.TheVariants as kind
 use Rattle.deadpool_replay.specs.declared.look.Look.{Look}
@@ -35,25 +32,26 @@ module _ {V E : Type 0} where
   reply_to (Done (Err cause)) = reply.Failed cause
 
 module _ {V : Type 0} where
-  -- the pool knew of the object
-  abbrev pub IsTaken : BackReply (Slot V) → Type 0
-  IsTaken (back.Unknown slot) = ⊥
-  IsTaken _ = ⊤
+  -- the pool knew of the object that came back, and one that is given up is in the hand
+  abbrev pub IsTaken : DeskReply → Option (Slot V) → Type 0
+  IsTaken DeskReply.Kept hand = ⊤
+  IsTaken DeskReply.Dropped hand = ⊤
+  IsTaken DeskReply.Detach hand = IsSome hand
+  IsTaken _ hand = ⊥
 
 module _ {V E C R S F A : Type 0} where
   -- one that is given up is detached
-  abbrev pub reply_to_back : BackReply (Slot V) → Asking V E C R S F A (Reply V E)
-  reply_to_back back.Kept = Return reply.Kept
-  reply_to_back (back.Dropped slot) = Return reply.Dropped
-  reply_to_back (back.Detach slot) = ask (Detach slot.value) >>= λ left. Return reply.Detached
-  reply_to_back (back.Unknown slot) = Return reply.NoSuch
+  abbrev pub reply_to_back : DeskReply → Option (Slot V) → Asking V E C R S F A (Reply V E)
+  reply_to_back DeskReply.Kept hand = Return reply.Kept
+  reply_to_back DeskReply.Dropped hand = Return reply.Dropped
+  reply_to_back DeskReply.Detach (Some slot) = ask (Detach slot.value) >>= λ left. Return reply.Detached
+  reply_to_back _ hand = Return reply.NoSuch
 
-module _ {V E C R S F A : Type 0} where
   -- an object that has left the pool is detached while the pool has a handle
-  abbrev pub reply_to_take : V → TakeReply → Asking V E C R S F A (Reply V E)
-  reply_to_take value (taking.Taken true) = ask (Detach value) >>= λ left. Return (reply.Taken left)
-  reply_to_take value (taking.Taken false) = Return (reply.Taken value)
-  reply_to_take value taking.Unknown = Return reply.NoSuch
+  abbrev pub reply_to_take : V → DeskReply → Asking V E C R S F A (Reply V E)
+  reply_to_take value (DeskReply.Taken true) = ask (Detach value) >>= λ left. Return (reply.Taken left)
+  reply_to_take value (DeskReply.Taken false) = Return (reply.Taken value)
+  reply_to_take value _ = Return reply.NoSuch
 
 -- a step that needs a handle is done, or there is none
 abbrev pub reply_to_handle : {V E : Type 0} → HandleReply → Reply V E

@@ -1,10 +1,10 @@
 //! A managed pool on one thread, with its parties and the objects that are out.
-ghost use Rattle.std.specs.Prelude.{◌≡◌, ◌↔◌, true, List, MatchResult, IfOk};
+ghost use Rattle.std.specs.Prelude.{◌≡◌, ◌↔◌, true, List, IfOk, IfErr};
 ghost use Rattle.std.specs.Option.{option_map};
 ghost use Rattle.futures.specs.Task.{Keeps};
 ghost use Rattle.deadpool_parts.specs.Runs.{last_of, all_states, Each, Neighbours};
 ghost use Rattle.deadpool_parts.specs.declared.errors.BuildError.{BuildError};
-ghost use Rattle.deadpool_shared.specs.Building.{lacks_any_runtime};
+ghost use Rattle.deadpool_builder.specs.Building.{lacks_any_runtime};
 ghost use Rattle.deadpool_managed.specs.Outside.{may};
 ghost use Rattle.deadpool_replay.specs.Pool.{Pool, opened};
 ghost use Rattle.deadpool_replay.specs.Steps.{find_slot};
@@ -17,11 +17,11 @@ mod parties;
 mod seen;
 
 use crate::{Move, Reply};
+use deadpool_builder::{OpenPool, PoolBuilder};
 use deadpool_managed::{
     AsyncHook, BuildError, Core, Environment, GetState, Manager, Slot, SyncHook, Timeouts,
 };
 use deadpool_parts::tables::append;
-use deadpool_shared::{OpenPool, PoolBuilder};
 use futures::task::Context;
 use std::alloc::Global;
 use std::marker::Model;
@@ -133,13 +133,21 @@ impl<M: Manager, F: SyncHook<M>, A: AsyncHook<M>, C: Drop> Trial<M, F, A, C> {
         moves: Vec<Move<M::Type>>,
         cx: &mut Context<'_>,
     ) -> Result<Vec<Reply<M::Type, M::Error>>, Vec<Move<M::Type>>>
-        ensures run { MatchResult result
-            (λ replies. (passed : List (List (Pool M.Type M.Creating M.Recycling A.State F A)))
+        ensures run { IfOk result (λ replies.
+            (passed : List (List (Pool M.Type M.Creating M.Recycling A.State F A)))
             × PoolRuns (may M.Manager F.SyncHook A.AsyncHook self.old.manager)
+            self.old.pool moves.items passed replies.items self.new.pool) }
+        ensures nobody_waits { IfOk result (λ replies.
+            (passed : List (List (Pool M.Type M.Creating M.Recycling A.State F A)))
+            → PoolRuns (may M.Manager F.SyncHook A.AsyncHook self.old.manager)
             self.old.pool moves.items passed replies.items self.new.pool
-            × Each NobodyWaits (all_states self.old.pool passed)
-            × Neighbours WithinReach (all_states self.old.pool passed))
-            (λ refused. (refused ≡ moves) × (self.new ≡ self.old)) }
+            → Each NobodyWaits (all_states self.old.pool passed)) }
+        ensures within_reach { IfOk result (λ replies.
+            (passed : List (List (Pool M.Type M.Creating M.Recycling A.State F A)))
+            → PoolRuns (may M.Manager F.SyncHook A.AsyncHook self.old.manager)
+            self.old.pool moves.items passed replies.items self.new.pool
+            → Neighbours WithinReach (all_states self.old.pool passed)) }
+        ensures refused { IfErr result (λ refused. (refused ≡ moves) × (self.new ≡ self.old)) }
         ensures manager { self.new.manager ≡ self.old.manager }
         ensures kept { Keeps cx.old cx.new }
     {

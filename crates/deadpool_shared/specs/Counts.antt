@@ -1,14 +1,12 @@
 -- The three counts of a pool, and what one holder has of them.
-use Rattle.std.specs.Prelude.{ℕ, ◌+◌, ◌-◌, ⊤, Option, Some, None}
+use Rattle.std.specs.Prelude.{ℕ, ◌+◌, ◌-◌, ◌≤◌, ⊤, Option, Some, None}
 use Rattle.deadpool_journal.specs.Journaling.{Journaling}
-use Rattle.deadpool_desk.specs.declared.desk.Holding.{Holding}
-use Rattle.deadpool_desk.specs.declared.desk.Holding.TheVariants as holding
-use Rattle.deadpool_desk.specs.declared.desk.AgainReply.{AgainReply}
-use Rattle.deadpool_desk.specs.declared.desk.AgainReply.TheVariants as again
-use Rattle.deadpool_desk.specs.declared.desk.BackReply.{BackReply}
-use Rattle.deadpool_desk.specs.declared.desk.BackReply.TheVariants as back
-use Rattle.deadpool_desk.specs.declared.desk.Held.{Held}
-use Rattle.deadpool_desk.specs.declared.desk.Held.TheVariants as held
+use Rattle.deadpool_desk.specs.declared.step.Holding.{Holding}
+use Rattle.deadpool_desk.specs.declared.step.Holding.TheVariants as holding
+use Rattle.deadpool_desk.specs.declared.step.Reply.{Reply}
+use Rattle.deadpool_desk.specs.declared.step.Reply.TheVariants.{Unknown}
+use Rattle.deadpool_desk.specs.declared.step.Step.{Step}
+use Rattle.deadpool_desk.specs.declared.step.Step.TheVariants.{Ask, Withdraw}
 
 -- places of gets that hold nothing else, of creations under way, and of objects that are not idle
 pub record Counts : Type 0 where
@@ -46,22 +44,13 @@ shifted old new c =
 abbrev pub counted : {T : Type 0} → Journaling T → Counts
 counted j = counts j.core.desk.going j.core.desk.creations j.core.desk.outside
 
-module _ {O : Type 0} where
-  -- the pool knew of the place
-  abbrev pub IsServed : AgainReply O → Type 0
-  IsServed (again.Served served) = ⊤
-  IsServed again.Unknown = ⊥
+-- The pool knew what the holder has. Only a ticket may be unknown: nobody's share says that it is in the queue.
+abbrev pub IsKnown : Step → Reply → Type 0
+IsKnown (Ask ticket expired) reply = ⊤
+IsKnown (Withdraw ticket) reply = ⊤
+IsKnown _ Unknown = ⊥
+IsKnown _ _ = ⊤
 
-  -- the pool knew of the object
-  abbrev pub IsTaken : BackReply O → Type 0
-  IsTaken back.Kept = ⊤
-  IsTaken (back.Detach given) = ⊤
-  IsTaken (back.Dropped given) = ⊤
-  IsTaken (back.Unknown given) = ⊥
-
--- what is given back is in a count
-abbrev pub HasShare : Held → Type 0
-HasShare (held.Ticket ticket) = ⊥
-HasShare held.Place = ⊤
-HasShare held.Creation = ⊤
-HasShare held.Object = ⊤
+-- what a holder has is in the counts of all
+abbrev pub AreIn : Counts → Counts → Type 0
+AreIn has all = (has.going ≤ all.going) × (has.creations ≤ all.creations) × (has.outside ≤ all.outside)

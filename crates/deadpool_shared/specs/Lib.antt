@@ -1,8 +1,7 @@
 -- The managed pool between threads and tasks. In the order in which it can be read.
 
--- What a user names to build a pool: the names of its three ledgers, and what is built.
+-- What a user names to build a pool: the names of its three ledgers.
 pub mod Names
-pub mod Building
 -- What each get and object holds of the pool's three counts.
 pub mod Counts
 -- What a get gives.
@@ -11,4 +10,4 @@ pub mod Gets
 pub mod Locked
 -- What contracts of this crate cite of those below.
 pub use Rattle.deadpool_managed.specs.HookLists
-pub use Rattle.deadpool_desk.specs.declared.desk.Holding
+pub use Rattle.deadpool_desk.specs.declared.step.Holding

@@ -5,8 +5,7 @@
 #![tactic(auto)]
 
 mod asking;
-mod builder;
-mod counted;
+mod build;
 mod get;
 mod ledgers;
 mod locked;
@@ -15,9 +14,10 @@ mod pool;
 mod seat;
 mod shared;
 mod shares;
+mod steps;
 
-pub use builder::{OpenPool, PoolBuilder};
-pub use deadpool_journal::{Entry, Journal, by_number};
+pub use build::Build;
+pub use deadpool_journal::{Entry, Journal};
 pub use get::{Get, GetRef};
 pub use ledgers::{Blanks, Ledgers};
 pub use object::Object;

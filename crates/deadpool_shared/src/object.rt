@@ -1,7 +1,7 @@
 //! An object that is out.
 ghost use Rattle.std.specs.Prelude.{◌≡◌, IfOk, IfSome};
 ghost use Rattle.deadpool_managed.specs.Answers.{LeavesOrKeeps};
-ghost use Rattle.deadpool_desk.specs.declared.desk.Holding.{Holding};
+ghost use Rattle.deadpool_desk.specs.declared.step.Holding.{Holding};
 ghost use Rattle.deadpool_shared.specs.Counts.{counts, counts_of};
 
 use crate::ledgers::Ledgers;
@@ -11,7 +11,7 @@ use crate::shared::Shared;
 use crate::shares::Shares;
 use deadpool_lock::{Home, Listener};
 use deadpool_managed::{
-    AsyncHook, BackReply, Clock, Manager, Metrics, ObjectId, Slot, SyncHook, TakeReply,
+    AsyncHook, Clock, Desk, Manager, Metrics, ObjectId, Reply, Slot, Step, SyncHook,
 };
 use std::alloc::AllocError;
 use std::ops::{Deref, DerefMut};
@@ -85,7 +85,8 @@ impl<M: Manager, F: SyncHook<M>, A: AsyncHook<M>, C: Clock, R: Wait + Drop, L: L
             mut value,
             metrics: _,
         } = slot;
-        if let TakeReply::Taken { detach: true } = seat.leave() {
+        let mut hand = None;
+        if let Reply::Taken { detach: true } = seat.make(&Step::Take, &mut hand) {
             home.shared().environment.manager.detach(&mut value);
         }
         value
@@ -121,8 +122,11 @@ impl<M: Manager, F: SyncHook<M>, A: AsyncHook<M>, C: Clock, R: Wait + Drop, L: L
         let OutStake { home, shares } = out;
         let mut listener = Listener::new();
         let mut seat = Seat::new(home.shared(), Some(shares), &mut listener);
-        if let BackReply::Detach(mut slot) = seat.return_slot(slot) {
-            home.shared().environment.manager.detach(&mut slot.value);
+        let mut hand = Some(slot);
+        if seat.make(&Step::Back, &mut hand) == Reply::Detach {
+            if let Some(mut slot) = hand {
+                home.shared().environment.manager.detach(&mut slot.value);
+            }
         }
     }
 }

@@ -2,13 +2,13 @@
 ghost use Rattle.std.specs.Prelude.{◌≡◌, ◌⊎◌, Some, None, IfOk, IfSome, IsSome};
 ghost use Rattle.deadpool_journal.specs.Copies.{HasSteps};
 ghost use Rattle.deadpool_managed.specs.declared.work.Phase.TheVariants.{Unpolled};
-ghost use Rattle.deadpool_shared.specs.Building.{newly};
+ghost use Rattle.deadpool_builder.specs.Building.{newly};
 
-use crate::builder::PoolBuilder;
 use crate::get::{Get, GetRef};
 use crate::ledgers::Ledgers;
 use crate::object::Object;
 use crate::shared::Shared;
+use deadpool_builder::PoolBuilder;
 use deadpool_journal::Journal;
 use deadpool_lock::{Handle, Home};
 use deadpool_managed::{

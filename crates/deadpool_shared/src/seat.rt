@@ -1,22 +1,12 @@
 //! The lock of a pool, with what one holder has.
-ghost use Rattle.std.specs.Prelude.{◌≡◌, ◌≢◌, ⊤};
-ghost use Rattle.deadpool_desk.specs.Allowance.{IsWithinAllowance};
-ghost use Rattle.deadpool_desk.specs.Held.{held_if_entered, held_if_asked, held_if_asked_again, held_if_created, held_if_discarded, held_as};
-ghost use Rattle.deadpool_desk.specs.declared.desk.Holding.{Holding};
-ghost use Rattle.deadpool_desk.specs.declared.desk.CreatedReply.{CreatedReply};
-ghost use Rattle.deadpool_desk.specs.declared.desk.TakeReply.{TakeReply};
-ghost use Rattle.deadpool_parts.specs.declared.replies.StepReply.{StepReply};
-ghost use Rattle.deadpool_shared.specs.Counts.{counts, counts_of, had, IsServed, IsTaken, HasShare};
+ghost use Rattle.std.specs.Prelude.{◌≡◌};
+ghost use Rattle.deadpool_shared.specs.Counts.{IsKnown, counts_of, had};
 
 use crate::ledgers::Ledgers;
 use crate::shared::Shared;
 use crate::shares::Shares;
 use deadpool_lock::Listener;
-use deadpool_managed::gate::Ticket;
-use deadpool_managed::{
-    AgainReply, AskReply, AsyncHook, BackReply, Clock, CreatedReply, Desk, EnterReply, Held,
-    Manager, Serving, Slot, StepReply, SyncHook, TakeReply,
-};
+use deadpool_managed::{AsyncHook, Clock, Desk, Manager, Reply, Slot, Step, SyncHook};
 use std::marker::Model;
 use std::sync::Wait;
 
@@ -55,173 +45,27 @@ impl<'a, M: Manager, F: SyncHook<M>, A: AsyncHook<M>, C: Clock, R: Wait + Drop, 
 > for Seat<'a, M, F, A, C, R, L> {
     ghost holds = { λ seat holding. seat ≡ counts_of holding };
 
-    ghost enters = { λ _ _ _ _. ⊤ };
+    ghost makes = { λ _ step _ reply _ _. IsKnown step reply };
 
-    ghost asks = { λ _ _ _ _ _. ⊤ };
-
-    ghost asks_again = { λ _ _ reply _. IsServed reply };
-
-    ghost discards = { λ _ reply _. reply ≡ StepReply.Done };
-
-    ghost creates = { λ _ reply _. reply ≢ CreatedReply.Unknown };
-
-    ghost fails = { λ _ reply _. reply ≡ StepReply.Done };
-
-    ghost refuses = { λ _ reply _. reply ≡ StepReply.Done };
-
-    ghost takes_back = { λ _ _ reply _. IsTaken reply };
-
-    ghost cancels = { λ _ held reply _. HasShare held → reply ≡ StepReply.Done };
-
-    ghost takes = { λ _ reply _. reply ≢ TakeReply.Unknown };
-
-    fn enter_in(&mut self, wait: bool, place: &mut Option<Slot<M::Type>>) -> EnterReply<()> {
-        let mut step = self.shared.lock.begin();
+    #[inline(always)]
+    fn make(&mut self, step: &Step, hand: &mut Option<Slot<M::Type>>) -> Reply {
+        let mut section = self.shared.lock.begin();
         if self.shares.is_none() {
-            self.shares = step.kept().hand_out();
+            self.shares = section.kept().hand_out();
         }
-        let reply = match &mut self.shares {
-            Some(shares) => {
-                step.kept()
-                    .enter_in(shares, self.listener.waker(), wait, place)
-            }
-            None => EnterReply::Served(Serving::Exhausted),
+        let (reply, spare) = match &mut self.shares {
+            Some(shares) => section
+                .kept()
+                .make(shares, step, hand, self.listener.waker()),
+            // (it holds nothing)
+            None => match step {
+                Step::Enter { .. } => (Reply::Exhausted, None),
+                Step::Ask { .. } | Step::Withdraw { .. } => (Reply::Unknown, None),
+                _ => unreachable!(),
+            },
         };
-        self.shared.lock.end(step);
-        reply
-    }
-
-    // `enter`, `ask` and `again` as the trait has them: at a type with a lifetime the borrow check covers them only if
-    // they are written here.
-    fn enter(&mut self, wait: bool) -> EnterReply<Slot<M::Type>> {
-        let mut place = None;
-        let rest = self.enter_in(wait, &mut place);
-        rest.with(place)
-    }
-
-    fn ask_in(
-        &mut self,
-        ticket: Ticket,
-        expired: bool,
-        place: &mut Option<Slot<M::Type>>,
-    ) -> AskReply<()> {
-        let Some(shares) = &mut self.shares else {
-            return AskReply::Unknown;
-        };
-        let mut spare = None;
-        let mut step = self.shared.lock.begin();
-        let reply = step.kept().ask_in(
-            shares,
-            self.listener.waker(),
-            &mut spare,
-            ticket,
-            expired,
-            place,
-        );
-        self.shared.lock.end(step);
+        self.shared.lock.end(section);
         drop(spare);
-        reply
-    }
-
-    fn ask(&mut self, ticket: Ticket, expired: bool) -> AskReply<Slot<M::Type>> {
-        let mut place = None;
-        let rest = self.ask_in(ticket, expired, &mut place);
-        rest.with(place)
-    }
-
-    fn again_in(
-        &mut self,
-        allowance: Option<usize>,
-        place: &mut Option<Slot<M::Type>>,
-    ) -> AgainReply<()> {
-        let Some(shares) = &mut self.shares else {
-            unreachable!();
-        };
-        let mut step = self.shared.lock.begin();
-        let reply = step.kept().again_in(shares, allowance, place);
-        self.shared.lock.end(step);
-        reply
-    }
-
-    fn again(&mut self, allowance: Option<usize>) -> AgainReply<Slot<M::Type>> {
-        let mut place = None;
-        let rest = self.again_in(allowance, &mut place);
-        rest.with(place)
-    }
-
-    fn discard(&mut self) -> StepReply {
-        let Some(shares) = &mut self.shares else {
-            unreachable!();
-        };
-        let mut step = self.shared.lock.begin();
-        let reply = step.kept().discard(shares);
-        self.shared.lock.end(step);
-        reply
-    }
-
-    fn created(&mut self) -> CreatedReply {
-        let Some(shares) = &mut self.shares else {
-            unreachable!();
-        };
-        let mut step = self.shared.lock.begin();
-        let reply = step.kept().created(shares);
-        self.shared.lock.end(step);
-        reply
-    }
-
-    fn failed(&mut self) -> StepReply {
-        let Some(shares) = &mut self.shares else {
-            unreachable!();
-        };
-        let mut step = self.shared.lock.begin();
-        let reply = step.kept().failed(shares);
-        self.shared.lock.end(step);
-        reply
-    }
-
-    fn refused(&mut self) -> StepReply {
-        let Some(shares) = &mut self.shares else {
-            unreachable!();
-        };
-        let mut step = self.shared.lock.begin();
-        let reply = step.kept().refused(shares);
-        self.shared.lock.end(step);
-        reply
-    }
-
-    fn back(&mut self, slot: Slot<M::Type>) -> BackReply<Slot<M::Type>>
-        requires { self.old ≡ counts_of Holding.Object }
-        ensures taken_back { IsTaken result }
-        ensures holds { self.new ≡ counts_of Holding.Nothing }
-    {
-        let Some(shares) = &mut self.shares else {
-            unreachable!();
-        };
-        let mut step = self.shared.lock.begin();
-        let reply = step.kept().back(shares, slot);
-        self.shared.lock.end(step);
-        reply
-    }
-
-    fn cancel(&mut self, held: Held) -> StepReply {
-        let Some(shares) = &mut self.shares else {
-            return StepReply::Unknown;
-        };
-        let mut spare = None;
-        let mut step = self.shared.lock.begin();
-        let reply = step.kept().cancel(shares, &mut spare, held);
-        self.shared.lock.end(step);
-        drop(spare);
-        reply
-    }
-
-    fn take(&mut self) -> TakeReply {
-        let Some(shares) = &mut self.shares else {
-            unreachable!();
-        };
-        let mut step = self.shared.lock.begin();
-        let reply = step.kept().take(shares);
-        self.shared.lock.end(step);
         reply
     }
 }
@@ -260,24 +104,5 @@ impl<'a, M: Manager, F: SyncHook<M>, A: AsyncHook<M>, C: Clock, R: Wait + Drop, 
             listener: _,
         } = self;
         shares
-    }
-
-    /// Gives an object back. The pool knows it, and the seat has nothing afterwards.
-    pub fn return_slot(&mut self, slot: Slot<M::Type>) -> BackReply<Slot<M::Type>>
-        requires { self.old ≡ counts_of Holding.Object }
-        ensures holds { self.new ≡ counts_of Holding.Nothing }
-        ensures known { IsTaken result }
-    {
-        self.back(slot)
-    }
-
-    /// Gives up the place of an object that leaves the pool for good. The pool knows it, and the seat has nothing
-    /// afterwards.
-    pub fn leave(&mut self) -> TakeReply
-        requires { self.old ≡ counts_of Holding.Object }
-        ensures holds { self.new ≡ counts_of Holding.Nothing }
-        ensures known { result ≢ TakeReply.Unknown }
-    {
-        self.take()
     }
 }

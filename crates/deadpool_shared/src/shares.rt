@@ -1,7 +1,7 @@
 //! What is known of the three counts of a pool: three ledgers.
 ghost use Rattle.std.specs.Prelude.{◌≡◌, ◌≤◌, ◌<◌, ◌-◌, is_some, nat_lt, IfSome};
 ghost use Rattle.deadpool_shared.specs.Counts.{counts, counts_of, shifted};
-ghost use Rattle.deadpool_desk.specs.declared.desk.Holding.{Holding};
+ghost use Rattle.deadpool_desk.specs.declared.step.Holding.{Holding};
 
 use crate::ledgers::{Blanks, Creations, Going, Ledgers, Outside};
 use deadpool_managed::Holding;

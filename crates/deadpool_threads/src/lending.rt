@@ -1,13 +1,13 @@
 //! A pool that is built for one user.
 ghost use Rattle.std.specs.Prelude.{◌≡◌, ◌↔◌, true, Err, IfOk};
 ghost use Rattle.deadpool_parts.specs.declared.errors.BuildError.TheVariants.{NoRuntimeSpecified};
-ghost use Rattle.deadpool_shared.specs.Building.{lacks_any_runtime};
+ghost use Rattle.deadpool_builder.specs.Building.{lacks_any_runtime};
 
 use crate::user::PoolUser;
-use deadpool::Clock;
-use deadpool::managed::{
-    AsyncHook, Blanks, BuildError, Ledgers, Manager, Pool, PoolBuilder, SyncHook,
-};
+use deadpool_builder::PoolBuilder;
+use deadpool_managed::{AsyncHook, BuildError, Manager, SyncHook};
+use deadpool_parts::Clock;
+use deadpool_shared::{Blanks, Build, Ledgers, Pool};
 use std::marker::Brand;
 use std::sync::Wait;
 

@@ -1,12 +1,13 @@
 //! A manager of two calls.
 ghost use Rattle.std.specs.Prelude.{◌≡◌, ⊤, Result, IfOk};
-ghost use Rattle.deadpool.specs.Answers.{LeavesOrKeeps};
-ghost use Rattle.deadpool.specs.RecycleError.{RecycleError};
+ghost use Rattle.deadpool_managed.specs.Answers.{LeavesOrKeeps};
+ghost use Rattle.deadpool_parts.specs.declared.errors.RecycleError.{RecycleError};
 ghost use Rattle.deadpool_desk.specs.declared.metrics.Metrics.{Metrics};
 ghost use Rattle.deadpool_threads.specs.Answered.{IsReadyWith};
 
-use deadpool::NoTime;
-use deadpool::managed::{Manager, Metrics, NoHook, Pool, RecycleResult};
+use deadpool_managed::{Manager, Metrics, NoHook, RecycleResult};
+use deadpool_parts::NoTime;
+use deadpool_shared::Pool;
 use futures::task::{Context, Poll};
 
 /// A pool without hooks and timeouts.

@@ -1,14 +1,14 @@
 //! A pool that several threads use.
 ghost use Rattle.std.specs.Prelude.{◌≡◌, ◌↔◌, true, vec_len, All, Err, IfOk, IfErr};
 ghost use Rattle.deadpool_parts.specs.declared.errors.BuildError.TheVariants.{NoRuntimeSpecified, OutOfMemory};
-ghost use Rattle.deadpool_shared.specs.Building.{lacks_any_runtime};
+ghost use Rattle.deadpool_builder.specs.Building.{lacks_any_runtime};
 
 use crate::host::Host;
 use crate::user::PoolUser;
-use deadpool::Clock;
-use deadpool::managed::{
-    AsyncHook, Blanks, BuildError, Ledgers, Manager, Pool, PoolBuilder, SyncHook,
-};
+use deadpool_builder::PoolBuilder;
+use deadpool_managed::{AsyncHook, BuildError, Manager, SyncHook};
+use deadpool_parts::Clock;
+use deadpool_shared::{Blanks, Build, Ledgers, Pool};
 use std::marker::Brand;
 use std::thread;
 

@@ -1,7 +1,8 @@
 //! Who is lent a pool.
 
-use deadpool::Clock;
-use deadpool::managed::{AsyncHook, Ledgers, Manager, Pool, SyncHook};
+use deadpool_managed::{AsyncHook, Manager, SyncHook};
+use deadpool_parts::Clock;
+use deadpool_shared::{Ledgers, Pool};
 use std::sync::Wait;
 
 /// What is done with a pool that is lent, whatever ledgers it counts by.

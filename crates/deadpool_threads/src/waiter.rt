@@ -3,9 +3,11 @@ ghost use Rattle.std.specs.Prelude.{◌≡◌, IfOk};
 ghost use Rattle.deadpool_shared.specs.Gets.{GivesReady};
 
 use crate::waiting::Waiting;
-use deadpool::managed::{AsyncHook, Ledgers, Manager, Object, Pool, PoolError, SyncHook};
-use deadpool::{Clock, unmanaged};
 use deadpool_lock::Listener;
+use deadpool_managed::{AsyncHook, Manager, PoolError, SyncHook};
+use deadpool_parts::Clock;
+use deadpool_shared::{Ledgers, Object, Pool};
+use deadpool_unmanaged_shared as unmanaged;
 use futures::Future;
 use futures::task::{Doorbell, Queue, Solo};
 use std::alloc::AllocGlobal;
@@ -76,7 +78,7 @@ impl Waiter {
         &mut self,
         rt: &R,
         pool: &unmanaged::Pool<T, C, R>,
-    ) -> Result<unmanaged::Object<T, C, R>, unmanaged::PoolError>
+    ) -> Result<unmanaged::Object<T, C, R>, deadpool_unmanaged::PoolError>
         ensures home { IfOk result (λ object. object.home ≡ pool.now.inner) }
     {
         let mut waiting = self.begin();

@@ -2,9 +2,11 @@
 ghost use Rattle.std.specs.Prelude.{◌≡◌, IfOk};
 ghost use Rattle.deadpool_shared.specs.Gets.{GivesReady};
 
-use deadpool::managed::{AsyncHook, Ledgers, Manager, Object, Pool, PoolError, SyncHook};
-use deadpool::{Clock, unmanaged};
 use deadpool_lock::Listener;
+use deadpool_managed::{AsyncHook, Manager, PoolError, SyncHook};
+use deadpool_parts::Clock;
+use deadpool_shared::{Ledgers, Object, Pool};
+use deadpool_unmanaged_shared as unmanaged;
 use futures::Future;
 use futures::executor::block_on_queue;
 use futures::task::{Context, Poll, Queue};
@@ -79,7 +81,7 @@ impl<'a> Waiting<'a> {
         &mut self,
         rt: &R,
         pool: &unmanaged::Pool<T, C, R>,
-    ) -> Result<unmanaged::Object<T, C, R>, unmanaged::PoolError>
+    ) -> Result<unmanaged::Object<T, C, R>, deadpool_unmanaged::PoolError>
         ensures home { IfOk result (λ object. object.home ≡ pool.now.inner) }
     {
         let mut get = pool.get_ref();
@@ -90,7 +92,7 @@ impl<'a> Waiting<'a> {
         }
         match block_on_queue(rt, self.queue, get) {
             Ok(ended) => ended,
-            Err(_) => Err(unmanaged::PoolError::OutOfMemory),
+            Err(_) => Err(deadpool_unmanaged::PoolError::OutOfMemory),
         }
     }
 }

@@ -2,3 +2,5 @@
 
 -- What a timer's alarms are, and when they ring.
 pub mod Ringing
+-- What a timer's thread does.
+pub mod Rounds

@@ -1,7 +1,6 @@
 -- The alarms of a timer: those that are set, by their places, the earliest first.
 use Rattle.std.specs.Prelude.{◌≡◌, ℕ, ◌<◌, ◌≤◌, Bool, true, false, List, [], ◌∷◌, Option, Some, None}
 use Rattle.std.specs.Ordering.{nat_cmp, ordering_then}
-use Rattle.std.specs.BTreeMap.{BTreeMap}
 use Rattle.std.specs.declared.cmp.Ordering.{Ordering}
 use Rattle.deadpool_timer.specs.declared.alarms.Next.{Next}
 use Rattle.deadpool_timer.specs.declared.alarms.Next.TheVariants as next

@@ -5,6 +5,8 @@
 #![tactic(auto)]
 
 mod alarms;
+mod lock;
+mod nap;
 mod timer;
 
 pub use alarms::{Alarms, Next, Place};

@@ -1,21 +1,20 @@
 //! A clock of real time, and the thread that wakes by it.
 ghost use Rattle.futures.specs.Task.{Keeps};
 
-use crate::alarms::{Alarms, Next, Place};
+use crate::alarms::Place;
+use crate::lock::{AlarmLock, Round};
 use deadpool_parts::{Clock, Moment};
 use futures::task::{Context, Poll, Source, Waker};
 use std::alloc::{AllocError, Global};
-use std::sync::{Arc, Condvar, Mutex, Wait};
+use std::sync::{Arc, Wait};
 use std::thread;
 use std::thread::{JoinHandle, Threads};
-use std::time::{Clock as SystemClock, Duration};
+use std::time::Clock as SystemClock;
 
 // What the thread of a timer shares with its clocks and their alarms.
 #[derive(Drop)]
 struct Shared<R: Wait + SystemClock + Drop> {
-    alarms: Mutex<Alarms>,
-    // Rings when the first alarm is another one, or the timer is stopped.
-    changed: Condvar,
+    lock: AlarmLock,
     source: Source,
     rt: R,
 }
@@ -29,57 +28,16 @@ impl<R: Wait + SystemClock + Drop> Shared<R> {
         }
     }
 
-    // Wakes those that are due, one at a time and none of them under the lock, until the timer is stopped.
+    // Wakes those that are due, one at a time, until the timer is stopped.
     fn keep_time(&self) {
         for _ in self.rt.forever() {
-            let now = self.now();
-            let mut alarms = self.alarms.lock(&self.rt);
-            match alarms.next(now) {
-                Next::Wake(waker) => {
-                    drop(alarms);
-                    waker.wake();
-                }
-                Next::Until(at) => {
-                    let (alarms, _) = self.changed.wait_timeout(&self.rt, alarms, from(now, at));
-                    drop(alarms);
-                }
-                Next::Wait => drop(self.changed.wait(&self.rt, alarms)),
-                Next::End => return,
+            match self.lock.round(&self.rt, self.now()) {
+                Round::Due(waker) => waker.wake(),
+                Round::Slept(_) => {}
+                Round::Over => return,
             }
         }
     }
-
-    // The waker of an alarm that has not rung.
-    fn take_back(&self, place: Place) -> Option<Waker> {
-        self.alarms.lock(&self.rt).take_back(place)
-    }
-
-    // The place of a new alarm, if it was set. A waker that finds no memory wakes its task at once.
-    fn set(&self, at: Moment, waker: Waker) -> Option<Place> {
-        let mut alarms = self.alarms.lock(&self.rt);
-        let set = alarms.set(at, waker);
-        let is_first = alarms.first() == Some(at);
-        drop(alarms);
-        if is_first {
-            self.changed.notify_one();
-        }
-        set.ok()
-    }
-
-    fn is_stopped(&self) -> bool {
-        self.alarms.lock(&self.rt).is_stopped()
-    }
-
-    fn stop(&self) {
-        self.alarms.lock(&self.rt).stop();
-        self.changed.notify_all();
-    }
-}
-
-// How long it is from one moment to another, at most some five hundred years.
-fn from(now: Moment, at: Moment) -> Duration {
-    let nanos = at.0.saturating_sub(now.0);
-    Duration::from_nanos(u64::try_from(nanos).unwrap_or(u64::MAX))
 }
 
 /// A thread that wakes tasks at their deadlines. Dropping the timer ends the thread and waits for it; all alarms ring then.
@@ -97,8 +55,7 @@ impl<R: Wait + Threads + SystemClock + Drop + Send + Sync + 'static> Timer<R> {
         let shared = Arc::new(
             alloc,
             Shared {
-                alarms: Mutex::new(Alarms::new(alloc)),
-                changed: Condvar::new(),
+                lock: AlarmLock::new(alloc),
                 source: Source::new(),
                 rt,
             },
@@ -119,14 +76,14 @@ impl<R: Wait + Threads + SystemClock + Drop> Timer<R> {
 
     /// How many alarms are set: at most one for each get that waits.
     pub fn alarms(&self) -> usize {
-        self.shared.alarms.lock(&self.shared.rt).count()
+        self.shared.lock.count(&self.shared.rt)
     }
 }
 
 impl<R: Wait + Threads + SystemClock + Drop> Drop for Timer<R> {
     fn drop(self) {
         let Self { shared, thread } = self;
-        shared.stop();
+        shared.lock.stop(&shared.rt);
         thread.join(&shared.rt);
     }
 }
@@ -150,7 +107,7 @@ impl<R: Wait + SystemClock + Drop> TimerAlarm<R> {
     // Its waker, if it has not rung.
     fn take_back(self) -> Option<Waker> {
         let Self { shared, place } = self;
-        shared.take_back(place)
+        shared.lock.take_back(&shared.rt, place)
     }
 }
 
@@ -166,8 +123,10 @@ impl<R: Wait + SystemClock + Drop> TimerClock<R> {
         let Ok(shared) = Arc::try_clone(&self.shared) else {
             return None;
         };
-        let place = shared.set(at, waker)?;
-        Some(TimerAlarm { shared, place })
+        match shared.lock.set(&shared.rt, at, waker) {
+            Ok(place) => Some(TimerAlarm { shared, place }),
+            Err(_) => None,
+        }
     }
 }
 
@@ -184,7 +143,7 @@ impl<R: Wait + SystemClock + Drop> Clock for TimerClock<R> {
             Some(old) => old.take_back(),
             None => None,
         };
-        if self.shared.is_stopped() {
+        if self.shared.lock.is_stopped(&self.shared.rt) {
             return;
         }
         let _pending: Poll<()> = cx.register(&self.shared.source, &mut slot);

@@ -1,17 +1,7 @@
-//! How an unmanaged pool is configured, and configurations in JSON.
-//!
-//! A configuration is an object with `max_size` and, if wanted, `timeout`: null, or a duration as the managed pool's
-//! timeouts are. Keys of other names are ignored.
-ghost use Rattle.std.specs.Prelude.{◌≡◌, ◌*◌, min, None, IfOk, IsOkUnless};
-ghost use Rattle.serde_json.specs.View.{view};
-ghost use Rattle.deadpool_parts.specs.Result.{result_map};
-ghost use Rattle.deadpool_unmanaged.specs.Config.{ReadsWritten, settings_of, read_config, written_config};
+//! How an unmanaged pool is configured.
+ghost use Rattle.std.specs.Prelude.{◌≡◌, ◌*◌, min, None};
 
 use crate::Runtime;
-use deadpool_parts::config::{max_size_of, timeout_at, written_timeout};
-use deadpool_parts::errors::ConfigError;
-use serde_json::{Value, json};
-use std::alloc::{AllocError, Global};
 use std::time::Duration;
 
 /// How an unmanaged pool is configured.
@@ -47,41 +37,4 @@ impl PoolConfig {
     {
         PoolConfig::new(count.saturating_mul(2))
     }
-
-    /// The configuration that a value is, or the first fault in it: in `max_size`, then in `timeout`. There is no runtime in
-    /// it.
-    pub fn from_json(value: &Value) -> Result<Self, ConfigError>
-        ensures read { result_map settings_of result ≡ read_config (view value.now) }
-        ensures runtime { IfOk result (λ config. config.runtime ≡ None) }
-    {
-        let max_size = max_size_of(value)?;
-        let timeout = timeout_at(value, "timeout")?;
-        Ok(PoolConfig {
-            max_size,
-            timeout,
-            runtime: None,
-        })
-    }
-
-    /// The size and the timeout, null for one that is not set.
-    #[tactic(auto, using(crate::proofs::ConfigReadsBack::reads_written))]
-    pub fn to_json(&self, alloc: Global) -> Result<Value, ConfigError>
-        ensures written { IfOk result (λ v. view v ≡ written_config (settings_of self.now)) }
-        ensures reads_back { IfOk result (λ v. read_config (view v) ≡ Ok (settings_of self.now)) }
-        ensures memory { IsOkUnless result ConfigError.OutOfMemory }
-
-        // Reading undoes writing, whatever was written.
-        ensures law { ReadsWritten }
-    {
-        Ok(written_config(alloc, *self)?)
-    }
-}
-
-fn written_config(alloc: Global, config: PoolConfig) -> Result<Value, AllocError>
-    ensures written { IfOk result (λ v. view v ≡ written_config (settings_of config)) }
-    ensures reads_back { IfOk result (λ v. read_config (view v) ≡ Ok (settings_of config)) }
-{
-    let timeout = written_timeout(alloc, config.timeout)?;
-    let max_size = config.max_size;
-    json!(in alloc; {"max_size": max_size, "timeout": timeout})
 }

@@ -4,6 +4,7 @@
 
 mod add;
 mod config;
+mod config_json;
 mod counts;
 mod error;
 mod get;

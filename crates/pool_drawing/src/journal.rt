@@ -2,8 +2,7 @@
 mod step;
 
 use crate::{Column, Kind, Line, Picture, Stop, write_picture};
-use deadpool::managed::QueueMode;
-use deadpool::managed::desk::Core;
+use deadpool_managed::{Core, QueueMode};
 use pool_scripts::{Fault, LineError, read_line, without_line_feed};
 use pool_shapes::show_core_levels;
 use std::alloc::Global;

@@ -1,7 +1,8 @@
 //! Where each object of a trial is.
 use crate::{MOST_OBJECTS, Stop};
-use deadpool::managed::{AsyncHook, Manager, SyncHook};
-use deadpool::replay::{Trial, unmanaged};
+use deadpool_managed::{AsyncHook, Manager, SyncHook};
+use deadpool_replay::Trial;
+use deadpool_unmanaged_replay as unmanaged;
 use pool_lanes::{Place, Shape, Stage};
 
 /// Puts where each object is in place of what was there: that of the first number first. An object of which nothing is seen any

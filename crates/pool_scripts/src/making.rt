@@ -2,8 +2,9 @@
 use crate::opening::UnmanagedTrial;
 use crate::script::LineError;
 use crate::texts::{end_line, write_managed, write_unmanaged};
-use deadpool::managed::{AsyncHook, Manager, SyncHook};
-use deadpool::replay::{Move, Reply, Trial, unmanaged};
+use deadpool_managed::{AsyncHook, Manager, SyncHook};
+use deadpool_replay::{Move, Reply, Trial};
+use deadpool_unmanaged_replay as unmanaged;
 use futures::task::Context;
 use std::alloc::AllocError;
 use std::fmt;

@@ -1,6 +1,6 @@
 //! The manager and the hooks of a script's pool, which answer as the script says.
 use crate::calls::{Calls, count};
-use deadpool::managed::{
+use deadpool_managed::{
     AsyncHook, HookError, HookResult, Manager, Metrics, RecycleError, RecycleResult,
 };
 use futures::task::{Context, Poll};

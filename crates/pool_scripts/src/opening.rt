@@ -1,8 +1,10 @@
 //! Makes a script's pool.
 use crate::manager::{Answers, Kind, ScriptHook, ScriptManager};
 use crate::script::{ManagedPool, PoolLine, Settings, UnmanagedPool};
-use deadpool::managed::{BuildError, ConfigError, Hook, NoHook, PoolBuilder, PoolConfig};
-use deadpool::replay::{Trial, unmanaged};
+use deadpool_builder::PoolBuilder;
+use deadpool_managed::{BuildError, ConfigError, Hook, NoHook, PoolConfig};
+use deadpool_replay::Trial;
+use deadpool_unmanaged_replay as unmanaged;
 use std::alloc::{AllocError, Global};
 use std::fmt;
 

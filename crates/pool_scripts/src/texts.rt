@@ -1,7 +1,8 @@
 //! The replies to the lines of a script.
-use deadpool::Status;
-use deadpool::managed::RetainResult;
-use deadpool::replay::{Reply, unmanaged};
+use deadpool_managed::RetainResult;
+use deadpool_parts::Status;
+use deadpool_replay::Reply;
+use deadpool_unmanaged_replay as unmanaged;
 use std::alloc::AllocError;
 use std::fmt;
 

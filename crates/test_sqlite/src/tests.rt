@@ -3,6 +3,7 @@ mod broken;
 mod files;
 mod held;
 mod left_open;
+mod notes;
 mod recycling;
 mod schemas;
 mod scripts;

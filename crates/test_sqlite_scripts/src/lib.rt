@@ -10,5 +10,6 @@ mod run;
 mod sources;
 
 pub use fault::Fault;
+pub use folder::make_folder;
 pub use places::{Disk, File, Memory, in_memory, on_disk, on_file};
 pub use play::{Host, Opened};

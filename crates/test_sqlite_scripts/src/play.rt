@@ -5,7 +5,7 @@ ghost use Rattle.std.specs.Prelude.{◌≡◌};
 use crate::fault::Fault;
 use crate::run::{Run, make_moves};
 use deadpool::NoTime;
-use deadpool::managed::{Blanks, Ledgers, Manager, NoHook, Pool, PoolBuilder};
+use deadpool::managed::{Blanks, Build, Ledgers, Manager, NoHook, Pool, PoolBuilder};
 use deadpool_sqlite::{RecyclingMethod, Source, SqliteManager, SqlitePool};
 use std::alloc::AllocError;
 use std::env::Env;

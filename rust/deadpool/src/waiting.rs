@@ -1,9 +1,8 @@
 //! Those that wait: their wakers by ticket, and how one asks, waits and leaves.
-#![forbid(unsafe_code)]
-
+use crate::cores::gate::gate::Ticket;
+use crate::desk::Desk;
 use crate::errors::OutOfMemory;
 use crate::shared::{Shared, State};
-use crate::sys::{Desk, OUT_OF_MEMORY, Reply, WAITING};
 use crate::timed::Alarm;
 use std::future::poll_fn;
 use std::task::{Poll, Waker};
@@ -14,57 +13,65 @@ pub(crate) struct Wakers(Vec<Option<Waker>>);
 
 impl Wakers {
     /// Keeps a waker, and gives back the one that it replaces.
-    fn keep(&mut self, ticket: usize, waker: &Waker) -> Result<Option<Waker>, OutOfMemory> {
-        let more = (ticket + 1).saturating_sub(self.0.len());
+    fn keep(&mut self, ticket: Ticket, waker: &Waker) -> Result<Option<Waker>, OutOfMemory> {
+        let more = (ticket.number() + 1).saturating_sub(self.0.len());
         self.0.try_reserve(more).map_err(|_| OutOfMemory)?;
         self.0.extend(std::iter::repeat_n(None, more));
-        match &mut self.0[ticket] {
+        match &mut self.0[ticket.number()] {
             Some(kept) if kept.will_wake(waker) => Ok(None),
             place => Ok(place.replace(waker.clone())),
         }
     }
 
-    pub(crate) fn take(&mut self, ticket: usize) -> Option<Waker> {
-        self.0.get_mut(ticket)?.take()
+    pub(crate) fn take(&mut self, ticket: Ticket) -> Option<Waker> {
+        self.0.get_mut(ticket.number())?.take()
     }
 }
 
-/// One that may have to wait in a queue of its pool. If it is dropped it leaves the queue.
-pub(crate) struct Waiting<'a, C, D: Desk, V> {
-    pub(crate) pool: &'a Shared<C, D, V>,
-    /// The wakers of those that wait in the queue, and the step by which one of them leaves it.
-    pub(crate) wakers: fn(&mut State<D, V>) -> &mut Wakers,
-    pub(crate) cancel: fn(&mut D, usize) -> Reply,
-    /// Its ticket, while it waits.
-    pub(crate) ticket: Option<usize>,
+/// What one is answered that asks.
+pub(crate) enum Turn<R> {
+    Waits(Ticket),
+    Ended(R),
 }
 
-impl<C, D: Desk, V> Waiting<'_, C, D, V> {
-    /// Makes a step at each poll until the reply is not to wait. By the first one it enters; by another one it asks with its
-    /// ticket, and says whether its time is over.
+/// The ticket of one that asks again, and whether its time is over. One that enters has none.
+pub(crate) type Asked = Option<(Ticket, bool)>;
+
+/// One that may have to wait in a queue of its pool. If it is dropped it leaves the queue.
+pub(crate) struct Waiting<'a, C, D: Desk> {
+    pub(crate) pool: &'a Shared<C, D>,
+    /// The wakers of those that wait in the queue, and the step by which one of them leaves it.
+    pub(crate) wakers: fn(&mut State<D>) -> &mut Wakers,
+    pub(crate) cancel: fn(&mut D, Ticket),
+    /// Its ticket, while it waits.
+    pub(crate) ticket: Option<Ticket>,
+}
+
+impl<C, D: Desk> Waiting<'_, C, D> {
+    /// Makes a step at each poll until the answer is not to wait. `refused` is the answer if no memory is found for its waker.
     pub(crate) fn ask<R>(
         mut self,
         mut alarm: Alarm,
-        mut step: impl FnMut(&mut State<D, V>, Option<(usize, bool)>) -> Reply,
-        mut ended: impl FnMut(&mut State<D, V>, Reply) -> R,
+        mut step: impl FnMut(&mut D, Asked) -> Turn<R>,
+        refused: fn() -> R,
     ) -> impl Future<Output = R> {
         poll_fn(move |cx| {
             // (the future holds all of it: what is dropped with the future leaves the queue)
             let Waiting { pool, wakers, ticket, .. } = &mut self;
             loop {
                 let asked = ticket.map(|ticket| (ticket, alarm.is_over(cx)));
-                let (polled, stale) = pool.step(|state| {
-                    let reply = step(state, asked);
-                    if reply.kind != WAITING {
-                        let stale = ticket.take().and_then(|ticket| wakers(state).take(ticket));
-                        return (Poll::Ready(ended(state, reply)), stale);
+                let (polled, stale) = pool.step(|state| match step(&mut state.desk, asked) {
+                    Turn::Waits(given) => {
+                        *ticket = Some(given);
+                        match wakers(state).keep(given, cx.waker()) {
+                            Ok(replaced) => (Poll::Pending, replaced),
+                            Err(OutOfMemory) => (Poll::Ready(refused()), None),
+                        }
                     }
-                    let ticket = *ticket.get_or_insert(reply.number);
-                    let Ok(replaced) = wakers(state).keep(ticket, cx.waker()) else {
-                        let reply = Reply { kind: OUT_OF_MEMORY, ..reply };
-                        return (Poll::Ready(ended(state, reply)), None);
-                    };
-                    (Poll::Pending, replaced)
+                    Turn::Ended(reply) => {
+                        let stale = ticket.take().and_then(|ticket| wakers(state).take(ticket));
+                        (Poll::Ready(reply), stale)
+                    }
                 });
                 drop(stale);
                 // (a timer wakes its task once it was polled; one that is over already ends the wait)
@@ -76,7 +83,7 @@ impl<C, D: Desk, V> Waiting<'_, C, D, V> {
     }
 }
 
-impl<C, D: Desk, V> Drop for Waiting<'_, C, D, V> {
+impl<C, D: Desk> Drop for Waiting<'_, C, D> {
     fn drop(&mut self) {
         if let Some(ticket) = self.ticket {
             // (the waker is dropped once the lock is given back)
@@ -85,22 +92,5 @@ impl<C, D: Desk, V> Drop for Waiting<'_, C, D, V> {
                 (self.wakers)(state).take(ticket)
             }));
         }
-    }
-}
-
-impl<C, D: Desk, V> Shared<C, D, V> {
-    /// Asks for an object, and waits for one if it may.
-    pub(crate) fn get<R>(
-        &self,
-        may_wait: bool,
-        alarm: Alarm,
-        ended: impl FnMut(&mut State<D, V>, Reply) -> R,
-    ) -> impl Future<Output = R> {
-        let get = Waiting { pool: self, wakers: |state| &mut state.gets, cancel: D::cancel_ticket, ticket: None };
-        let step = move |state: &mut State<D, V>, asked| match asked {
-            Some((ticket, is_late)) => state.desk.ask(ticket, is_late),
-            None => state.desk.enter(may_wait),
-        };
-        get.ask(alarm, step, ended)
     }
 }

@@ -262,7 +262,7 @@ fn a_manager_may_call_its_pool() {
     pool.manager().refused.store(*get(), Ordering::SeqCst);
     let (first, second) = (get(), get());
     assert_eq!(detached(), 1);
-    Object::take(first);
+    let _ = Object::take(first);
     assert_eq!(detached(), 2);
     pool.resize(0);
     drop(second);

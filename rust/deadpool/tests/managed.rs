@@ -122,6 +122,18 @@ fn a_retain_asks_a_closure_that_changes_about_each_object() {
 }
 
 #[test]
+fn a_retain_asks_once_about_each_object_whatever_the_answer_is() {
+    let pool = pool(4);
+    drop((0..4).map(|_| block_on(pool.get()).expect("an object")).collect::<Vec<_>>());
+    let mut seen = Vec::new();
+    let result = pool.retain(|value, _| {
+        seen.push(*value);
+        *value % 2 == 0
+    });
+    assert_eq!((seen, result.retained, result.removed), (vec![0, 1, 2, 3], 2, vec![1, 3]));
+}
+
+#[test]
 fn a_configuration_is_what_a_pool_goes_by() {
     let timeouts = Timeouts {
         wait: Some(Duration::from_secs(1)),
@@ -148,19 +160,26 @@ fn a_configuration_is_what_a_pool_goes_by() {
 
 #[test]
 fn handles_are_counted_and_the_last_one_takes_the_idle_objects() {
-    let pool = pool(2);
-    let weak = pool.weak();
-    let (held, other) = (block_on(pool.get()).expect("an object"), block_on(pool.get()).expect("an object"));
-    drop(other);
-    let second = pool.clone();
-    drop(pool);
-    assert!(Object::pool(&held).is_some());
-    let third = weak.upgrade().expect("a handle is left");
-    drop((second, third));
-    assert!(weak.upgrade().is_none());
-    assert!(Object::pool(&held).is_none());
-    assert_eq!(*held, 0);
-    drop(held);
+    // (with a journal each of them is counted by the desk)
+    for entries in [0, 99] {
+        let builder = Pool::builder(Numbers::default()).max_size(2).journal(entries);
+        let pool: Pool<Numbers> = builder.build().expect("a pool");
+        let weak = pool.weak();
+        let (held, other) = (block_on(pool.get()).expect("an object"), block_on(pool.get()).expect("an object"));
+        drop(other);
+        let second = pool.clone();
+        drop(pool);
+        assert!(Object::pool(&held).is_some());
+        assert_eq!((counts(second.status()), *block_on(second.get()).expect("it is idle")), ([2, 1, 0], 1));
+        let third = weak.upgrade().expect("a handle is left");
+        drop(second);
+        assert_eq!((counts(third.status()), *block_on(third.get()).expect("it is idle")), ([2, 1, 0], 1));
+        drop(third);
+        assert!(weak.upgrade().is_none());
+        assert!(Object::pool(&held).is_none());
+        assert_eq!(*held, 0);
+        drop(held);
+    }
 }
 
 /// An object as a user of a pool wraps it.

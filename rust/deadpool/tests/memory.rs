@@ -1,77 +1,15 @@
-//! Calls that find no memory. The test has an allocator of its own, by the names that the library and Rust call: it refuses on
-//! the thread, and from the allocation on, that it is told to.
+//! Calls that find no memory.
 mod common;
+#[path = "common/refusing.rs"]
+mod refusing;
 
 use common::{Numbers, Task, counts};
-use deadpool::managed::{BuildError, Hook, Manager, Metrics, Object, OutOfMemory, Pool, PoolError};
+use deadpool::managed::{BuildError, Object, OutOfMemory, Pool, PoolError};
 use deadpool::unmanaged;
-use std::cell::Cell;
-use std::ffi::c_void;
+use refusing::{at_each_allocation, left_in_use, refusing};
 use std::panic::{AssertUnwindSafe, catch_unwind};
 use std::pin::{Pin, pin};
 use std::task::{Context, Poll, Waker};
-
-thread_local! {
-    /// How many allocations are granted before one is refused, if one is to be.
-    static GRANTED: Cell<Option<usize>> = const { Cell::new(None) };
-}
-
-unsafe extern "C" {
-    fn __libc_malloc(size: usize) -> *mut c_void;
-    fn __libc_realloc(block: *mut c_void, size: usize) -> *mut c_void;
-}
-
-/// Whether this allocation is refused. All are granted after it.
-fn is_refused() -> bool {
-    GRANTED.with(|granted| match granted.get() {
-        None => false,
-        Some(0) => {
-            granted.set(None);
-            true
-        }
-        Some(left) => {
-            granted.set(Some(left - 1));
-            false
-        }
-    })
-}
-
-#[unsafe(no_mangle)]
-extern "C" fn malloc(size: usize) -> *mut c_void {
-    if is_refused() {
-        return std::ptr::null_mut();
-    }
-    unsafe { __libc_malloc(size) }
-}
-
-#[unsafe(no_mangle)]
-extern "C" fn realloc(block: *mut c_void, size: usize) -> *mut c_void {
-    if is_refused() {
-        return std::ptr::null_mut();
-    }
-    unsafe { __libc_realloc(block, size) }
-}
-
-/// Makes a call while the allocation after so many is refused, and says whether one was.
-fn refusing<R>(granted: usize, call: impl FnOnce() -> R) -> (R, bool) {
-    GRANTED.with(|it| it.set(Some(granted)));
-    let result = call();
-    let was_refused = GRANTED.with(|it| it.replace(None)).is_none();
-    (result, was_refused)
-}
-
-/// Makes a call on something new with each of its allocations refused in turn. Returns how many these were.
-fn at_each_allocation<S>(new: impl Fn() -> S, mut call: impl FnMut(&mut S, bool)) -> usize {
-    for granted in 0.. {
-        let mut subject = new();
-        let ((), was_refused) = refusing(granted, || call(&mut subject, true));
-        if !was_refused {
-            return granted;
-        }
-        call(&mut subject, false);
-    }
-    unreachable!()
-}
 
 fn poll_once<T>(future: Pin<&mut impl Future<Output = T>>) -> Poll<T> {
     future.poll(&mut Context::from_waker(Waker::noop()))
@@ -170,14 +108,10 @@ fn an_add_that_finds_no_memory_gives_its_value_back() {
 fn an_add_that_finds_no_memory_to_wait_is_not_in_the_queue() {
     let refused = at_each_allocation(
         || unmanaged::Pool::from([1]),
-        |pool, may_fail| {
-            // (what has left makes room, which no add in the queue takes first)
-            assert_eq!((pool.try_remove(), pool.try_add(1)), (Ok(1), Ok(())));
-            match poll_once(pin!(pool.add(2))) {
-                Poll::Pending => (),
-                Poll::Ready(Err((2, unmanaged::PoolError::OutOfMemory))) if may_fail => (),
-                other => panic!("there is no room: {other:?}"),
-            }
+        |pool, may_fail| match poll_once(pin!(pool.add(2))) {
+            Poll::Pending => (),
+            Poll::Ready(Err((2, unmanaged::PoolError::OutOfMemory))) if may_fail => (),
+            other => panic!("there is no room: {other:?}"),
         },
     );
     assert!(refused > 0);
@@ -212,72 +146,64 @@ fn calls_without_an_error_for_memory_panic_and_change_nothing() {
     assert!(panics(&|| _ = unmanaged::Pool::<u64>::new(usize::MAX)));
 }
 
-/// The object that a get makes or finds without memory.
-fn get_without_memory<M: Manager>(pool: &Pool<M>) -> Object<M> {
-    let (polled, was_refused) = refusing(0, || poll_once(pin!(pool.get())));
-    assert!(!was_refused, "the table of values grows");
-    match polled {
-        Poll::Ready(Ok(object)) => object,
-        _ => panic!("a place is free"),
-    }
+/// Uses a pool in all ways in which its objects come and go.
+fn use_managed(entries: usize) {
+    let builder = Pool::builder(Numbers::default()).max_size(2).journal(entries);
+    let pool: Pool<Numbers> = builder.build().expect("a pool");
+    let get = |pool: &Pool<Numbers>| common::block_on(pool.get()).expect("an object");
+    let (first, second) = (get(&pool), get(&pool));
+    let mut waits: Vec<_> = (0..5).map(|_| Task::new(pool.get())).collect();
+    waits.iter_mut().for_each(|task| assert!(task.poll().is_pending()));
+    drop(waits.remove(3));
+    drop(first);
+    drop(waits.remove(0).ready().expect("an object"));
+    drop(waits);
+    assert_eq!(Object::take(second), 1);
+    drop((get(&pool), get(&pool)));
+    pool.resize(1);
+    drop(pool.retain(|_, _| false));
+    let (handle, weak) = (pool.clone(), pool.weak());
+    let outlives = get(&handle);
+    drop((pool, handle));
+    assert!(weak.upgrade().is_none());
+    drop(outlives);
 }
 
-/// A way in which an object leaves its pool.
-type Leave = fn(&Pool<Numbers>, Object<Numbers>);
-
-#[test]
-fn what_has_left_leaves_room_in_the_table() {
-    let ways: [Leave; 5] = [
-        |_, object| _ = Object::take(object),
-        |pool, object| {
-            pool.resize(0);
-            drop(object);
-        },
-        |pool, object| {
-            drop(object);
-            pool.resize(0);
-        },
-        |pool, object| {
-            drop(object);
-            assert_eq!(pool.retain(|_, _| false).removed.len(), 1);
-        },
-        |pool, object| {
-            drop(object);
-            let get = pool.get();
-            // (it is dropped while its object is recycled)
-            assert!(poll_once(pin!(get)).is_pending());
-        },
-    ];
-    let slow = || {
-        Hook::async_fn(|_: &mut usize, _: &Metrics| {
-            Box::pin(async {
-                common::pause().await;
-                Ok(())
-            })
-        })
-    };
-    for leave in ways {
-        let pool = Pool::builder(Numbers::default()).max_size(1).post_recycle(slow()).build().expect("a pool");
-        leave(&pool, Task::new(pool.get()).ready().expect("an object"));
-        for _ in 0..100 {
-            pool.resize(1);
-            leave(&pool, get_without_memory(&pool));
-        }
-    }
+fn use_unmanaged() {
+    let pool = unmanaged::Pool::from([Box::new(1), Box::new(2)]);
+    let [first, second] = [pool.try_get(), pool.try_get()].map(|object| object.expect("an object"));
+    let mut waits: Vec<_> = (0..3).map(|_| Task::new(pool.get())).collect();
+    waits.iter_mut().for_each(|task| assert!(task.poll().is_pending()));
+    let mut add = Task::new(pool.add(Box::new(3)));
+    assert!(add.poll().is_pending());
+    drop(waits.remove(1));
+    drop(first);
+    drop(waits.remove(0).ready().expect("an object"));
+    drop((waits, add));
+    drop(unmanaged::Object::take(second));
+    assert!(pool.try_add(Box::new(4)).is_ok() && pool.try_add(Box::new(5)).is_err() && pool.try_remove().is_ok());
+    let outlives = pool.clone().try_get().expect("an object");
+    drop(pool);
+    drop(outlives);
 }
 
 #[test]
-fn what_has_left_an_unmanaged_pool_leaves_room_in_the_table() {
-    let pool = unmanaged::Pool::from([7]);
-    for _ in 0..100 {
-        let ((), was_refused) = refusing(0, || {
-            assert_eq!(pool.try_add(8), Err((8, unmanaged::PoolError::Timeout)));
-            assert_eq!(pool.try_remove(), Ok(7));
-            assert_eq!(pool.try_add(7), Ok(()));
-        });
-        assert!(!was_refused, "the table of values grows");
+fn all_memory_is_given_back() {
+    let uses: [fn(); 3] = [|| use_managed(0), || use_managed(9), use_unmanaged];
+    // (the first time a thread's own values are made, which stay)
+    uses.iter().for_each(|use_pool| use_pool());
+    assert_eq!(uses.map(left_in_use), [0, 0, 0]);
+}
+
+#[test]
+fn a_pool_of_objects_panics_if_one_finds_no_memory() {
+    let mut pool = None;
+    let of_pool = left_in_use(|| pool = Some(unmanaged::Pool::<u64>::new(2)));
+    drop(pool);
+    for at in 0..2 {
+        let (objects, granted) = (vec![1, 2], of_pool.unsigned_abs() + at);
+        let made = catch_unwind(AssertUnwindSafe(|| refusing(granted, || unmanaged::Pool::from(objects))));
+        assert!(made.is_err(), "an object is dropped, and nothing says so");
     }
-    let held = pool.try_get().expect("an object");
-    pool.close();
-    drop(held);
+    assert_eq!(unmanaged::Pool::from(vec![1, 2]).status().available, 2);
 }

@@ -80,6 +80,8 @@ fn values_have_their_fields_and_traits() {
     is_plain::<Metrics>();
     is_plain::<Status>();
     is_plain::<Runtime>();
+    fn is_equal<T: Eq>() {}
+    is_equal::<Runtime>();
     is_plain::<unmanaged::PoolConfig>();
     let _: fn(usize) -> PoolConfig = PoolConfig::new;
     let PoolConfig { max_size: _, timeouts, queue_mode: QueueMode::Fifo } = PoolConfig::default() else {
@@ -107,6 +109,11 @@ fn errors_have_their_kinds() {
     is_error::<HookError<Cause>>();
     is_error::<BuildError>();
     is_error::<CreatePoolError<Cause>>();
+    // (the error of a configuration need not live for good)
+    fn of_any_life<E: Error>(error: CreatePoolError<E>) -> impl Error {
+        error
+    }
+    let _ = of_any_life::<Cause>;
     is_error::<unmanaged::PoolError>();
     let cause = || Cause::other("broken");
     let of_pool = [
@@ -190,6 +197,7 @@ mod backend {
             if let Some(runtime) = runtime {
                 builder = builder.runtime(runtime);
             }
+            builder = builder.queue_mode(QueueMode::Lifo);
             builder.post_create(Hook::sync_fn(not_ten)).build().map_err(CreatePoolError::Build)
         }
     }
@@ -205,6 +213,10 @@ fn a_backend_names_its_types_by_one_line() {
     let error: backend::CreatePoolError = backend::Config { pool: timed }.create_pool(None).expect_err("no runtime");
     assert!(matches!(error, CreatePoolError::Build(BuildError::NoRuntimeSpecified)));
     let pool: backend::Pool = backend::Config { pool: timed }.create_pool(Some(Runtime::Tokio1)).expect("a pool");
+    fn upgraded(weak: &backend::WeakPool) -> Option<backend::Pool> {
+        weak.upgrade()
+    }
+    let _ = upgraded;
     let backend::Connection(object) = block_on(pool.get()).expect("a connection");
     assert_eq!(*object, 9);
     let refused: backend::PoolError = block_on(pool.get()).map(|_| ()).expect_err("ten is refused");

@@ -2,11 +2,12 @@
 mod common;
 
 use common::{Numbers, Task, block_on, counts, pause};
-use deadpool::managed::{Hook, Manager, Metrics, Object, Pool, PoolBuilder, RecycleError, RecycleResult};
+use deadpool::managed::{Hook, Manager, Metrics, Object, Pool, PoolBuilder, RecycleError, RecycleResult, WeakPool};
 use deadpool::unmanaged;
 use std::convert::Infallible;
 use std::panic::{AssertUnwindSafe, catch_unwind};
-use std::sync::atomic::{AtomicBool, Ordering};
+use std::sync::atomic::{AtomicBool, AtomicUsize, Ordering};
+use std::sync::{Arc, OnceLock};
 use std::task::{Context, RawWaker, RawWakerVTable, Waker};
 use std::thread;
 use std::time::Duration;
@@ -155,6 +156,65 @@ fn objects_that_a_resize_drops_may_panic() {
     assert_eq!(counts(pool.status()), [0, 0, 0]);
     pool.resize(1);
     assert!(block_on(pool.get()).is_ok());
+}
+
+/// Counts its drops, asks its pool how it stands in each, and panics in the one that it is told to.
+struct Mine {
+    pool: WeakPool<Miner>,
+    drops: Arc<AtomicUsize>,
+    panics_at: usize,
+}
+
+impl Drop for Mine {
+    fn drop(&mut self) {
+        let _ = self.pool.upgrade().map(|pool| pool.status());
+        assert!(self.drops.fetch_add(1, Ordering::SeqCst) != self.panics_at, "on purpose");
+    }
+}
+
+/// Makes mines, of which one panics when so many are gone.
+struct Miner(OnceLock<WeakPool<Miner>>, Arc<AtomicUsize>, usize);
+
+impl Manager for Miner {
+    type Type = Mine;
+    type Error = Infallible;
+
+    async fn create(&self) -> Result<Mine, Infallible> {
+        let pool = self.0.get().expect("a pool").clone();
+        Ok(Mine { pool, drops: self.1.clone(), panics_at: self.2 })
+    }
+
+    async fn recycle(&self, _: &mut Mine, _: &Metrics) -> RecycleResult<Infallible> {
+        Ok(())
+    }
+}
+
+/// A step that gives idle objects up, on a pool with three. It may take the pool.
+type GivesUp = fn(&mut Option<Pool<Miner>>);
+
+#[test]
+fn no_value_is_dropped_within_a_step() {
+    let steps: [GivesUp; 4] = [
+        |pool| pool.as_ref().expect("a pool").resize(0),
+        |pool| pool.as_ref().expect("a pool").close(),
+        |pool| drop(pool.as_ref().expect("a pool").retain(|_, _| false)),
+        |pool| drop(pool.take()),
+    ];
+    for (number, step) in steps.into_iter().enumerate() {
+        for panics_at in 0..3 {
+            let drops = Arc::new(AtomicUsize::new(0));
+            let miner = Miner(OnceLock::new(), drops.clone(), panics_at);
+            let pool: Pool<Miner> = Pool::builder(miner).max_size(3).build().expect("a pool");
+            let weak = pool.weak();
+            assert!(pool.manager().0.set(weak.clone()).is_ok());
+            drop((0..3).map(|_| block_on(pool.get()).expect("an object")).collect::<Vec<_>>());
+            let mut pool = Some(pool);
+            panics(|| step(&mut pool));
+            // The step was made as a whole, and all values are gone.
+            assert_eq!(drops.load(Ordering::SeqCst), 3, "step {number}, the value {panics_at} panics");
+            assert_eq!(weak.upgrade().map(|pool| counts(pool.status())), pool.map(|_| [0, 0, 0]));
+        }
+    }
 }
 
 /// Is pending once, and then panics or refuses as it is told to. It panics at each detach that it is told to.

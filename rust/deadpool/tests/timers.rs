@@ -1,7 +1,7 @@
 //! The thread that serves timeouts.
 mod common;
 
-use common::{Count, block_on, is_answered};
+use common::{Count, block_on, gone, is_answered};
 use deadpool::{Runtime, Sleep};
 use std::sync::mpsc::{Sender, channel};
 use std::sync::{Arc, Mutex};
@@ -29,7 +29,10 @@ fn a_short_sleep_ends_while_a_longer_one_goes_on() {
     let mut long = Runtime::Thread.sleep(HOUR);
     assert!(poll(&mut long, Waker::noop()).is_pending());
     std::thread::sleep(SOON);
-    assert!(is_answered(|| block_on(Runtime::Thread.sleep(SOON))));
+    // (each of them is the first alarm of all, and the thread has to hear of it)
+    for _ in 0..12 {
+        assert!(is_answered(|| block_on(Runtime::Thread.sleep(SOON))));
+    }
     assert!(poll(&mut long, Waker::noop()).is_pending());
 }
 
@@ -62,4 +65,13 @@ fn a_waker_may_begin_another_sleep() {
     let mut sleep = Runtime::Thread.sleep(SOON);
     assert!(poll(&mut sleep, &waker).is_pending());
     assert!(receiver.recv_timeout(Duration::from_secs(20)).is_ok(), "a waker is called under the timers' lock");
+}
+
+#[test]
+fn a_waker_that_panics_ends_no_other_sleep() {
+    let mut lost = Runtime::Thread.sleep(SOON);
+    assert!(poll(&mut lost, &gone()).is_pending());
+    std::thread::sleep(2 * SOON);
+    assert!(is_answered(|| block_on(Runtime::Thread.sleep(SOON))), "the thread of the timers has ended");
+    assert!(poll(&mut lost, Waker::noop()).is_ready());
 }

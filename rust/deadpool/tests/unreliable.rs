@@ -3,11 +3,12 @@ mod common;
 
 use common::{Door, Task, block_on, counts};
 use deadpool::Runtime;
-use deadpool::managed::{Manager, Metrics, Pool, PoolError, RecycleError, RecycleResult, TimeoutType};
+use deadpool::managed::{Manager, Metrics, Object, Pool, PoolError, RecycleError, RecycleResult, TimeoutType};
 use std::future::pending;
 use std::sync::Mutex;
 use std::sync::atomic::{AtomicUsize, Ordering};
 use std::task::Poll;
+use std::thread;
 use std::time::Duration;
 
 /// Refuses what it is told to refuse.
@@ -79,6 +80,25 @@ fn a_manager_sees_what_is_known_of_an_object() {
     let pool: Pool<Wearing> = Pool::builder(Wearing::default()).max_size(1).build().expect("a pool");
     let values: Vec<_> = (0..7).map(|_| *block_on(pool.get()).expect("an object")).collect();
     assert_eq!(values, [0, 0, 0, 1, 1, 1, 2]);
+}
+
+#[test]
+fn an_object_knows_when_it_was_made_and_when_it_was_last_handed_out() {
+    const PAUSE: Duration = Duration::from_millis(20);
+    let pool: Pool<Wearing> = Pool::builder(Wearing::default()).max_size(1).build().expect("a pool");
+    let get = || *Object::metrics(&block_on(pool.get()).expect("an object"));
+    let first = get();
+    assert!(first.recycled.is_none());
+    thread::sleep(PAUSE);
+    assert!(first.age() >= PAUSE && first.last_used() >= PAUSE);
+    let second = get();
+    assert_eq!((second.created, second.recycle_count), (first.created, 1));
+    assert!(second.recycled.expect("it was handed out again") >= first.created + PAUSE);
+    thread::sleep(PAUSE);
+    assert!(second.age() >= second.last_used() + PAUSE && second.last_used() >= PAUSE);
+    let third = get();
+    assert_eq!((third.created, third.recycle_count), (first.created, 2));
+    assert!(third.recycled >= second.recycled.map(|at| at + PAUSE));
 }
 
 /// Creates once its door is open: at first it refuses, and then it does not.

@@ -1,11 +1,13 @@
 //! Who is woken, and when.
 mod common;
 
-use common::{Count, Numbers, Task, block_on, pause};
+use common::{Count, Numbers, Task, block_on, counts, gone, pause};
 use deadpool::managed::{Hook, HookError, HookFuture, Metrics, Object, Pool, PoolBuilder, PoolError};
 use deadpool::unmanaged;
 use std::cell::RefCell;
 use std::convert::Infallible;
+use std::future::Future;
+use std::panic::{AssertUnwindSafe, catch_unwind};
 use std::task::{Context, Poll};
 
 #[test]
@@ -154,4 +156,39 @@ fn one_that_is_polled_again_is_woken_by_its_last_waker() {
     }
     drop(held);
     assert_eq!(wakers.map(|(_, woken)| woken.get()), [0, 1]);
+}
+
+/// All of a step's wakers are called, though the first one panics.
+fn all_are_woken<T>(gets: [impl Future<Output = T>; 3], step: impl FnOnce()) {
+    let mut gets = gets.map(Box::pin);
+    let (waker, woken) = Count::waker();
+    for (get, waker) in gets.iter_mut().zip([&gone(), &waker, &waker]) {
+        assert!(get.as_mut().poll(&mut Context::from_waker(waker)).is_pending());
+    }
+    assert!(catch_unwind(AssertUnwindSafe(step)).is_err(), "the panic goes on");
+    assert_eq!(woken.get(), 2);
+}
+
+#[test]
+fn a_waker_that_panics_keeps_no_other_from_being_called() {
+    let none = || Pool::<Numbers>::builder(Numbers::default()).max_size(0).build().expect("a pool");
+    let pool = none();
+    all_are_woken([pool.get(), pool.get(), pool.get()], || pool.resize(3));
+    assert!(block_on(pool.get()).is_ok());
+    let pool = none();
+    all_are_woken([pool.get(), pool.get(), pool.get()], || pool.close());
+    let pool = unmanaged::Pool::<u8>::new(1);
+    all_are_woken([pool.get(), pool.get(), pool.get()], || pool.close());
+}
+
+#[test]
+fn an_object_whose_return_wakes_one_that_panics_is_in_the_pool() {
+    let pool = one(Numbers::default()).build().expect("a pool");
+    let held = block_on(pool.get()).expect("an object");
+    let mut waits = Box::pin(pool.get());
+    assert!(waits.as_mut().poll(&mut Context::from_waker(&gone())).is_pending());
+    assert!(catch_unwind(AssertUnwindSafe(|| drop(held))).is_err());
+    drop(waits);
+    assert_eq!(counts(pool.status()), [1, 1, 0]);
+    assert_eq!(*block_on(pool.get()).expect("an object"), 0);
 }

@@ -72,31 +72,35 @@ fn literals_of(source: &str) -> Vec<String> {
         .collect()
 }
 
-/// A text once, or once for each kind of call on an idle object that its K stands for.
-fn kinds_of(text: String) -> Vec<String> {
-    if !text.contains("answer K ") {
-        return vec![text];
+/// A script once, or once for each of the texts that `$KIND` stands for in it.
+fn kinds_of(script: &str) -> Vec<String> {
+    match script.lines().find_map(|line| line.strip_prefix("@each KIND ")) {
+        None => vec![script.into()],
+        Some(texts) => texts.split('|').map(|text| script.replace("$KIND", text)).collect(),
     }
-    ["pre", "recycle", "post"].iter().map(|kind| text.replace("answer K ", &format!("answer {kind} "))).collect()
+}
+
+/// The texts of the library's tests that have scripts, each with its file.
+fn texts_of_tests() -> Vec<(PathBuf, String)> {
+    let crates = Path::new(env!("CARGO_MANIFEST_DIR")).join("../../crates");
+    let mut files = Vec::new();
+    below(&crates.join("test_scripts/src"), &mut files);
+    let mut texts = Vec::new();
+    for file in files {
+        let source = fs::read_to_string(&file).expect("a source");
+        texts.extend(literals_of(&source).into_iter().map(|text| (file.clone(), text)));
+    }
+    let told = crates.join("test_poolrun/texts/told.txt");
+    let source = fs::read_to_string(&told).expect("scripts");
+    texts.extend(source.split("\n\n").flat_map(kinds_of).map(|script| (told.clone(), script)));
+    texts
 }
 
 #[test]
 fn the_scripts_of_its_tests_have_their_replies() {
-    let crates = Path::new(env!("CARGO_MANIFEST_DIR")).join("../../crates");
-    let mut files = Vec::new();
-    for name in ["test_scripts", "test_poolrun"] {
-        below(&crates.join(name).join("src"), &mut files);
-    }
     let mut outcome = Outcome::default();
-    for file in files {
-        let source = fs::read_to_string(&file).expect("a source");
-        let texts = literals_of(&source).into_iter().flat_map(kinds_of);
-        for script in texts.flat_map(|text| scripts_of(&text)) {
-            // (the player of tests has lines of its own, which are no moves of the language)
-            let is_of_tests = |line: &str| ["calls", "woken", "list", "stop"].iter().any(|it| line.starts_with(it));
-            if script.iter().any(|(line, reply)| is_of_tests(line) || reply == "not a move") {
-                continue;
-            }
+    for (file, text) in texts_of_tests() {
+        for script in scripts_of(&text) {
             play(&file.display().to_string(), &script, &mut outcome);
         }
     }

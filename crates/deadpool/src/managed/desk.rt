@@ -2,8 +2,7 @@
 //! get as a state that its owner polls. Who uses a pool needs none of it.
 
 pub use deadpool_managed::{
-    AgainReply, AskReply, BackReply, Core, Counts, CreatedReply, Desk, EnterReply, Environment,
-    GetState, HandleReply, Held, Holding, Hooks, OwnerDesk, Position, Removal, Removals, Retainer,
-    Serving, Slot, StageKind, StepReply, TakeReply, Turn, laws,
+    Core, Counts, Desk, Environment, GetState, HandleReply, Held, Holding, Hooks, OwnerDesk,
+    Position, Removal, Removals, Reply, Retainer, Slot, StageKind, Step, Turn, laws,
 };
-pub use deadpool_shared::{Seat, by_number};
+pub use deadpool_shared::Seat;

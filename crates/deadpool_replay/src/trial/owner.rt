@@ -4,7 +4,7 @@ ghost use Rattle.deadpool_gate.specs.Numbers.{has_number};
 ghost use Rattle.deadpool_parts.specs.Program.{Gives};
 ghost use Rattle.deadpool_managed.specs.Answers.{LeavesOrKeeps};
 ghost use Rattle.deadpool_managed.specs.Outside.{may};
-ghost use Rattle.deadpool_replay.specs.Moves.{moved};
+ghost use Rattle.deadpool_replay.specs.Moves.{one_step};
 ghost use Rattle.deadpool_replay.specs.TrialFields.{reply_to_handle};
 ghost use Rattle.deadpool_replay.specs.declared.moves.Move.TheVariants as move;
 
@@ -16,7 +16,7 @@ impl<M: Manager, F: SyncHook<M>, A: AsyncHook<M>, C: Drop> Trial<M, F, A, C> {
     // What the pool says of itself.
     pub(super) fn status(&mut self) -> Reply<M::Type, M::Error>
         ensures made { Gives (may M.Manager F.SyncHook A.AsyncHook self.old.manager)
-            (moved move.Status self.old.pool) (result, self.new.pool) }
+            (one_step move.Status self.old.pool) (result, self.new.pool) }
         ensures manager { self.new.manager ≡ self.old.manager }
     {
         if !self.core.has_handle() {
@@ -28,7 +28,7 @@ impl<M: Manager, F: SyncHook<M>, A: AsyncHook<M>, C: Drop> Trial<M, F, A, C> {
     // Sets another limit.
     pub(super) fn resize(&mut self, limit: usize) -> Reply<M::Type, M::Error>
         ensures made { Gives (may M.Manager F.SyncHook A.AsyncHook self.old.manager)
-            (moved (move.Resize limit) self.old.pool) (result, self.new.pool) }
+            (one_step (move.Resize limit) self.old.pool) (result, self.new.pool) }
         ensures manager { self.new.manager ≡ self.old.manager }
     {
         if !self.core.has_handle() {
@@ -43,7 +43,7 @@ impl<M: Manager, F: SyncHook<M>, A: AsyncHook<M>, C: Drop> Trial<M, F, A, C> {
     // Keeps the idle objects with these numbers, and as many as are to stay.
     pub(super) fn retain(&mut self, kept: &Vec<usize>) -> Reply<M::Type, M::Error>
         ensures made { Gives (may M.Manager F.SyncHook A.AsyncHook self.old.manager)
-            (moved (move.Retain kept.now) self.old.pool) (result, self.new.pool) }
+            (one_step (move.Retain kept.now) self.old.pool) (result, self.new.pool) }
         ensures manager { self.new.manager ≡ self.old.manager }
     {
         if !self.core.has_handle() {
@@ -62,7 +62,7 @@ impl<M: Manager, F: SyncHook<M>, A: AsyncHook<M>, C: Drop> Trial<M, F, A, C> {
     // Closes the pool for good.
     pub(super) fn close(&mut self) -> Reply<M::Type, M::Error>
         ensures made { Gives (may M.Manager F.SyncHook A.AsyncHook self.old.manager)
-            (moved (move.Close) self.old.pool) (result, self.new.pool) }
+            (one_step (move.Close) self.old.pool) (result, self.new.pool) }
         ensures manager { self.new.manager ≡ self.old.manager }
     {
         if !self.core.has_handle() {
@@ -75,7 +75,7 @@ impl<M: Manager, F: SyncHook<M>, A: AsyncHook<M>, C: Drop> Trial<M, F, A, C> {
     // One handle more.
     pub(super) fn clone_handle(&mut self) -> Reply<M::Type, M::Error>
         ensures made { Gives (may M.Manager F.SyncHook A.AsyncHook self.old.manager)
-            (moved (move.Clone) self.old.pool) (result, self.new.pool) }
+            (one_step (move.Clone) self.old.pool) (result, self.new.pool) }
         ensures manager { self.new.manager ≡ self.old.manager }
     {
         let reply = self.core.clone_handle();
@@ -85,7 +85,7 @@ impl<M: Manager, F: SyncHook<M>, A: AsyncHook<M>, C: Drop> Trial<M, F, A, C> {
     // One handle fewer.
     pub(super) fn drop_handle(&mut self) -> Reply<M::Type, M::Error>
         ensures made { Gives (may M.Manager F.SyncHook A.AsyncHook self.old.manager)
-            (moved (move.DropHandle) self.old.pool) (result, self.new.pool) }
+            (one_step (move.DropHandle) self.old.pool) (result, self.new.pool) }
         ensures manager { self.new.manager ≡ self.old.manager }
     {
         let reply = self.core.drop_handle();
@@ -95,7 +95,7 @@ impl<M: Manager, F: SyncHook<M>, A: AsyncHook<M>, C: Drop> Trial<M, F, A, C> {
     // One handle more, if there is one.
     pub(super) fn upgrade(&mut self) -> Reply<M::Type, M::Error>
         ensures made { Gives (may M.Manager F.SyncHook A.AsyncHook self.old.manager)
-            (moved (move.Upgrade) self.old.pool) (result, self.new.pool) }
+            (one_step (move.Upgrade) self.old.pool) (result, self.new.pool) }
         ensures manager { self.new.manager ≡ self.old.manager }
     {
         Reply::Upgraded(self.core.upgrade())

@@ -5,7 +5,7 @@ ghost use Rattle.deadpool_parts.specs.Program.{Gives};
 ghost use Rattle.deadpool_parts.specs.Runs.{last_of};
 ghost use Rattle.deadpool_managed.specs.Outside.{may};
 ghost use Rattle.deadpool_replay.specs.Pool.{Pool};
-ghost use Rattle.deadpool_replay.specs.Moves.{moved, Polls};
+ghost use Rattle.deadpool_replay.specs.Moves.{one_step, Polls};
 ghost use Rattle.deadpool_replay.specs.TrialFields.{given, reply_to};
 ghost use Rattle.deadpool_replay.specs.declared.moves.Move.TheVariants as move;
 
@@ -20,7 +20,7 @@ impl<M: Manager, F: SyncHook<M>, A: AsyncHook<M>, C: Drop> Trial<M, F, A, C> {
     // Begins a get, if there is a handle, and room for one more party.
     pub(super) fn start(&mut self, timeouts: Option<Timeouts>) -> Reply<M::Type, M::Error>
         ensures made { Gives (may M.Manager F.SyncHook A.AsyncHook self.old.manager)
-            (moved (move.Start timeouts) self.old.pool) (result, self.new.pool) }
+            (one_step (move.Start timeouts) self.old.pool) (result, self.new.pool) }
         ensures manager { self.new.manager ≡ self.old.manager }
     {
         if !self.core.has_handle() {
@@ -43,7 +43,7 @@ impl<M: Manager, F: SyncHook<M>, A: AsyncHook<M>, C: Drop> Trial<M, F, A, C> {
         cx: &mut Context<'_>,
     ) -> Reply<M::Type, M::Error>
         ensures made { Gives (may M.Manager F.SyncHook A.AsyncHook self.old.manager)
-            (moved (move.Advance party now) self.old.pool) (result, self.new.pool) }
+            (one_step (move.Advance party now) self.old.pool) (result, self.new.pool) }
         ensures manager { self.new.manager ≡ self.old.manager }
         ensures kept { Keeps cx.old cx.new }
     {
@@ -87,7 +87,7 @@ impl<M: Manager, F: SyncHook<M>, A: AsyncHook<M>, C: Drop> Trial<M, F, A, C> {
     // Gives back what a party's get holds. No other party gets its number.
     pub(super) fn cancel(&mut self, party: usize) -> Reply<M::Type, M::Error>
         ensures made { Gives (may M.Manager F.SyncHook A.AsyncHook self.old.manager)
-            (moved (move.Cancel party) self.old.pool) (result, self.new.pool) }
+            (one_step (move.Cancel party) self.old.pool) (result, self.new.pool) }
         ensures manager { self.new.manager ≡ self.old.manager }
     {
         if party >= self.parties.len() {

@@ -1,8 +1,10 @@
 //! The step of a line, made again on a pool.
-use deadpool::Moment;
-use deadpool::gate::Ticket;
-use deadpool::managed::desk::{Core, Desk, EnterReply, Held, OwnerDesk, Retainer, Slot, by_number};
-use deadpool::managed::{Entry, Metrics};
+ghost use Rattle.deadpool_desk.specs.Replies.{Brings};
+
+use deadpool_gate::gate::Ticket;
+use deadpool_journal::Entry;
+use deadpool_managed::{Core, Desk, Held, Metrics, OwnerDesk, Reply, Retainer, Slot, Step};
+use deadpool_parts::Moment;
 use pool_scripts::{LineError, parse_number};
 use std::alloc::{AllocError, Global};
 use std::str;
@@ -49,7 +51,7 @@ pub fn make_again(
         "enter" => return enter(core, words),
         "ask" => ask(core, words)?,
         "again" => again(core, words)?,
-        "back" => back(core, next_number(words)?),
+        "back" => made(core, Step::Back, Some(slot_of(next_number(words)?))),
         "cancel" => cancel(core, words)?,
         "resize" => return resize(core, words),
         "retain" => return retain(alloc, core, words),
@@ -60,12 +62,12 @@ pub fn make_again(
 // The steps that a line names by one word.
 fn make_plain(core: &mut Core<()>, word: &str) -> Result<Entry, LineError> {
     Ok(match word {
-        "discard" => Entry::Discard(core.discard()),
-        "created" => Entry::Created(core.created()),
-        "failed" => Entry::Failed(core.failed()),
-        "refused" => Entry::Refused(core.refused()),
+        "discard" => made(core, Step::Discard, None),
+        "created" => made(core, Step::Created, None),
+        "failed" => made(core, Step::Failed, None),
+        "refused" => made(core, Step::Refused, None),
+        "take" => made(core, Step::Take, None),
         "status" => Entry::Status(core.status()),
-        "take" => Entry::Take(core.take()),
         "close" => {
             core.close();
             Entry::Close
@@ -77,51 +79,63 @@ fn make_plain(core: &mut Core<()>, word: &str) -> Result<Entry, LineError> {
     })
 }
 
+// A step with its reply, and the number of the object that it took or gave.
+fn made(core: &mut Core<()>, step: Step, brought: Option<Slot<()>>) -> Entry
+    requires { Brings step brought }
+{
+    let mut hand = brought;
+    let number = hand.as_ref().map(|slot| slot.number);
+    let reply = core.make(&step, &mut hand);
+    let number = number.or(hand.as_ref().map(|slot| slot.number));
+    Entry::Made(step, number, reply)
+}
+
 // Memory is wanting only to a get that joins the queue.
 fn enter(core: &mut Core<()>, words: &mut Words<'_>) -> Result<Entry, LineError> {
     let word = next_word(words)?;
     if word == OUT_OF_MEMORY && core.would_queue() {
-        return Ok(Entry::Enter(true, EnterReply::OutOfMemory));
+        let step = Step::Enter { wait: true };
+        return Ok(Entry::Made(step, None, Reply::OutOfMemory));
     }
     let wait = word != "at_once";
-    match by_number::entering(&core.enter(wait)) {
-        EnterReply::OutOfMemory => Err(LineError::OutOfMemory),
-        reply => Ok(Entry::Enter(wait, reply)),
+    match made(core, Step::Enter { wait }, None) {
+        Entry::Made(_, _, Reply::OutOfMemory) => Err(LineError::OutOfMemory),
+        entry => Ok(entry),
     }
 }
 
 fn ask(core: &mut Core<()>, words: &mut Words<'_>) -> Result<Entry, LineError> {
     let ticket = Ticket::from_number(next_number(words)?);
     let expired = next_word(words)? == "late";
-    let reply = by_number::asking(&core.ask(ticket, expired));
-    Ok(Entry::Ask(ticket, expired, reply))
+    Ok(made(core, Step::Ask { ticket, expired }, None))
 }
 
 // The number of idle objects that it may take may stand first.
 fn again(core: &mut Core<()>, words: &mut Words<'_>) -> Result<Entry, LineError> {
     let allowance = parse_number(next_word(words)?).ok();
-    let reply = by_number::asking_again(&core.again(allowance));
-    Ok(Entry::Again(allowance, reply))
+    Ok(made(core, Step::Again { allowance }, None))
 }
 
-fn back(core: &mut Core<()>, number: usize) -> Entry {
-    let slot = Slot {
+// An object without a value.
+fn slot_of(number: usize) -> Slot<()> {
+    Slot {
         number,
         value: (),
         metrics: Metrics::new(Moment(0)),
-    };
-    Entry::Back(number, by_number::coming_back(&core.back(slot)))
+    }
 }
 
 fn cancel(core: &mut Core<()>, words: &mut Words<'_>) -> Result<Entry, LineError> {
-    let held = match next_word(words)? {
-        "ticket" => Held::Ticket(Ticket::from_number(next_number(words)?)),
-        "place" => Held::Place,
-        "creation" => Held::Creation,
-        "object" => Held::Object,
+    Ok(match next_word(words)? {
+        "ticket" => {
+            let ticket = Ticket::from_number(next_number(words)?);
+            made(core, Step::Withdraw { ticket }, None)
+        }
+        "place" => made(core, Step::Cancel(Held::Place), None),
+        "creation" => made(core, Step::Cancel(Held::Creation), None),
+        "object" => made(core, Step::Cancel(Held::Object), None),
         _ => return Err(LineError::NotAMove),
-    };
-    Ok(Entry::Cancel(held, core.cancel(held)))
+    })
 }
 
 fn resize(core: &mut Core<()>, words: &mut Words<'_>) -> Result<Entry, LineError> {

@@ -1,6 +1,7 @@
 //! Makes the moves of a script, and keeps what parties are given.
 use crate::Stop;
-use deadpool::replay::{Move, Reply, unmanaged};
+use deadpool_replay::{Move, Reply};
+use deadpool_unmanaged_replay as unmanaged;
 use futures::task::Context;
 use pool_scripts::{
     Answers, ManagedLine, ManagedTrial, Refused, UnmanagedTrial, end_line, parse_managed,

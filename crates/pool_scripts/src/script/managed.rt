@@ -4,8 +4,8 @@ use super::words::{
     Words, end, next_moment, next_number, next_word, parse_number, parse_timeout, words_of,
 };
 use crate::manager::{Answer, Kind};
-use deadpool::managed::Timeouts;
-use deadpool::replay::Move;
+use deadpool_managed::Timeouts;
+use deadpool_replay::Move;
 use std::alloc::Global;
 
 /// What a line over a managed pool says.

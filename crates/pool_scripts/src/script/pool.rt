@@ -3,8 +3,8 @@ use super::LineError;
 use super::words::{
     Words, end, next_number, next_word, parse_number, parse_runtime, text_of, words_of,
 };
-use deadpool::Runtime;
-use deadpool::managed::{PoolConfig, QueueMode};
+use deadpool_managed::{PoolConfig, QueueMode};
+use deadpool_parts::Runtime;
 use std::alloc::Global;
 
 /// What a pool is to be.

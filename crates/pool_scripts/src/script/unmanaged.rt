@@ -1,7 +1,7 @@
 //! The lines over an unmanaged pool.
 use super::LineError;
 use super::words::{Words, end, next_moment, next_number, next_word, parse_timeout, words_of};
-use deadpool::replay::unmanaged::Move;
+use deadpool_unmanaged_replay::Move;
 use std::time::Duration;
 
 /// The move that a line says over an unmanaged pool.

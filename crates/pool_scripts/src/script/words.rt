@@ -1,6 +1,6 @@
 //! The words of a line, and the numbers among them.
 use super::LineError;
-use deadpool::{Moment, Runtime};
+use deadpool_parts::{Moment, Runtime};
 use std::str;
 use std::str::{FromStr, Split};
 use std::time::Duration;

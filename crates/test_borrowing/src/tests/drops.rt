@@ -1,9 +1,9 @@
 //! Gets of a managed pool, of both kinds, that are dropped at each stage: what is dropped and detached, and who is served next.
 use super::managed::Kind;
-use deadpool::NoTime;
-use deadpool::managed::{
-    Ledgers, Manager, Metrics, NoHook, Object, Pool, PoolBuilder, PoolError, RecycleResult,
-};
+use deadpool_builder::PoolBuilder;
+use deadpool_managed::{Manager, Metrics, NoHook, PoolError, RecycleResult};
+use deadpool_parts::NoTime;
+use deadpool_shared::{Ledgers, Object, Pool};
 use deadpool_threads::{PoolUser, lend};
 use futures::Future;
 use futures::task::{Context, Poll};

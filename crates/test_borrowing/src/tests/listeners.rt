@@ -1,10 +1,13 @@
 //! A task that keeps what it hears by from one get to the next. A waker wakes its task as it is dropped, so a task that is
 //! woken was registered anew.
 use super::managed::{Numbers, Zeros};
-use deadpool::managed::{Ledgers, NoHook, PoolBuilder};
-use deadpool::{NoTime, unmanaged};
+use deadpool_builder::PoolBuilder;
 use deadpool_lock::Listener;
+use deadpool_managed::NoHook;
+use deadpool_parts::NoTime;
+use deadpool_shared::Ledgers;
 use deadpool_threads::{Plain, PoolUser, lend};
+use deadpool_unmanaged_shared as unmanaged;
 use futures::test::MockTask;
 use std::random::RandomSource;
 use std::sync::Wait;

@@ -1,8 +1,8 @@
 //! Gets of a managed pool, of both kinds, by the same steps: what is seen of them, and the journal.
-use deadpool::NoTime;
-use deadpool::managed::{
-    Ledgers, Metrics, NoHook, Object, PoolBuilder, PoolError, RecycleResult, Timeouts,
-};
+use deadpool_builder::PoolBuilder;
+use deadpool_managed::{Metrics, NoHook, PoolError, RecycleResult, Timeouts};
+use deadpool_parts::NoTime;
+use deadpool_shared::{Ledgers, Object};
 use deadpool_threads::{Plain, PlainManager, PlainPool, PoolUser, lend};
 use futures::Future;
 use futures::task::Poll;

@@ -1,7 +1,9 @@
 //! Threads that get by either kind: nothing is lost, and gets that borrow count no handle.
 use super::managed::{Kind, Numbers, Zeros};
-use deadpool::NoTime;
-use deadpool::managed::{Ledgers, NoHook, PoolBuilder};
+use deadpool_builder::PoolBuilder;
+use deadpool_managed::NoHook;
+use deadpool_parts::NoTime;
+use deadpool_shared::Ledgers;
 use deadpool_threads::{Host, Plain, PoolUser, lend_among};
 use futures::executor::block_on;
 use std::test::Fail;

@@ -1,6 +1,7 @@
 //! Gets and adds of an unmanaged pool that borrow it.
-use deadpool::unmanaged::{Object, Pool, PoolError};
-use deadpool::{NoTime, Status};
+use deadpool_parts::{NoTime, Status};
+use deadpool_unmanaged::PoolError;
+use deadpool_unmanaged_shared::{Object, Pool};
 use futures::task::Poll;
 use futures::test::MockTask;
 use std::alloc::AllocGlobal;

@@ -1,7 +1,9 @@
 //! A thread that waits by a waiter for an object that another one has, and is served once that gives it back.
 use super::managed::{Numbers, Zeros};
-use deadpool::NoTime;
-use deadpool::managed::{Ledgers, NoHook, PoolBuilder};
+use deadpool_builder::PoolBuilder;
+use deadpool_managed::NoHook;
+use deadpool_parts::NoTime;
+use deadpool_shared::Ledgers;
 use deadpool_threads::{Host, Plain, PoolUser, Waiter, lend_among};
 use std::sync::Wait;
 use std::test::Fail;

@@ -44,6 +44,9 @@ const READ: &str = r#"[] => Err(NotAnObject)
 {"max_size":42,"queue_mode":"Lifo"} => Ok(PoolConfig { max_size: 42, timeouts: Timeouts { wait: None, create: None, recycle: None }, queue_mode: Lifo, min_idle: 0 })
 {"max_size":42,"timeouts":{"wait":{"secs":1,"nanos":0},"create":{"secs":2,"nanos":0},"recycle":{"secs":3,"nanos":0}}} => Ok(PoolConfig { max_size: 42, timeouts: Timeouts { wait: Some(1s), create: Some(2s), recycle: Some(3s) }, queue_mode: Fifo, min_idle: 0 })
 {"max_size":1,"timeouts":{"wait":{"secs":1,"nanos":1500000000}}} => Ok(PoolConfig { max_size: 1, timeouts: Timeouts { wait: Some(2.5s), create: None, recycle: None }, queue_mode: Fifo, min_idle: 0 })
+{"max_size":1,"max_size":2} => Ok(PoolConfig { max_size: 2, timeouts: Timeouts { wait: None, create: None, recycle: None }, queue_mode: Fifo, min_idle: 0 })
+{"max_size":2,"max_size":null} => Err(BadNumber)
+{"max_size":1,"timeouts":{"wait":{"secs":1,"nanos":0,"secs":2}}} => Ok(PoolConfig { max_size: 1, timeouts: Timeouts { wait: Some(2s), create: None, recycle: None }, queue_mode: Fifo, min_idle: 0 })
 {"max_size":1,"min_idle":18446744073709551615} => Ok(PoolConfig { max_size: 1, timeouts: Timeouts { wait: None, create: None, recycle: None }, queue_mode: Fifo, min_idle: 18446744073709551615 })"#;
 
 // What stands before the arrow reads as what stands behind it.

@@ -1,11 +1,11 @@
 //! Gets over a pool with a journal, as a script starts and polls them.
-use deadpool::replay::Move;
 use deadpool_journal::Journaled;
 use deadpool_managed::{
     Desk, Environment, GetState, Hook, Hooks, Metrics, Moment, NoHook, OwnerDesk, PoolConfig,
-    Retainer, Runtime, Slot, Timeouts, Turn,
+    Retainer, Runtime, Slot, Step, Timeouts, Turn,
 };
 use deadpool_parts::tables::take_out;
+use deadpool_replay::Move;
 use futures::task::{Doorbell, Solo};
 use pool_scripts::{
     Answers, Kind, ManagedLine, ManagedPool, PoolLine, ScriptHook, ScriptManager, Settings,
@@ -212,14 +212,16 @@ impl<'a> Driver<'a> {
 
     fn back(&mut self, number: usize) -> Result<(), Fail> {
         if let Some(slot) = take_out(&mut self.out, number) {
-            self.pool.back(slot);
+            let mut hand = Some(slot);
+            self.pool.make(&Step::Back, &mut hand);
         }
         Ok(())
     }
 
     fn take(&mut self, number: usize) -> Result<(), Fail> {
         if take_out(&mut self.out, number).is_some() {
-            self.pool.take();
+            let mut hand = None;
+            self.pool.make(&Step::Take, &mut hand);
         }
         Ok(())
     }

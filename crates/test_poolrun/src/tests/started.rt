@@ -152,19 +152,3 @@ where
     let ending = run(&started, reader, writer, &mut errors);
     status_is(&started.rt, ending, &errors, said, status)
 }
-
-/// With arguments that it does not know, a program says how it is used, and reads and writes nothing.
-pub fn is_refused<R>(rt: R, arguments: Arguments) -> Result<(), Fail>
-where
-    R: RandomSource + AllocGlobal,
-    R: Wait + Threads + Drop + Copy + Send + Sync + 'static,
-{
-    let mut reader: &[u8] = b"pool 1 fifo none 0\n";
-    let mut written = Vec::new(rt.alloc());
-    let said = "usage: poolrun [draw [journal] | threads N M [journal K] | buffers MOST]\n";
-    ends_so(rt, arguments, &mut reader, &mut written, said, 2)?;
-    if written.is_empty() && reader.len() == 19 {
-        return Ok(());
-    }
-    Err(Fail::new("something is read or written"))
-}

@@ -1,7 +1,7 @@
 //! What the manager is asked, and what becomes of its answers.
 use super::play::{builder, play, play_over};
 use super::world::World;
-use deadpool::Runtime;
+use deadpool_parts::Runtime;
 use std::test::Fail;
 use std::time::Duration;
 

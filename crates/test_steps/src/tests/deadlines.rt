@@ -1,8 +1,8 @@
 //! What a pending get asks of its clock, and that it wakes no task by itself.
 use super::play::{Builder, builder, play, play_over};
 use super::world::{Habit, Kind, SharedWorld, World};
-use deadpool::Runtime;
-use deadpool::managed::Hook;
+use deadpool_managed::Hook;
+use deadpool_parts::Runtime;
 use std::alloc::AllocError;
 use std::test::Fail;
 use std::time::Duration;

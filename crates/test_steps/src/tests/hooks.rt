@@ -1,7 +1,7 @@
 //! Hooks in each of a pool's lists.
 use super::play::{Builder, builder, play_over};
 use super::world::{Habit, Kind, World};
-use deadpool::managed::Hook;
+use deadpool_managed::Hook;
 use std::process::Abort;
 use std::random::RandomSource;
 use std::sync::Wait;

@@ -6,11 +6,10 @@ ghost use Rattle.std.specs.Prelude.{◌≡◌};
 
 use super::lines::{Reply, Step, step_of, write_reply};
 use super::world::{Habit, Hand, Maker, SharedWorld, World};
-use deadpool::managed::{
-    Blanks, Get, HookError, Ledgers, Metrics, Object, Pool, PoolBuilder, PoolError, TimeoutType,
-    Timeouts, WeakPool,
-};
-use deadpool::{Moment, Status};
+use deadpool_builder::PoolBuilder;
+use deadpool_managed::{HookError, Metrics, PoolError, TimeoutType, Timeouts};
+use deadpool_parts::{Moment, Status};
+use deadpool_shared::{Blanks, Build, Get, Ledgers, Object, Pool, WeakPool};
 use futures::task::Poll;
 use futures::test::MockTask;
 use std::alloc::{AllocError, Global};

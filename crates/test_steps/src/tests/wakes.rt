@@ -1,8 +1,8 @@
 //! Which tasks a step wakes, and which it leaves asleep.
 use super::play::{builder, play, play_over};
 use super::world::{Habit, Kind, World};
-use deadpool::Runtime;
-use deadpool::managed::Hook;
+use deadpool_managed::Hook;
+use deadpool_parts::Runtime;
 use std::sync::atomic::Ordering;
 use std::test::Fail;
 use std::time::Duration;

@@ -1,8 +1,8 @@
 //! What a pool of these tests is lent: a manager, hooks and a clock, which answer and count as a test says.
-use deadpool::managed::{
+use deadpool_managed::{
     AsyncHook, HookError, HookResult, Manager, Metrics, RecycleError, RecycleResult, SyncHook,
 };
-use deadpool::{Clock, Moment};
+use deadpool_parts::{Clock, Moment};
 use futures::task::{Context, Poll};
 use std::alloc::{AllocError, Global};
 use std::sync::Arc;

@@ -4,8 +4,8 @@ ghost use Rattle.std.specs.Prelude.{◌≡◌};
 
 use super::play::Out;
 use super::world::{Habit, Hand, Maker, SharedWorld, World};
-use deadpool::Status;
-use deadpool::managed::{Blanks, Ledgers, Object, Pool};
+use deadpool_parts::Status;
+use deadpool_shared::{Blanks, Build, Ledgers, Object, Pool};
 use futures::task::Poll;
 use futures::test::MockTask;
 use std::marker::Brand;

@@ -6,6 +6,7 @@ use futures::task::Poll;
 use futures::test::MockTask;
 use std::test::Fail;
 use std::time::Duration;
+use test_support::expected::expect;
 
 const WAITS: u32 = 1_000_000;
 
@@ -67,7 +68,7 @@ fn a_million_waits_leave_no_alarm(rt: HostRuntime) -> Result<(), Fail> {
     two_tasks(rt)
 }
 
-// A get that is polled again and again has one alarm.
+// A get that is polled again and again has one alarm. Who polls it twice in a row is not woken by that.
 fn polled_again<R: Timed>(rt: R) -> Result<(), Fail> {
     let timer = Timer::start(rt.alloc(), rt)?;
     let pool = pool_of_one(rt, &timer, minute())?;
@@ -78,14 +79,16 @@ fn polled_again<R: Timed>(rt: R) -> Result<(), Fail> {
         let _pending = first.poll(&mut get).is_pending();
         let _pending = second.poll(&mut get).is_pending();
     }
-    let alarms = timer.alarms();
+    let _pending = second.poll(&mut get).is_pending();
+    let (is_woken, alarms) = (second.is_woken(), timer.alarms());
     drop(get);
     let left = timer.alarms();
     drop(object);
-    if alarms == 1 && left == 0 {
-        return Ok(());
-    }
-    Err(Fail::new(format_args!("{alarms} alarms while it waits, {left} afterwards")))
+    expect(
+        "whether its task is woken, the alarms while it waits, and afterwards",
+        (is_woken, alarms, left),
+        (false, 1, 0),
+    )
 }
 
 #[test]

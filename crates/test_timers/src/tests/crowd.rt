@@ -1,7 +1,8 @@
 //! Many threads whose gets wait for a short while, and are cancelled.
 use super::managed::Timed;
 use super::stalling::{Builder, Lent, Stall, Stalling, builder_of, millis_since};
-use deadpool::managed::{Ledgers, NoHook, PoolError, TimeoutType, Timeouts};
+use deadpool_managed::{NoHook, PoolError, TimeoutType, Timeouts};
+use deadpool_shared::Ledgers;
 use deadpool_threads::{PoolUser, Waiter, lend_among};
 use deadpool_timer::{Timer, TimerClock};
 use futures::test::MockTask;

@@ -1,7 +1,8 @@
 //! A pool of one object that is held for a while: a get with less time than that is late, and one with more has the object.
 use super::managed::Timed;
 use super::stalling::{Builder, Lent, Stall, Stalling, builder_of, millis_since};
-use deadpool::managed::{Ledgers, NoHook, PoolError, TimeoutType};
+use deadpool_managed::{NoHook, PoolError, TimeoutType};
+use deadpool_shared::Ledgers;
 use deadpool_threads::{PoolUser, Waiter, lend_among};
 use deadpool_timer::{Timer, TimerClock};
 use std::random::RandomSource;

@@ -1,6 +1,7 @@
 //! Timeouts of a managed pool: of the wait, of a creation, of a recycling.
 use super::stalling::{Builder, Lent, Stall, Stalling, builder_of, took_at_least};
-use deadpool::managed::{Ledgers, NoHook, Object, ObjectId, PoolError, TimeoutType};
+use deadpool_managed::{NoHook, ObjectId, PoolError, TimeoutType};
+use deadpool_shared::{Ledgers, Object};
 use deadpool_threads::{PoolUser, Waiter, lend};
 use deadpool_timer::{Timer, TimerClock};
 use std::random::RandomSource;

@@ -1,8 +1,9 @@
 //! A get that waits while too little memory is left for its alarm.
 use super::managed::Timed;
 use super::unmanaged::{Number, object_of, pool_of_one};
-use deadpool::unmanaged::{Get, PoolError};
 use deadpool_timer::{Timer, TimerClock};
+use deadpool_unmanaged::PoolError;
+use deadpool_unmanaged_shared::Get;
 use futures::task::Poll;
 use futures::test::MockTask;
 use std::test::Fail;

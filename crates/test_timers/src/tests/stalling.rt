@@ -1,6 +1,8 @@
 //! A manager that may never answer, and how long things took.
-use deadpool::Runtime;
-use deadpool::managed::{Manager, Metrics, NoHook, Pool, PoolBuilder, RecycleResult};
+use deadpool_builder::PoolBuilder;
+use deadpool_managed::{Manager, Metrics, NoHook, RecycleResult};
+use deadpool_parts::Runtime;
+use deadpool_shared::Pool;
 use deadpool_timer::TimerClock;
 use futures::task::{Context, Poll};
 use std::alloc::Global;

@@ -1,10 +1,11 @@
 //! Timeouts of an unmanaged pool, whose timer serves another pool too.
 use super::managed::Timed;
 use super::stalling::took_at_least;
-use deadpool::Runtime;
-use deadpool::unmanaged::{Object, Pool, PoolConfig, PoolError};
+use deadpool_parts::Runtime;
 use deadpool_threads::Waiter;
 use deadpool_timer::{Timer, TimerClock};
+use deadpool_unmanaged::{PoolConfig, PoolError};
+use deadpool_unmanaged_shared::{Object, Pool};
 use std::test::Fail;
 use std::time::{Duration, Instant};
 

@@ -2,10 +2,11 @@
 use super::managed::Timed;
 use super::stalling::{Builder, Lent, Stall, Stalling, builder_of};
 use super::unmanaged::{Numbers, pool_of_one};
-use deadpool::managed::{Ledgers, NoHook, PoolError, TimeoutType};
-use deadpool::unmanaged;
+use deadpool_managed::{NoHook, PoolError, TimeoutType};
+use deadpool_shared::Ledgers;
 use deadpool_threads::{PoolUser, Waiter, Waiting, lend};
 use deadpool_timer::{Timer, TimerClock};
+use deadpool_unmanaged as unmanaged;
 use std::random::RandomSource;
 use std::sync::Wait;
 use std::test::Fail;

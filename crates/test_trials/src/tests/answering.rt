@@ -1,5 +1,5 @@
 //! A hook that does not accept.
-use deadpool::managed::{AsyncHook, HookError, HookResult, Manager, Metrics};
+use deadpool_managed::{AsyncHook, HookError, HookResult, Manager, Metrics};
 use futures::task::{Context, Poll};
 
 /// A hook that refuses each object, or is pending for ever.

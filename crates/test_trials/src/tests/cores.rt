@@ -1,7 +1,6 @@
 //! A pool's state, by hand.
-use deadpool::Moment;
-use deadpool::managed::desk::{BackReply, Core, CreatedReply, Desk, EnterReply, Serving, Slot};
-use deadpool::managed::{Metrics, QueueMode};
+use deadpool_managed::{Core, Desk, Metrics, QueueMode, Reply, Slot, Step};
+use deadpool_parts::Moment;
 use std::alloc::Global;
 use std::test::Fail;
 
@@ -12,11 +11,13 @@ pub fn new_core<T: Drop>(alloc: Global, limit: usize, mode: QueueMode) -> Result
 
 /// A new object of the pool with this value, created at a moment, which is out.
 pub fn created<T: Drop>(core: &mut Core<T>, value: T, moment: u128) -> Result<Slot<T>, Fail> {
-    let (EnterReply::Served(Serving::Create), CreatedReply::Created(number)) = (
-        core.enter(false),
-        core.created(),
-    ) else {
+    let mut hand = None;
+    let Reply::Create = core.make(&Step::Enter { wait: false }, &mut hand) else {
         return Err(Fail::new("no creation"));
+    };
+    let mut none = None;
+    let Reply::Number(number) = core.make(&Step::Created, &mut none) else {
+        return Err(Fail::new("not created"));
     };
     Ok(Slot {
         number,
@@ -25,10 +26,17 @@ pub fn created<T: Drop>(core: &mut Core<T>, value: T, moment: u128) -> Result<Sl
     })
 }
 
+/// An object comes back. The pool's reply, and the object if the pool doesn't keep it.
+pub fn back<T: Drop>(core: &mut Core<T>, slot: Slot<T>) -> (Reply, Option<Slot<T>>) {
+    let mut hand = Some(slot);
+    let reply = core.make(&Step::Back, &mut hand);
+    (reply, hand)
+}
+
 /// An object comes back, and is kept.
 pub fn keep<T: Drop>(core: &mut Core<T>, slot: Slot<T>) -> Result<(), Fail> {
-    match core.back(slot) {
-        BackReply::Kept => Ok(()),
+    match back(core, slot) {
+        (Reply::Kept, None) => Ok(()),
         _ => Err(Fail::new("not kept")),
     }
 }

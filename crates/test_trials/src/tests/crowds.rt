@@ -1,7 +1,6 @@
 //! Many gets, and a large limit.
 use super::cores::{created, keep, new_core};
-use deadpool::managed::QueueMode;
-use deadpool::managed::desk::{Core, Desk, EnterReply, OwnerDesk};
+use deadpool_managed::{Core, Desk, OwnerDesk, QueueMode, Reply, Step};
 use pool_scripts::{expect_crowd, expect_script};
 use std::alloc::{AllocError, Global};
 use std::test::Fail;
@@ -66,7 +65,8 @@ fn fill(alloc: Global, core: &mut Core<u64>, count: usize) -> Result<(), Fail> {
     for _object in 0..count {
         slots.push(created(core, 0, 0)?)?;
     }
-    let EnterReply::Full = core.enter(false) else {
+    let mut hand = None;
+    let Reply::Full = core.make(&Step::Enter { wait: false }, &mut hand) else {
         return Err(Fail::new("not full"));
     };
     for slot in slots {

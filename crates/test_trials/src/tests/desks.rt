@@ -1,11 +1,13 @@
 //! Gets over a desk, by the deadlines and the moments that they have.
-ghost use Rattle.deadpool.specs.Holding.{Holding};
+ghost use Rattle.deadpool_desk.specs.declared.step.Holding.{Holding};
 
 use super::cores::{created, keep};
 use super::managers::Counter;
-use deadpool::managed::desk::{Core, Desk, Environment, GetState, Hooks, OwnerDesk, Slot, Turn};
-use deadpool::managed::{Manager, NoHook, QueueMode, Timeouts};
-use deadpool::{Moment, Runtime};
+use deadpool_managed::{
+    Core, Desk, Environment, GetState, Hooks, Manager, NoHook, OwnerDesk, QueueMode, Slot,
+    Timeouts, Turn,
+};
+use deadpool_parts::{Moment, Runtime};
 use futures::task::Context;
 use futures::test::MockTask;
 use std::random::RandomSource;

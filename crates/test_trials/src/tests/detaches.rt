@@ -4,8 +4,9 @@ use super::cores::{keep, new_core};
 use super::managers::{Calls, Counted};
 use super::polls::{poll, task};
 use super::watched::Watched;
-use deadpool::managed::desk::{Desk, EnterReply, Environment, GetState, Hooks, Serving};
-use deadpool::managed::{Hook, NoHook, PoolError, QueueMode, Timeouts};
+use deadpool_managed::{
+    Desk, Environment, GetState, Hook, Hooks, NoHook, PoolError, QueueMode, Reply, Step, Timeouts,
+};
 use futures::task::Solo;
 use std::random::RandomSource;
 use std::test::Fail;
@@ -117,10 +118,9 @@ fn is_refused<'a>(
     knows: bool,
 ) -> bool {
     // The one idle object is out for good, so the next get creates one.
-    let is_out = matches!(
-        desk.core.enter(false),
-        EnterReply::Served(Serving::Object(_, 0))
-    );
+    let mut hand = None;
+    let entered = desk.core.make(&Step::Enter { wait: false }, &mut hand);
+    let is_out = entered == Reply::Object { left: 0 };
     desk.knows = knows;
     let hook = Hook::async_fn(Answering::Refuses);
     let is_added = environment.hooks.add_post_create(hook).is_ok();

@@ -1,9 +1,8 @@
 //! Drops of objects, which no contract counts: each is dropped once, by whoever has it last.
-use super::cores::{created, keep};
+use super::cores::{back, created, keep};
 use super::managers::count;
-use deadpool::managed::QueueMode;
-use deadpool::managed::desk::{Core, Desk, OwnerDesk, Slot};
-use deadpool::unmanaged;
+use deadpool_managed::{Core, OwnerDesk, QueueMode, Slot};
+use deadpool_unmanaged as unmanaged;
 use std::cell::Cell;
 use std::test::Fail;
 use test_support::expected::expect;
@@ -69,10 +68,10 @@ fn a_smaller_limit_drops_each_once(rt: HostRuntime) -> Result<(), Fail> {
     core.close();
     let closed = drops.get();
     // A closed pool hands the third back, to be detached and dropped here.
-    let reply = core.back(third);
+    let (_reply, left) = back(&mut core, third);
     drop(core);
     let back = drops.get();
-    drop(reply);
+    drop(left);
     let seen = [before, resized, closed, back, drops.get()];
     expect(
         "resized, dropped",
@@ -101,10 +100,10 @@ fn the_last_handle_drops_each_once(rt: HostRuntime) -> Result<(), Fail> {
     let out = one_idle_and_one_out(&mut core, &drops)?;
     core.drop_handle();
     let closed = drops.get();
-    let reply = core.back(out);
+    let (_reply, left) = back(&mut core, out);
     drop(core);
     let back = drops.get();
-    drop(reply);
+    drop(left);
     expect("dropped", [closed, back, drops.get()], [1, 1, 2])
 }
 

@@ -1,13 +1,12 @@
 //! Drops of what gets give up: objects, and what creations and recyclings have begun. Nothing of it is kept by anybody,
 //! whether the pool knows of the step that gives it up or not.
 use super::answering::Answering;
-use super::cores::{created, keep, new_core};
+use super::cores::{back, created, keep, new_core};
 use super::managers::Calls;
 use super::polls::{poll, task};
 use super::told::{Answer, Lent, Object, Told, environment};
 use super::watched::Watched;
-use deadpool::managed::desk::{BackReply, Core, Desk, GetState, Slot, StepReply};
-use deadpool::managed::{Hook, QueueMode, Timeouts};
+use deadpool_managed::{Core, Desk, GetState, Hook, QueueMode, Reply, Slot, Step, Timeouts};
 use futures::task::Solo;
 use std::alloc::Global;
 use std::test::Fail;
@@ -181,13 +180,14 @@ fn ends_behind_a_gets_back(
 ) -> Result<(), Fail> {
     let mut state = GetState::new(NO_TIMEOUTS);
     let begun = polled(&mut state, core, environment, task);
-    let step = core.failed();
+    let mut hand = None;
+    let step = core.make(&Step::Failed, &mut hand);
     environment.manager.creation.set(Answer::Accepts);
     let left = polled(&mut state, core, environment, task);
     expect(
         "given, living, the step",
         (begun, step, left),
-        ((None, (0, 1)), StepReply::Done, (Some(false), (0, 0))),
+        ((None, (0, 1)), Reply::Done, (Some(false), (0, 0))),
     )
 }
 
@@ -227,9 +227,9 @@ fn handed_back(
     environment: &Lent,
     slot: Slot<Object>,
 ) -> (bool, (usize, usize), (usize, usize)) {
-    let reply = core.back(slot);
-    let is_unknown = matches!(reply, BackReply::Unknown(_));
+    let (reply, left) = back(core, slot);
+    let is_unknown = reply == Reply::Unknown && left.is_some();
     let handed_back = environment.manager.living();
-    drop(reply);
+    drop(left);
     (is_unknown, handed_back, environment.manager.living())
 }

@@ -1,11 +1,12 @@
 //! Hooks in each of a pool's lists.
-ghost use Rattle.deadpool.specs.HookLists.{CanCall};
+ghost use Rattle.deadpool_managed.specs.HookLists.{CanCall};
 
 use super::managers::{Counter, Refused};
-use deadpool::Moment;
-use deadpool::managed::{
-    AsyncHook, FnHook, Hook, HookError, HookResult, Manager, Metrics, NoHook, PoolBuilder, SyncHook,
+use deadpool_builder::PoolBuilder;
+use deadpool_managed::{
+    AsyncHook, FnHook, Hook, HookError, HookResult, Manager, Metrics, NoHook, SyncHook,
 };
+use deadpool_parts::Moment;
 use futures::task::{Context, Poll};
 use pool_scripts::expect_over;
 use std::random::RandomSource;

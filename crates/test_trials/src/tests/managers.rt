@@ -1,5 +1,5 @@
 //! Small managers.
-use deadpool::managed::{Manager, Metrics, RecycleResult};
+use deadpool_managed::{Manager, Metrics, RecycleResult};
 use futures::task::{Context, Poll};
 use std::cell::Cell;
 use std::fmt;

@@ -1,6 +1,6 @@
 //! Ages of objects.
-use deadpool::Moment;
-use deadpool::managed::Metrics;
+use deadpool_managed::Metrics;
+use deadpool_parts::Moment;
 use std::test::Fail;
 use std::time::Duration;
 use test_support::expected::expect;

@@ -1,7 +1,6 @@
 //! Identifiers of objects.
-use deadpool::Moment;
-use deadpool::managed::desk::Slot;
-use deadpool::managed::{Metrics, ObjectId};
+use deadpool_managed::{Metrics, ObjectId, Slot};
+use deadpool_parts::Moment;
 use std::alloc::Global;
 use std::cmp::Ordering;
 use std::test::Fail;

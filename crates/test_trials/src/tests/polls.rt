@@ -1,10 +1,9 @@
 //! Gets that are polled over a desk.
-ghost use Rattle.deadpool.specs.Holding.{Holding};
+ghost use Rattle.deadpool_desk.specs.declared.step.Holding.{Holding};
 
 use super::answering::Answering;
-use deadpool::Moment;
-use deadpool::managed::desk::{Desk, Environment, GetState, Slot, Turn};
-use deadpool::managed::{Manager, NoHook, PoolError};
+use deadpool_managed::{Desk, Environment, GetState, Manager, NoHook, PoolError, Slot, Turn};
+use deadpool_parts::Moment;
 use futures::task::{Doorbell, Solo};
 use std::random::RandomSource;
 use std::test::Fail;

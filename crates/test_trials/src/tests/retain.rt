@@ -1,8 +1,7 @@
 //! Retains over a pool's state, by retainers that change with each call.
 use super::cores::{created, keep};
-use deadpool::Moment;
-use deadpool::managed::desk::{Core, OwnerDesk, Retainer};
-use deadpool::managed::{Metrics, QueueMode};
+use deadpool_managed::{Core, Metrics, OwnerDesk, QueueMode, Retainer};
+use deadpool_parts::Moment;
 use std::test::Fail;
 use std::time::Duration;
 use test_support::expected::{expect, stands};

@@ -1,8 +1,9 @@
 //! Timeouts of a pool and of its gets.
 use super::managers::Counter;
-use deadpool::Runtime;
-use deadpool::managed::{BuildError, NoHook, PoolBuilder, QueueMode, Timeouts};
-use deadpool::replay::Trial;
+use deadpool_builder::PoolBuilder;
+use deadpool_managed::{BuildError, NoHook, QueueMode, Timeouts};
+use deadpool_parts::Runtime;
+use deadpool_replay::Trial;
 use pool_scripts::expect_over;
 use std::alloc::Global;
 use std::test::Fail;

@@ -1,9 +1,8 @@
 //! A manager that answers as it is told. What it makes is counted while it is there.
 use super::answering::Answering;
 use super::managers::Refused;
-use deadpool::Runtime;
-use deadpool::managed::desk::{Environment, Hooks};
-use deadpool::managed::{Manager, Metrics, NoHook, RecycleError, RecycleResult};
+use deadpool_managed::{Environment, Hooks, Manager, Metrics, NoHook, RecycleError, RecycleResult};
+use deadpool_parts::Runtime;
 use futures::task::{Context, Poll};
 use std::alloc::{AllocError, Global};
 use std::cell::Cell;

@@ -1,5 +1,5 @@
 //! A clock for tests.
-use deadpool::{Clock, Moment};
+use deadpool_parts::{Clock, Moment};
 use futures::task::Context;
 use std::alloc::{AllocError, Global};
 use std::sync::Arc;

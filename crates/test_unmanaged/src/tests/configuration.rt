@@ -1,7 +1,7 @@
 //! Configurations in JSON.
 use super::expect;
-use deadpool::Runtime;
-use deadpool::unmanaged::{ConfigError, PoolConfig};
+use deadpool_parts::Runtime;
+use deadpool_unmanaged::{ConfigError, PoolConfig};
 use serde_json::Value;
 use std::alloc::{AllocError, Global};
 use std::test::Fail;

@@ -2,8 +2,9 @@
 use super::draw::Draw;
 use super::polls::{is_added, poll_get, poll_remove, removed};
 use super::{Host, expect, stands};
-use deadpool::NoTime;
-use deadpool::unmanaged::{Get, Object, Pool, PoolError};
+use deadpool_parts::NoTime;
+use deadpool_unmanaged::PoolError;
+use deadpool_unmanaged_shared::{Get, Object, Pool};
 use futures::executor::block_on;
 use futures::test::MockTask;
 use std::alloc::AllocError;

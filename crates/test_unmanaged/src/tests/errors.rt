@@ -1,6 +1,6 @@
 //! The texts of errors.
 use super::expect;
-use deadpool::unmanaged::PoolError;
+use deadpool_unmanaged::PoolError;
 use std::alloc::Global;
 use std::test::Fail;
 

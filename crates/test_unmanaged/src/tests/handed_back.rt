@@ -1,8 +1,8 @@
 //! Objects that a step hands back: none is dropped before whoever has it drops it.
 use super::expect;
-use deadpool::Moment;
-use deadpool::replay::unmanaged::{Move, Trial};
-use deadpool::unmanaged::{AddEnterReply, AddState, BackReply, Core, GetEnterReply};
+use deadpool_parts::Moment;
+use deadpool_unmanaged::{AddEnterReply, AddState, BackReply, Core, GetEnterReply};
+use deadpool_unmanaged_replay::{Move, Trial};
 use futures::task::Poll;
 use std::alloc::Global;
 use std::cell::Cell;

@@ -1,7 +1,7 @@
 //! What the lines of a script say.
-use deadpool::replay::unmanaged::Move;
-use deadpool::unmanaged::PoolConfig;
-use deadpool::{Moment, Runtime};
+use deadpool_parts::{Moment, Runtime};
+use deadpool_unmanaged::PoolConfig;
+use deadpool_unmanaged_replay::Move;
 use std::alloc::Global;
 use std::str::Split;
 use std::test::Fail;

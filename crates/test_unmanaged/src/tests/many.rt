@@ -1,9 +1,10 @@
 //! Many that wait, many objects, and a limit for which there is no memory.
 use super::steps::object_of;
 use super::{Host, expect, stands};
-use deadpool::replay::unmanaged::{Move, Reply, Trial};
-use deadpool::unmanaged::{AddEnterReply, BackReply, Core, GetEnterReply, Pool, PoolError};
-use deadpool::{Moment, NoTime, Status};
+use deadpool_parts::{Moment, NoTime, Status};
+use deadpool_unmanaged::{AddEnterReply, BackReply, Core, GetEnterReply, PoolError};
+use deadpool_unmanaged_replay::{Move, Reply, Trial};
+use deadpool_unmanaged_shared::Pool;
 use std::alloc::{AllocError, Global};
 use std::test::Fail;
 

@@ -7,9 +7,9 @@ use super::party::{
     Gain, Item, Numbered, Outcome, Party, Visitor, after_added, after_removed, with_item,
     with_object,
 };
-use deadpool::Moment;
-use deadpool::replay::unmanaged::{Move, Reply};
-use deadpool::unmanaged::{Object, Pool};
+use deadpool_parts::Moment;
+use deadpool_unmanaged_replay::{Move, Reply};
+use deadpool_unmanaged_shared::{Object, Pool};
 use futures::test::MockTask;
 use std::alloc::{AllocError, Global};
 use std::test::Fail;

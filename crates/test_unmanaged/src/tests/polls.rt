@@ -1,7 +1,8 @@
 //! One poll of a get, an add or a removal, and what comes of it.
 use super::Host;
-use deadpool::Clock;
-use deadpool::unmanaged::{Add, Get, Object, PoolError, Remove};
+use deadpool_parts::Clock;
+use deadpool_unmanaged::PoolError;
+use deadpool_unmanaged_shared::{Add, Get, Object, Remove};
 use futures::task::Poll;
 use futures::test::MockTask;
 

@@ -1,7 +1,7 @@
 //! Steps of a pool's state and of an add that the moves of a trial don't show.
 use super::{expect, stands};
-use deadpool::Moment;
-use deadpool::unmanaged::{
+use deadpool_parts::Moment;
+use deadpool_unmanaged::{
     AddEnterReply, AddState, BackReply, Core, GetEnterReply, GetState, HandleReply, PoolError,
     TakeReply,
 };

@@ -1,8 +1,8 @@
 //! Who is named, and when somebody would have to wait.
 use super::expect;
-use deadpool::Moment;
-use deadpool::gate::Ticket;
-use deadpool::unmanaged::{AddState, Core, GetState};
+use deadpool_gate::gate::Ticket;
+use deadpool_parts::Moment;
+use deadpool_unmanaged::{AddState, Core, GetState};
 use futures::task::Poll;
 use std::test::Fail;
 

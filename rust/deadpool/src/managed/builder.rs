@@ -1,9 +1,9 @@
 //! How a pool is built.
 use super::hooks::Hooks;
-use super::{Handle, Hook, Manager, Object, Pool, PoolConfig, QueueMode, Timeouts};
+use super::{Core, Handle, Hook, Manager, Object, Pool, PoolConfig, QueueMode, Timeouts};
 use crate::errors::error_texts;
+use crate::rattle::Global;
 use crate::runtime::Runtime;
-use crate::sys::ManagedDesk;
 use std::fmt;
 use std::marker::PhantomData;
 use std::time::Duration;
@@ -82,9 +82,9 @@ impl<M: Manager, W: From<Object<M>>> PoolBuilder<M, W> {
         if timeouts.is_any_set() && runtime.is_none() {
             return Err(BuildError::NoRuntimeSpecified);
         }
-        let is_lifo = queue_mode == QueueMode::Lifo;
-        let desk = ManagedDesk::new(max_size, is_lifo, self.entries, self.min_idle).ok_or(BuildError::OutOfMemory)?;
-        Ok(Pool::of(Handle::new(Setup { manager, hooks, timeouts, runtime }, desk)))
+        let desk = Core::<M>::new(Global, max_size, queue_mode, self.entries, self.min_idle);
+        let desk = desk.map_err(|_| BuildError::OutOfMemory)?;
+        Ok(Pool::of(Handle::new(Setup { manager, hooks, timeouts, runtime }, desk, self.entries > 0)))
     }
 
     setters! {

@@ -1,21 +1,25 @@
 //! What a pool is opened with.
-use super::BuildError;
+use super::{BuildError, QueueMode};
 use crate::errors::error_texts;
 use std::time::Duration;
 
 /// How many objects, how long each phase of a get may last, and which idle object is next.
 #[derive(Clone, Copy, Debug)]
+#[cfg_attr(feature = "serde", derive(serde::Deserialize, serde::Serialize))]
 pub struct PoolConfig {
     /// The greatest number of objects.
     pub max_size: usize,
     /// How long each phase of a get may last.
+    #[cfg_attr(feature = "serde", serde(default))]
     pub timeouts: Timeouts,
     /// Which idle object is handed out next.
+    #[cfg_attr(feature = "serde", serde(default))]
     pub queue_mode: QueueMode,
 }
 
 impl PoolConfig {
     /// So many objects, no timeouts, and the idle object next that came back first.
+    #[must_use]
     pub fn new(max_size: usize) -> Self {
         PoolConfig { max_size, timeouts: Timeouts::default(), queue_mode: QueueMode::default() }
     }
@@ -24,12 +28,22 @@ impl PoolConfig {
 /// Twice as many objects as there are processors.
 impl Default for PoolConfig {
     fn default() -> Self {
-        PoolConfig::new(std::thread::available_parallelism().map_or(2, |count| count.get().saturating_mul(2)))
+        PoolConfig::new(crate::shared::usual_size())
     }
 }
 
 /// How long each phase of a get may last; none is without an end.
+///
+/// ```
+/// use deadpool::managed::{PoolConfig, Timeouts};
+/// use std::time::Duration;
+///
+/// let mut config = PoolConfig::new(8);
+/// config.timeouts = Timeouts { create: Some(Duration::from_secs(5)), ..Timeouts::wait_millis(50) };
+/// assert_eq!(config.timeouts.wait, Some(Duration::from_millis(50)));
+/// ```
 #[derive(Clone, Copy, Debug, Default)]
+#[cfg_attr(feature = "serde", derive(serde::Deserialize, serde::Serialize))]
 pub struct Timeouts {
     /// The wait for a place. Zero is not to wait, and needs no runtime.
     pub wait: Option<Duration>,
@@ -41,28 +55,20 @@ pub struct Timeouts {
 
 impl Timeouts {
     /// None is set.
-    pub fn new() -> Self {
-        Timeouts::default()
+    #[must_use]
+    pub const fn new() -> Self {
+        Timeouts { wait: None, create: None, recycle: None }
     }
 
     /// The wait for a place, in milliseconds, and no other.
-    pub fn wait_millis(wait: u64) -> Self {
-        Timeouts { wait: Some(Duration::from_millis(wait)), ..Timeouts::default() }
+    #[must_use]
+    pub const fn wait_millis(wait: u64) -> Self {
+        Timeouts { wait: Some(Duration::from_millis(wait)), create: None, recycle: None }
     }
 
     pub(super) fn is_any_set(&self) -> bool {
         self.wait.is_some() || self.create.is_some() || self.recycle.is_some()
     }
-}
-
-/// Which idle object is handed out next.
-#[derive(Clone, Copy, Debug, Default, PartialEq, Eq)]
-pub enum QueueMode {
-    /// The one that came back first.
-    #[default]
-    Fifo,
-    /// The one that came back last.
-    Lifo,
 }
 
 /// Why a backend made no pool of its own configuration.
@@ -75,6 +81,32 @@ pub enum CreatePoolError<C> {
 }
 
 error_texts! { CreatePoolError<C> {
-    Self::Config(cause) => "Config: {cause}" from cause,
-    Self::Build(cause) => "Build: {cause}" from cause,
+    Self::Config(cause) => "Config: {cause}",
+    Self::Build(cause) => "Build: {cause}",
 } }
+
+/// The names of the queue modes in a configuration. The type itself is made of the proved text.
+#[cfg(feature = "serde")]
+mod names {
+    use super::QueueMode;
+    use serde::{Deserialize, Deserializer, Serialize, Serializer};
+
+    #[derive(Deserialize, Serialize)]
+    #[serde(remote = "QueueMode")]
+    enum Named {
+        Fifo,
+        Lifo,
+    }
+
+    impl<'de> Deserialize<'de> for QueueMode {
+        fn deserialize<D: Deserializer<'de>>(deserializer: D) -> Result<Self, D::Error> {
+            Named::deserialize(deserializer)
+        }
+    }
+
+    impl Serialize for QueueMode {
+        fn serialize<S: Serializer>(&self, serializer: S) -> Result<S::Ok, S::Error> {
+            Named::serialize(self, serializer)
+        }
+    }
+}

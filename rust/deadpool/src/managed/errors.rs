@@ -26,13 +26,13 @@ pub enum PoolError<E> {
     NoRuntimeSpecified,
     /// A hook refused the new object.
     PostCreateHook(HookError<E>),
-    /// The get's entry in the queue, its waker or its object's place in the table found no memory.
+    /// The get's entry in the queue, its waker or its object's box found no memory.
     OutOfMemory,
     /// No object number is left.
     NumbersExhausted,
 }
 
-error_texts! { PoolError<E> {
+error_texts! { PoolError<E: 'static> {
     Self::Timeout(TimeoutType::Wait) => "Timeout occurred while waiting for a slot to become available",
     Self::Timeout(TimeoutType::Create) => "Timeout occurred while creating a new object",
     Self::Timeout(TimeoutType::Recycle) => "Timeout occurred while recycling an object",
@@ -66,7 +66,7 @@ impl<E> RecycleError<E> {
     }
 }
 
-error_texts! { RecycleError<E> {
+error_texts! { RecycleError<E: 'static> {
     Self::Message(text) => "Error occurred while recycling an object: {text}",
     Self::Backend(cause) => "Error occurred while recycling an object: {cause}" from cause,
 } }
@@ -93,7 +93,7 @@ impl<E> HookError<E> {
     }
 }
 
-error_texts! { HookError<E> {
+error_texts! { HookError<E: 'static> {
     Self::Message(text) => "{text}",
     Self::Backend(cause) => "{cause}" from cause,
 } }

@@ -1,78 +1,95 @@
 //! A get, from its first poll to its object. What it holds is given back if it ends without an object or is dropped.
-use super::object::Slot;
-use super::{Manager, Metrics, OutOfMemory, PoolError, Shared, State, TimeoutType, Timeouts};
-use crate::sys::{CREATE, CREATED, EXHAUSTED, EXPIRED, FULL, GOING, ManagedDesk, OBJECT, OUT_OF_MEMORY, Reply};
+use super::object::{Kept, in_hand};
+use super::{Core, Manager, Metrics, PoolError, Shared, TimeoutType, Timeouts};
+use crate::cores::desk::{Desk, Held, Reply, Step};
+use crate::parcel::Boxed;
 use crate::timed::{Alarm, in_time, noting_polls, poll_again};
+use crate::waiting::{Asked, Turn, Waiting};
 use std::pin::pin;
 use std::time::Duration;
 
 type Given<T, M> = Result<T, PoolError<<M as Manager>::Error>>;
-type Step = fn(&mut ManagedDesk) -> Reply;
-
-/// How a get is served. It has its object, and may take so many more in this poll.
-enum Serving {
-    Object(usize),
-    Create,
-    Going,
-}
 
 pub(super) struct Get<'a, M: Manager> {
     pool: &'a Shared<M>,
-    /// The step that gives back what is held, if anything is.
-    cancel: Option<Step>,
-    slot: Option<Slot<M>>,
+    /// What is to be given back, if anything is.
+    held: Option<Held>,
+    kept: Option<Boxed<Kept<M>>>,
 }
 
 impl<'a, M: Manager> Get<'a, M> {
     /// An object, within these timeouts.
-    pub(super) async fn within(pool: &'a Shared<M>, timeouts: &Timeouts) -> Given<Option<Slot<M>>, M> {
-        let mut get = Get { pool, cancel: None, slot: None };
+    pub(super) async fn within(pool: &'a Shared<M>, timeouts: &Timeouts) -> Given<Option<Boxed<Kept<M>>>, M> {
+        let mut get = Get { pool, held: None, kept: None };
         let may_wait = timeouts.wait != Some(Duration::ZERO);
         let alarm = get.alarm(timeouts.wait.filter(|_| may_wait))?;
-        let mut serving = pool.get(may_wait, alarm, |state, reply| get.served(state, reply)).await?;
+        let cancel = |desk: &mut Core<M>, ticket| _ = desk.make(&Step::Withdraw { ticket }, &mut None);
+        let waiting = Waiting { pool, wakers: |state| &mut state.gets, cancel, ticket: None };
+        let step = |desk: &mut Core<M>, asked| get.asks(desk, may_wait, asked);
+        let (mut held, mut left) = waiting.ask(alarm, step, || Err(PoolError::OutOfMemory)).await?;
         loop {
-            let allowance = match serving {
-                Serving::Create => break get.create(timeouts.create).await?,
-                Serving::Object(left) => {
+            let allowance = match held {
+                Held::Creation => break get.create(timeouts.create).await?,
+                Held::Object => {
                     let (prepared, was_pending) = noting_polls(pin!(get.prepare(timeouts.recycle))).await;
                     if prepared.is_some() {
                         break;
                     }
-                    get.give_up(ManagedDesk::discard, Some(ManagedDesk::cancel_place));
+                    get.give_up(&Step::Discard, Some(Held::Place));
                     // (each poll has an allowance of its own)
                     if was_pending { None } else { Some(left) }
                 }
-                Serving::Going => {
+                Held::Place => {
                     poll_again().await;
                     None
                 }
             };
-            serving = pool.step(|state| {
-                let reply = state.desk.again(allowance.is_some(), allowance.unwrap_or(0));
-                get.served(state, reply)
+            (held, left) = pool.step(|state| {
+                let reply = get.make(&mut state.desk, &Step::Again { allowance });
+                get.served(reply)
             })?;
         }
-        get.cancel = None;
-        Ok(get.slot.take())
+        get.held = None;
+        Ok(get.kept.take())
     }
 
-    /// What a reply serves. The object goes out under the lock.
-    fn served(&mut self, state: &mut State<M>, reply: Reply) -> Given<Serving, M> {
-        self.cancel = None;
-        let (cancel, serving): (Step, _) = match reply.kind {
-            OBJECT => {
-                self.slot = state.idle.take(reply.key);
-                (ManagedDesk::cancel_object, Serving::Object(reply.left))
-            }
-            CREATE => (ManagedDesk::cancel_creation, Serving::Create),
-            GOING => (ManagedDesk::cancel_place, Serving::Going),
-            FULL | EXPIRED => return Err(PoolError::Timeout(TimeoutType::Wait)),
-            OUT_OF_MEMORY => return Err(PoolError::OutOfMemory),
-            EXHAUSTED => return Err(PoolError::NumbersExhausted),
+    /// Enters, or asks with its ticket.
+    #[inline]
+    fn asks(&mut self, desk: &mut Core<M>, may_wait: bool, asked: Asked) -> Turn<Given<(Held, usize), M>> {
+        let reply = match asked {
+            None => self.make(desk, &Step::Enter { wait: may_wait }),
+            Some((ticket, expired)) => self.make(desk, &Step::Ask { ticket, expired }),
+        };
+        match reply {
+            Reply::Waiting(ticket) => Turn::Waits(ticket),
+            reply => Turn::Ended(self.served(reply)),
+        }
+    }
+
+    /// Makes a step, and keeps the object that it gives.
+    #[inline(always)]
+    fn make(&mut self, desk: &mut Core<M>, step: &Step) -> Reply {
+        let mut hand = None;
+        let reply = desk.make(step, &mut hand);
+        self.kept = in_hand(hand);
+        reply
+    }
+
+    /// What it holds after a reply, and how many more idle objects this poll may take.
+    #[inline]
+    fn served(&mut self, reply: Reply) -> Given<(Held, usize), M> {
+        self.held = None;
+        let served = match reply {
+            Reply::Object { left } => (Held::Object, left),
+            Reply::Create => (Held::Creation, 0),
+            Reply::Going => (Held::Place, 0),
+            Reply::Exhausted => return Err(PoolError::NumbersExhausted),
+            Reply::Full | Reply::Expired => return Err(PoolError::Timeout(TimeoutType::Wait)),
+            Reply::OutOfMemory => return Err(PoolError::OutOfMemory),
             _ => return Err(PoolError::Closed),
         };
-        self.cancel = Some(cancel);
-        Ok(serving)
+        self.held = Some(served.0);
+        Ok(served)
     }
 
     fn alarm(&self, timeout: Option<Duration>) -> Given<Alarm, M> {
@@ -82,10 +99,10 @@ impl<'a, M: Manager> Get<'a, M> {
     /// A new object, which the hooks have accepted.
     async fn create(&mut self, timeout: Option<Duration>) -> Given<(), M> {
         let created = self.new_value(timeout).await.and_then(|value| self.created(value));
-        created.inspect_err(|_| self.give_up(ManagedDesk::failed, None))?;
+        created.inspect_err(|_| self.give_up(&Step::Failed, None))?;
         for hook in &self.pool.setup.hooks.post_create {
-            let passed = hook.call(self.slot.as_mut().expect("the get has an object")).await;
-            passed.map_err(PoolError::PostCreateHook).inspect_err(|_| self.give_up(ManagedDesk::refused, None))?;
+            let passed = hook.call(self.kept.as_mut().expect("the get has an object")).await;
+            passed.map_err(PoolError::PostCreateHook).inspect_err(|_| self.give_up(&Step::Refused, None))?;
         }
         Ok(())
     }
@@ -96,51 +113,50 @@ impl<'a, M: Manager> Get<'a, M> {
         made.ok_or(PoolError::Timeout(TimeoutType::Create))?.map_err(PoolError::Backend)
     }
 
-    /// The creation ends well, unless the table has no place for the object.
+    /// The creation ends well, unless there is no memory for the object.
     fn created(&mut self, value: M::Type) -> Given<(), M> {
-        let made = self.pool.step(|state| Ok((state.idle.new_key()?, state.desk.created())));
-        let (key, reply) = made.map_err(|OutOfMemory| PoolError::OutOfMemory)?;
-        if reply.kind != CREATED {
+        let kept = Kept { value, metrics: Metrics::default(), number: 0 };
+        let mut kept = Boxed::new(kept).map_err(|_| PoolError::OutOfMemory)?;
+        let Reply::Number(number) = self.pool.step(|state| state.desk.make(&Step::Created, &mut None)) else {
             return Err(PoolError::Closed);
-        }
-        self.cancel = Some(ManagedDesk::cancel_object);
-        self.slot = Some(Slot { value, metrics: Metrics::default(), number: reply.number, key });
+        };
+        self.held = Some(Held::Object);
+        kept.number = number;
+        self.kept = Some(kept);
         Ok(())
     }
 
     /// Makes an idle object ready to be handed out again. It is not if a hook or the manager refuses it or takes too long.
     async fn prepare(&mut self, timeout: Option<Duration>) -> Option<()> {
-        let (setup, slot) = (&self.pool.setup, self.slot.as_mut()?);
+        let (setup, kept) = (&self.pool.setup, self.kept.as_mut()?);
         for hook in &setup.hooks.pre_recycle {
-            hook.call(slot).await.ok()?;
+            hook.call(kept).await.ok()?;
         }
         let alarm = Alarm::after(timeout, setup.runtime)?;
-        in_time(alarm, pin!(setup.manager.recycle(&mut slot.value, &slot.metrics))).await?.ok()?;
+        let Kept { value, metrics, .. } = &mut **kept;
+        in_time(alarm, pin!(setup.manager.recycle(value, metrics))).await?.ok()?;
         for hook in &setup.hooks.post_recycle {
-            hook.call(slot).await.ok()?;
+            hook.call(kept).await.ok()?;
         }
-        slot.metrics.recycled_now();
+        kept.metrics.recycled_now();
         Some(())
     }
 
-    /// Makes a step that gives up what is held, with the object if there is one. What is held after it has this cancel.
-    fn give_up(&mut self, step: Step, cancel: Option<Step>) {
-        self.cancel = cancel;
-        let slot = self.slot.take();
-        self.pool.step(|state| {
-            slot.iter().for_each(|slot| state.idle.forget(slot.key));
-            step(&mut state.desk)
-        });
-        if let Some(mut slot) = slot {
-            self.pool.setup.manager.detach(&mut slot.value);
+    /// Makes a step that gives up what is held, with the object if there is one, and holds this after it.
+    fn give_up(&mut self, step: &Step, held: Option<Held>) {
+        self.held = held;
+        let kept = self.kept.take();
+        self.pool.step(|state| state.desk.make(step, &mut None));
+        if let Some(mut kept) = kept {
+            self.pool.setup.manager.detach(&mut kept.value);
         }
     }
 }
 
 impl<M: Manager> Drop for Get<'_, M> {
     fn drop(&mut self) {
-        if let Some(cancel) = self.cancel {
-            self.give_up(cancel, None);
+        if let Some(held) = self.held {
+            self.give_up(&Step::Cancel(held), None);
         }
     }
 }

@@ -1,5 +1,5 @@
 //! Code of a user's that sees each object at a point of its life, and may refuse it.
-use super::object::Slot;
+use super::object::Kept;
 use super::{HookError, Manager, Metrics};
 use std::fmt;
 use std::future::Future;
@@ -17,6 +17,33 @@ type AsyncFn<M> =
     dyn for<'a> Fn(&'a mut <M as Manager>::Type, &'a Metrics) -> HookFuture<'a, <M as Manager>::Error> + Sync + Send;
 
 /// A hook, which sees an object and what is known of its past.
+///
+/// ```
+/// # use deadpool::managed::{Manager, Metrics, RecycleResult};
+/// # use std::convert::Infallible;
+/// # struct Lists;
+/// # impl Manager for Lists {
+/// #     type Type = Vec<u64>;
+/// #     type Error = Infallible;
+/// #     async fn create(&self) -> Result<Vec<u64>, Infallible> { Ok(Vec::new()) }
+/// #     async fn recycle(&self, _: &mut Vec<u64>, _: &Metrics) -> RecycleResult<Infallible> { Ok(()) }
+/// # }
+/// use deadpool::managed::{Hook, HookError, Object, Pool};
+///
+/// # let example = async {
+/// let spent = Hook::sync_fn(|_, metrics: &Metrics| match metrics.recycle_count {
+///     0 => Ok(()),
+///     _ => Err(HookError::message("was used twice")),
+/// });
+/// let pool: Pool<Lists> = Pool::builder(Lists).pre_recycle(spent).build().expect("a pool");
+/// for _ in 0..2 {
+///     assert_eq!(pool.get().await.expect("a list").len(), 0);
+/// }
+/// // The third is a new one.
+/// assert_eq!(Object::metrics(&pool.get().await.expect("a list")).recycle_count, 0);
+/// # };
+/// # assert!(std::pin::pin!(example).poll(&mut std::task::Context::from_waker(std::task::Waker::noop())).is_ready());
+/// ```
 pub enum Hook<M: Manager> {
     /// One that ends at once.
     Fn(Box<SyncFn<M>>),
@@ -38,10 +65,10 @@ impl<M: Manager> Hook<M> {
     }
 
     /// The hook sees an object.
-    pub(super) async fn call(&self, slot: &mut Slot<M>) -> HookResult<M::Error> {
+    pub(super) async fn call(&self, kept: &mut Kept<M>) -> HookResult<M::Error> {
         match self {
-            Hook::Fn(f) => f(&mut slot.value, &slot.metrics),
-            Hook::AsyncFn(f) => f(&mut slot.value, &slot.metrics).await,
+            Hook::Fn(f) => f(&mut kept.value, &kept.metrics),
+            Hook::AsyncFn(f) => f(&mut kept.value, &kept.metrics).await,
         }
     }
 }

@@ -7,6 +7,30 @@ use std::time::{Duration, Instant};
 pub type RecycleResult<E> = Result<(), RecycleError<E>>;
 
 /// Makes the objects of a pool, and says of each that came back whether it can be used again.
+///
+/// ```
+/// use deadpool::managed::{Manager, Metrics, RecycleError, RecycleResult};
+/// use std::io::Error;
+/// use std::net::{Ipv4Addr, UdpSocket};
+///
+/// struct Sockets;
+///
+/// impl Manager for Sockets {
+///     type Type = UdpSocket;
+///     type Error = Error;
+///
+///     async fn create(&self) -> Result<UdpSocket, Error> {
+///         UdpSocket::bind((Ipv4Addr::LOCALHOST, 0))
+///     }
+///
+///     async fn recycle(&self, socket: &mut UdpSocket, _: &Metrics) -> RecycleResult<Error> {
+///         match socket.take_error()? {
+///             None => Ok(()),
+///             Some(error) => Err(RecycleError::Backend(error)),
+///         }
+///     }
+/// }
+/// ```
 pub trait Manager: Sync + Send {
     /// The values of the objects.
     type Type: Send;

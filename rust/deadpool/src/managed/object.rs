@@ -1,62 +1,78 @@
 //! An object that is out.
-use super::{Manager, Metrics, Pool, Shared};
+use super::{Manager, Metrics, ObjectId, Pool, Shared};
+use crate::cores::desk::{self, Desk, Moment, Reply, Slot, Step};
 use crate::lends::lends_value;
-use crate::sys::{DETACH, KEPT};
+use crate::parcel::{Boxed, Parcel};
 use std::fmt;
 use std::sync::Arc;
 
-/// An object with its number in the pool and its key in the table.
-pub(super) struct Slot<M: Manager> {
+/// A value, with what is known of it.
+pub(super) struct Kept<M: Manager> {
     pub(super) value: M::Type,
     pub(super) metrics: Metrics,
     pub(super) number: usize,
-    pub(super) key: u64,
 }
 
-/// The number of an object in its pool. No other object of the pool ever has it.
-#[derive(Clone, Copy, Debug, PartialEq, Eq, PartialOrd, Ord, Hash)]
-pub struct ObjectId(usize);
-
-impl fmt::Display for ObjectId {
-    fn fmt(&self, f: &mut fmt::Formatter<'_>) -> fmt::Result {
-        self.0.fmt(f)
-    }
+/// The object in a hand after a step.
+#[inline]
+pub(super) fn in_hand<M: Manager>(hand: Option<Slot<Parcel<Kept<M>>>>) -> Option<Boxed<Kept<M>>> {
+    hand.and_then(|slot| slot.value.take())
 }
 
 /// An object that is out. Its drop gives it back to the pool.
+///
+/// ```
+/// # use deadpool::managed::{Manager, Metrics, RecycleResult};
+/// # use std::convert::Infallible;
+/// # struct Lists;
+/// # impl Manager for Lists {
+/// #     type Type = Vec<u64>;
+/// #     type Error = Infallible;
+/// #     async fn create(&self) -> Result<Vec<u64>, Infallible> { Ok(Vec::new()) }
+/// #     async fn recycle(&self, _: &mut Vec<u64>, _: &Metrics) -> RecycleResult<Infallible> { Ok(()) }
+/// # }
+/// use deadpool::managed::{Object, Pool};
+///
+/// # let example = async {
+/// let pool: Pool<Lists> = Pool::builder(Lists).max_size(2).build().expect("a pool");
+/// let kept: Vec<u64> = Object::take(pool.get().await.expect("a list"));
+/// assert_eq!((kept.len(), pool.status().size), (0, 0));
+/// drop(pool.get().await.expect("a list"));
+/// assert_eq!((pool.status().size, pool.status().available), (1, 1));
+/// # };
+/// # assert!(std::pin::pin!(example).poll(&mut std::task::Context::from_waker(std::task::Waker::noop())).is_ready());
+/// ```
 #[must_use]
 pub struct Object<M: Manager> {
     /// It is there until the object is taken or dropped.
-    pub(super) slot: Option<Slot<M>>,
+    pub(super) kept: Option<Boxed<Kept<M>>>,
     pub(super) pool: Arc<Shared<M>>,
 }
 
 impl<M: Manager> Object<M> {
-    fn slot(&self) -> &Slot<M> {
-        self.slot.as_ref().expect("an object has its value")
+    fn kept(&self) -> &Kept<M> {
+        self.kept.as_ref().expect("an object has its value")
     }
 
     /// Takes the value out of the pool for good. Its place is free.
+    #[must_use]
     pub fn take(mut this: Self) -> M::Type {
-        let mut slot = this.slot.take().expect("an object has its value");
-        let reply = this.pool.step(|state| {
-            state.idle.forget(slot.key);
-            state.desk.take()
-        });
-        if reply.kind == DETACH {
-            this.pool.setup.manager.detach(&mut slot.value);
+        let mut kept = this.kept.take().expect("an object has its value");
+        let reply = this.pool.step(|state| state.desk.make(&Step::Take, &mut None));
+        if let Reply::Taken { detach: true } = reply {
+            this.pool.setup.manager.detach(&mut kept.value);
         }
-        slot.value
+        kept.open().value
     }
 
     /// Its number.
     pub fn id(this: &Self) -> ObjectId {
-        ObjectId(this.slot().number)
+        ObjectId::new(this.kept().number)
     }
 
     /// What is known of its past.
     pub fn metrics(this: &Self) -> &Metrics {
-        &this.slot().metrics
+        &this.kept().metrics
     }
 
     /// Its pool, if that has a handle left.
@@ -66,28 +82,26 @@ impl<M: Manager> Object<M> {
 }
 
 impl<M: Manager> Drop for Object<M> {
-    /// What is not kept is dropped after this, without the lock.
+    /// What is not kept is dropped here, without the lock.
     fn drop(&mut self) {
-        let Some(Slot { number, key, .. }) = self.slot else { return };
-        let reply = self.pool.step(|state| {
-            let reply = state.desk.back(number, key);
-            state.idle.settle(key, &mut self.slot, reply.kind == KEPT);
-            reply
-        });
-        if let (DETACH, Some(slot)) = (reply.kind, &mut self.slot) {
-            self.pool.setup.manager.detach(&mut slot.value);
+        let Some(kept) = self.kept.take() else { return };
+        let metrics = desk::Metrics::new(Moment(0));
+        let mut hand = Some(Slot { number: kept.number, value: Parcel::of(kept), metrics });
+        let reply = self.pool.step(|state| state.desk.make(&Step::Back, &mut hand));
+        if let (Reply::Detach, Some(mut kept)) = (reply, in_hand(hand)) {
+            self.pool.setup.manager.detach(&mut kept.value);
         }
     }
 }
 
-lends_value!([M: Manager] Object<M> => M::Type, in slot.value);
+lends_value!([M: Manager] Object<M> => M::Type, in kept.value);
 
 impl<M: Manager> fmt::Debug for Object<M>
 where
     M::Type: fmt::Debug,
 {
     fn fmt(&self, f: &mut fmt::Formatter<'_>) -> fmt::Result {
-        let slot = self.slot();
-        f.debug_struct("Object").field("id", &slot.number).field("value", &slot.value).finish_non_exhaustive()
+        let kept = self.kept();
+        f.debug_struct("Object").field("id", &kept.number).field("value", &kept.value).finish_non_exhaustive()
     }
 }

@@ -1,8 +1,10 @@
 //! A handle of a pool.
 use super::get::Get;
-use super::{Handle, Journal, Manager, Metrics, Object, OutOfMemory, PoolBuilder, PoolError, Shared, State, Timeouts};
+use super::object::Kept;
+use super::{Handle, Journal, Manager, Metrics, Object, OutOfMemory, PoolBuilder, PoolError, Shared, Timeouts};
 use crate::Status;
-use crate::sys::Desk;
+use crate::cores::desk::{self, OwnerDesk, Retainer};
+use crate::parcel::Parcel;
 use std::fmt;
 use std::marker::PhantomData;
 use std::sync::{Arc, Weak};
@@ -22,7 +24,41 @@ impl<T> Default for RetainResult<T> {
     }
 }
 
+/// What a predicate has said of the idle objects, front to back.
+struct Choice(std::vec::IntoIter<bool>);
+
+impl<M: Manager> Retainer<Parcel<Kept<M>>> for Choice {
+    fn keeps(&mut self, _: usize, _: &Parcel<Kept<M>>, _: &desk::Metrics) -> bool {
+        self.0.next().unwrap_or(true)
+    }
+
+    fn detach(&mut self, _: &mut Parcel<Kept<M>>) {}
+}
+
 /// A handle of a pool, which hands its objects out as `W`. With the last handle the idle objects are dropped.
+///
+/// ```
+/// # use deadpool::managed::{Manager, Metrics, RecycleResult};
+/// # use std::convert::Infallible;
+/// # struct Lists;
+/// # impl Manager for Lists {
+/// #     type Type = Vec<u64>;
+/// #     type Error = Infallible;
+/// #     async fn create(&self) -> Result<Vec<u64>, Infallible> { Ok(Vec::new()) }
+/// #     async fn recycle(&self, _: &mut Vec<u64>, _: &Metrics) -> RecycleResult<Infallible> { Ok(()) }
+/// # }
+/// use deadpool::managed::{Pool, PoolError};
+///
+/// # let example = async {
+/// let pool: Pool<Lists> = Pool::builder(Lists).max_size(1).build().expect("a pool");
+/// let list = pool.get().await.expect("a list");
+/// assert_eq!(pool.status().available, 0);
+/// drop(list);
+/// pool.close();
+/// assert!(matches!(pool.get().await, Err(PoolError::Closed)));
+/// # };
+/// # assert!(std::pin::pin!(example).poll(&mut std::task::Context::from_waker(std::task::Waker::noop())).is_ready());
+/// ```
 pub struct Pool<M: Manager, W: From<Object<M>> = Object<M>> {
     shared: Handle<M>,
     wrapper: PhantomData<fn() -> W>,
@@ -39,8 +75,7 @@ impl<M: Manager, W: From<Object<M>>> Pool<M, W> {
     }
 
     pub(super) fn upgrade(shared: &Arc<Shared<M>>) -> Option<Self> {
-        let is_left = shared.look().desk.upgrade();
-        is_left.then(|| Pool::of(Handle { shared: shared.clone() }))
+        Some(Pool::of(Handle::upgrade(shared, OwnerDesk::upgrade)?))
     }
 
     /// An object, within the pool's timeouts.
@@ -58,8 +93,8 @@ impl<M: Manager, W: From<Object<M>>> Pool<M, W> {
     ///
     /// As of [`Pool::get`].
     pub async fn timeout_get(&self, timeouts: &Timeouts) -> Result<W, PoolError<M::Error>> {
-        let slot = Get::within(&self.shared, timeouts).await?;
-        Ok(Object { slot, pool: Arc::clone(&self.shared) }.into())
+        let kept = Get::within(&self.shared, timeouts).await?;
+        Ok(Object { kept, pool: Arc::clone(&self.shared) }.into())
     }
 
     /// Sets the limit of an open pool. The idle objects above it are dropped, the one that came back first before the others.
@@ -77,8 +112,8 @@ impl<M: Manager, W: From<Object<M>>> Pool<M, W> {
     ///
     /// A limit above all before it needs memory. If none is found nothing has changed.
     pub fn try_resize(&self, max_size: usize) -> Result<(), OutOfMemory> {
-        let (_gone, reply) = self.shared.give_up(|desk, keys| desk.resize(max_size, keys));
-        reply.done().map(drop).ok_or(OutOfMemory)
+        // (one that needs memory drops none)
+        self.shared.give_up(|desk| desk.surplus(max_size), |desk| desk.resize(max_size)).map_err(|_| OutOfMemory)
     }
 
     /// Gives up the idle objects of which the predicate, which is asked about each, says no. It is asked under the lock, so
@@ -100,18 +135,18 @@ impl<M: Manager, W: From<Object<M>>> Pool<M, W> {
         &self,
         mut predicate: impl FnMut(&M::Type, Metrics) -> bool,
     ) -> Result<RetainResult<M::Type>, OutOfMemory> {
-        let (mut gone, reply) = self.shared.step(|State { desk, idle, .. }| {
+        let given = self.shared.step(|state| {
             let mut keep = Vec::new();
-            while let Some(reply) = desk.key(keep.len()).done() {
+            while let Some(slot) = state.desk.idle_at(keep.len()) {
                 keep.try_reserve(1).map_err(|_| OutOfMemory)?;
-                let is_kept = idle.get(reply.key).is_some_and(|slot| predicate(&slot.value, slot.metrics));
-                keep.push(u8::from(is_kept));
+                let is_kept = slot.value.lend(|kept| predicate(&kept.value, kept.metrics));
+                keep.push(is_kept.unwrap_or_default());
             }
-            Ok(idle.give_up(|keys| desk.retain(&keep, keys)))
+            state.desk.retain(&mut Choice(keep.into_iter())).map_err(|_| OutOfMemory)
         })?;
-        let retained = reply.done().ok_or(OutOfMemory)?.left;
-        gone.iter_mut().for_each(|slot| self.shared.setup.manager.detach(&mut slot.value));
-        Ok(RetainResult { retained, removed: gone.into_iter().map(|slot| slot.value).collect() })
+        let mut gone: Vec<_> = given.removed.into_iter().filter_map(|parcel| parcel.take()).collect();
+        gone.iter_mut().for_each(|kept| self.shared.setup.manager.detach(&mut kept.value));
+        Ok(RetainResult { retained: given.retained, removed: gone.into_iter().map(|kept| kept.open().value).collect() })
     }
 
     /// The timeouts that the pool was built with.
@@ -142,17 +177,18 @@ impl<M: Manager, W: From<Object<M>>> Pool<M, W> {
     }
 
     /// A reference that is no handle.
-    pub fn weak(&self) -> WeakPool<M, W> {
-        WeakPool { shared: Arc::downgrade(&self.shared), wrapper: PhantomData }
+    pub fn weak(&self) -> WeakPool<M> {
+        WeakPool { shared: Arc::downgrade(&*self.shared), wrapper: PhantomData }
     }
 
     /// The steps that the pool has made, of which [`PoolBuilder::journal`] says how many are noted.
     pub fn journal(&self) -> Journal {
-        Journal::read(&mut self.shared.look().desk)
+        Journal::read(&self.shared.look().desk)
     }
 }
 
 impl<M: Manager, W: From<Object<M>>> Clone for Pool<M, W> {
+    #[inline]
     fn clone(&self) -> Self {
         Pool::of(self.shared.clone())
     }

@@ -1,6 +1,6 @@
 //! What a backend gives on under its own name, so that its users need not depend on this crate.
-pub use super::{Metrics, ObjectId, PoolConfig, QueueMode, Status, TimeoutType, Timeouts};
-pub use crate::Runtime;
+pub use super::{Metrics, ObjectId, PoolConfig, Status, TimeoutType, Timeouts};
+pub use crate::{Runtime, Sleep, Timers};
 
 /// Names the types of a backend's pools: by its own name, its manager, what its pools hand out, and the errors of its manager and of
 /// its configuration. It stands in a module of the backend, for its users.
@@ -8,8 +8,9 @@ pub use crate::Runtime;
 macro_rules! managed_reexports {
     ($backend:literal, $manager:ty, $wrapper:ty, $error:ty, $config_error:ty) => {
         $crate::managed_reexports! { of $backend {
-            Pool<$manager, $wrapper>; PoolBuilder<$manager, $wrapper>; Object<$manager>; Hook<$manager>;
-            PoolError<$error>; HookError<$error>; BuildError<>; CreatePoolError<$config_error>;
+            Pool<$manager, $wrapper>; WeakPool<$manager, $wrapper>; PoolBuilder<$manager, $wrapper>; Object<$manager>;
+            Hook<$manager>; PoolError<$error>; HookError<$error>; BuildError<>; CreatePoolError<$config_error>;
+            QueueMode<>;
         } }
     };
     (of $backend:literal { $($name:ident<$($of:ty),*>;)* }) => {

@@ -1,17 +1,18 @@
 //! What a pool is opened with, and why its calls are refused.
 use crate::errors::error_texts;
-use crate::managed;
 use crate::runtime::Runtime;
 use std::time::Duration;
 
 /// How many objects there may be, and how long a get waits.
 #[derive(Clone, Copy, Debug)]
+#[cfg_attr(feature = "serde", derive(serde::Deserialize, serde::Serialize))]
 pub struct PoolConfig {
     /// The greatest number of objects.
     pub max_size: usize,
     /// How long a get waits; none is without an end. Zero is not to wait, and needs no runtime.
     pub timeout: Option<Duration>,
     /// Where the pool has its timers from.
+    #[cfg_attr(feature = "serde", serde(skip))]
     pub runtime: Option<Runtime>,
 }
 
@@ -26,7 +27,7 @@ impl PoolConfig {
 /// Twice as many objects as there are processors.
 impl Default for PoolConfig {
     fn default() -> Self {
-        PoolConfig::new(managed::PoolConfig::default().max_size)
+        PoolConfig::new(crate::shared::usual_size())
     }
 }
 
@@ -39,7 +40,7 @@ pub enum PoolError {
     Closed,
     /// A wait above zero is set, and there is no runtime.
     NoRuntimeSpecified,
-    /// The entry in the queue, its waker or the object's place in the table found no memory.
+    /// The entry in the queue, its waker or the object's box found no memory.
     OutOfMemory,
 }
 

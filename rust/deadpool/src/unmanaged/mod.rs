@@ -1,5 +1,15 @@
 //! A pool of objects that its users add.
-#![forbid(unsafe_code)]
+//!
+//! ```
+//! use deadpool::unmanaged::{Pool, PoolError};
+//!
+//! let pool = Pool::from(["a letter"]);
+//! let letter = pool.try_get()?;
+//! assert!(matches!(pool.try_get(), Err(PoolError::Timeout)));
+//! drop(letter);
+//! assert_eq!(pool.try_remove()?, "a letter");
+//! # Ok::<(), PoolError>(())
+//! ```
 
 mod config;
 mod object;
@@ -9,3 +19,8 @@ pub use crate::Status;
 pub use config::{PoolConfig, PoolError};
 pub use object::Object;
 pub use pool::Pool;
+
+use crate::cores::unmanaged;
+use crate::parcel::Parcel;
+
+type Core<T> = unmanaged::Core<Parcel<T>>;

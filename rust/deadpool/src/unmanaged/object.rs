@@ -1,8 +1,9 @@
 //! An object that is out.
-use super::PoolConfig;
+use super::{Core, PoolConfig};
+use crate::cores::unmanaged::BackReply;
 use crate::lends::lends_value;
+use crate::parcel::{Boxed, Parcel};
 use crate::shared::Shared;
-use crate::sys::{KEPT, UnmanagedDesk};
 use std::fmt;
 use std::sync::Arc;
 
@@ -10,32 +11,27 @@ use std::sync::Arc;
 #[must_use]
 pub struct Object<T> {
     /// It is there until the object is taken or dropped.
-    pub(super) value: Option<T>,
-    pub(super) key: u64,
-    pub(super) pool: Arc<Shared<PoolConfig, UnmanagedDesk, T>>,
+    pub(super) value: Option<Boxed<T>>,
+    pub(super) pool: Arc<Shared<PoolConfig, Core<T>>>,
 }
 
 impl<T> Object<T> {
     /// Takes the value out of the pool for good. There is room for another one.
+    #[must_use]
     pub fn take(mut this: Self) -> T {
         let value = this.value.take().expect("an object has its value");
-        this.pool.step(|state| {
-            state.desk.take();
-            state.idle.forget(this.key);
-        });
-        value
+        this.pool.step(|state| state.desk.take());
+        value.open()
     }
 }
 
 impl<T> Drop for Object<T> {
-    /// What is not kept is dropped after this, without the lock.
+    /// What is not kept is dropped here, without the lock.
     fn drop(&mut self) {
-        let Object { value, key, pool } = self;
-        if value.is_some() {
-            pool.step(|state| {
-                let is_kept = state.desk.back(*key).kind == KEPT;
-                state.idle.settle(*key, value, is_kept);
-            });
+        let Some(value) = self.value.take() else { return };
+        match self.pool.step(|state| state.desk.back(Parcel::of(value))) {
+            BackReply::Kept => (),
+            BackReply::Dropped(parcel) | BackReply::Unknown(parcel) => drop(parcel.take()),
         }
     }
 }

@@ -1,17 +1,19 @@
 //! A handle of a pool.
-use super::{Object, PoolConfig, PoolError};
+use super::{Core, Object, PoolConfig, PoolError};
 use crate::Status;
-use crate::shared::{Handle, State};
-use crate::sys::{Desk, EXPIRED, FULL, OBJECT, OUT_OF_MEMORY, Reply, STORED, UnmanagedDesk};
+use crate::cores::unmanaged::{AddAskReply, AddEnterReply, GetAskReply, GetEnterReply};
+use crate::parcel::{Boxed, Parcel};
+use crate::rattle::Global;
+use crate::shared::Handle;
 use crate::timed::Alarm;
-use crate::waiting::Waiting;
+use crate::waiting::{Asked, Turn, Waiting};
 use std::fmt;
 use std::sync::Arc;
 use std::time::Duration;
 
 /// A handle of a pool. With the last one the idle objects are dropped.
 pub struct Pool<T> {
-    shared: Handle<PoolConfig, UnmanagedDesk, T>,
+    shared: Handle<PoolConfig, Core<T>>,
 }
 
 impl<T> Pool<T> {
@@ -20,6 +22,7 @@ impl<T> Pool<T> {
     /// # Panics
     ///
     /// If no memory is found for them, as [`Pool::try_from_config`] tells.
+    #[must_use]
     pub fn new(max_size: usize) -> Self {
         Pool::from_config(&PoolConfig::new(max_size))
     }
@@ -29,6 +32,7 @@ impl<T> Pool<T> {
     /// # Panics
     ///
     /// As [`Pool::new`].
+    #[must_use]
     pub fn from_config(config: &PoolConfig) -> Self {
         Pool::try_from_config(config).expect("memory for a pool")
     }
@@ -39,8 +43,8 @@ impl<T> Pool<T> {
     ///
     /// `OutOfMemory`, if no memory is found for as many objects.
     pub fn try_from_config(config: &PoolConfig) -> Result<Self, PoolError> {
-        let desk = UnmanagedDesk::new(config.max_size).ok_or(PoolError::OutOfMemory)?;
-        Ok(Pool { shared: Handle::new(*config, desk) })
+        let desk = Core::new(Global, config.max_size).map_err(|_| PoolError::OutOfMemory)?;
+        Ok(Pool { shared: Handle::new(*config, desk, false) })
     }
 
     /// An object, within the configured timeout.
@@ -58,11 +62,10 @@ impl<T> Pool<T> {
     ///
     /// `Timeout` if none is.
     pub fn try_get(&self) -> Result<Object<T>, PoolError> {
-        let given = self.shared.step(|state| {
-            let reply = state.desk.enter(false);
-            handed_out(state, reply)
-        });
-        given.map(|given| self.object(given))
+        match self.shared.step(|state| got(&mut state.desk, false, None)) {
+            Turn::Ended(got) => Ok(self.object(got?)),
+            Turn::Waits(_) => Err(PoolError::Timeout),
+        }
     }
 
     /// An object, within this timeout.
@@ -75,12 +78,14 @@ impl<T> Pool<T> {
             return self.try_get();
         }
         let alarm = Alarm::after(timeout, self.shared.setup.runtime).ok_or(PoolError::NoRuntimeSpecified)?;
-        let given = self.shared.get(true, alarm, handed_out).await;
-        given.map(|given| self.object(given))
+        let cancel = |desk: &mut Core<T>, ticket| _ = desk.get_cancel(ticket);
+        let get = Waiting { pool: &self.shared, wakers: |state| &mut state.gets, cancel, ticket: None };
+        let got = get.ask(alarm, |desk, asked| got(desk, true, asked), || Err(PoolError::OutOfMemory)).await;
+        Ok(self.object(got?))
     }
 
-    fn object(&self, (key, value): (u64, Option<T>)) -> Object<T> {
-        Object { value, key, pool: Arc::clone(&self.shared) }
+    fn object(&self, value: Option<Boxed<T>>) -> Object<T> {
+        Object { value, pool: Arc::clone(&self.shared) }
     }
 
     /// Adds an object, once there is room.
@@ -89,17 +94,23 @@ impl<T> Pool<T> {
     ///
     /// The object, if the pool has closed or no memory is found.
     pub async fn add(&self, object: T) -> Result<(), (T, PoolError)> {
-        let (pool, cancel) = (&*self.shared, UnmanagedDesk::add_cancel);
-        let add = Waiting { pool, wakers: |state| &mut state.adds, cancel, ticket: None };
-        let mut value = Some(object);
-        let step = |state: &mut State<_, _>, asked| {
-            store(state, &mut value, |desk, key| match asked {
-                Some((ticket, _)) => desk.add_ask(ticket, key),
-                None => desk.add_enter(key, true),
+        let cancel = |desk: &mut Core<T>, ticket| _ = desk.add_cancel(ticket);
+        let add = Waiting { pool: &self.shared, wakers: |state| &mut state.adds, cancel, ticket: None };
+        let mut value = Some(Boxed::new(object).map_err(|object| (object, PoolError::OutOfMemory))?);
+        let step = |desk: &mut Core<T>, asked: Asked| {
+            stored(&mut value, |value| match asked {
+                Some((ticket, _)) => match desk.add_ask(ticket, value) {
+                    AddAskReply::Stored => (Turn::Ended(Ok(())), None),
+                    AddAskReply::Waiting(value) => (Turn::Waits(ticket), Some(value)),
+                    AddAskReply::Closed(value) | AddAskReply::Unknown(value) => {
+                        (Turn::Ended(Err(PoolError::Closed)), Some(value))
+                    }
+                },
+                None => entered(desk.add_enter(value, true)),
             })
         };
-        let reply = add.ask(Alarm::default(), step, |_, reply| reply).await;
-        added(value, reply)
+        let end = add.ask(Alarm::default(), step, || Err(PoolError::OutOfMemory)).await;
+        added(value, end)
     }
 
     /// Adds an object, if there is room.
@@ -108,9 +119,11 @@ impl<T> Pool<T> {
     ///
     /// The object, with `Timeout` if there is no room.
     pub fn try_add(&self, object: T) -> Result<(), (T, PoolError)> {
-        let mut value = Some(object);
-        let reply = self.shared.step(|state| store(state, &mut value, |desk, key| desk.add_enter(key, false)));
-        added(value, reply)
+        let mut value = Some(Boxed::new(object).map_err(|object| (object, PoolError::OutOfMemory))?);
+        match self.shared.step(|state| stored(&mut value, |value| entered(state.desk.add_enter(value, false)))) {
+            Turn::Ended(end) => added(value, end),
+            Turn::Waits(_) => Ok(()),
+        }
     }
 
     /// Takes an object out for good, as [`Pool::get`] and [`Object::take`].
@@ -157,17 +170,23 @@ impl<T> Pool<T> {
     }
 }
 
-/// A pool in which these objects are idle, with room for no more.
+/// A pool in which these objects are idle, with room for no more. It panics if no memory is found, as [`Pool::new`].
 impl<T, I> From<I> for Pool<T>
 where
     I: IntoIterator<Item = T>,
     I::IntoIter: ExactSizeIterator,
 {
     fn from(objects: I) -> Self {
-        let mut objects = objects.into_iter();
+        let objects = objects.into_iter();
         let pool = Pool::new(objects.len());
-        // (one that says fewer than it has ends with the first that finds no room)
-        let _ = objects.try_for_each(|object| pool.try_add(object));
+        for object in objects {
+            match pool.try_add(object) {
+                Ok(()) => {}
+                Err((_, PoolError::OutOfMemory)) => panic!("no memory for an object"),
+                // (the iterator has more than it said)
+                Err(_) => break,
+            }
+        }
         pool
     }
 }
@@ -190,37 +209,52 @@ impl<T> fmt::Debug for Pool<T> {
     }
 }
 
-/// The object that a reply hands out: its key and its value.
-fn handed_out<T>(state: &mut State<UnmanagedDesk, T>, reply: Reply) -> Result<(u64, Option<T>), PoolError> {
-    match reply.kind {
-        OBJECT => Ok((reply.key, state.idle.take(reply.key))),
-        _ => Err(refusal(reply)),
+/// A get enters, or asks with its ticket. It is given an object, waits if it may, or is refused.
+#[inline]
+fn got<T>(desk: &mut Core<T>, may_wait: bool, asked: Asked) -> Turn<Result<Option<Boxed<T>>, PoolError>> {
+    Turn::Ended(match asked {
+        None => match desk.get_enter(may_wait) {
+            GetEnterReply::Object(parcel) => Ok(parcel.take()),
+            GetEnterReply::Waiting(ticket) => return Turn::Waits(ticket),
+            GetEnterReply::Full => Err(PoolError::Timeout),
+            GetEnterReply::Closed => Err(PoolError::Closed),
+            GetEnterReply::OutOfMemory => Err(PoolError::OutOfMemory),
+        },
+        Some((ticket, is_late)) => match desk.get_ask(ticket, is_late) {
+            GetAskReply::Object(parcel) => Ok(parcel.take()),
+            GetAskReply::Waiting => return Turn::Waits(ticket),
+            GetAskReply::Expired => Err(PoolError::Timeout),
+            GetAskReply::Closed | GetAskReply::Unknown => Err(PoolError::Closed),
+        },
+    })
+}
+
+/// How a step of an add ends.
+type Added = Turn<Result<(), PoolError>>;
+
+/// Makes a step of an add, which stores the value or gives it back.
+fn stored<T>(value: &mut Option<Boxed<T>>, step: impl FnOnce(Parcel<T>) -> (Added, Option<Parcel<T>>)) -> Added {
+    let Some(given) = value.take() else { return Turn::Ended(Ok(())) };
+    let (turn, back) = step(Parcel::of(given));
+    *value = back.and_then(|parcel| parcel.take());
+    turn
+}
+
+/// How a new add has ended, and its value if that comes back.
+fn entered<T>(reply: AddEnterReply<Parcel<T>>) -> (Added, Option<Parcel<T>>) {
+    match reply {
+        AddEnterReply::Stored => (Turn::Ended(Ok(())), None),
+        AddEnterReply::Waiting(ticket, value) => (Turn::Waits(ticket), Some(value)),
+        AddEnterReply::Full(value) => (Turn::Ended(Err(PoolError::Timeout)), Some(value)),
+        AddEnterReply::Closed(value) => (Turn::Ended(Err(PoolError::Closed)), Some(value)),
+        AddEnterReply::OutOfMemory(value) => (Turn::Ended(Err(PoolError::OutOfMemory)), Some(value)),
     }
 }
 
-/// Makes a step of an add, which stores the value or leaves it.
-fn store<T>(
-    state: &mut State<UnmanagedDesk, T>,
-    value: &mut Option<T>,
-    step: impl FnOnce(&mut UnmanagedDesk, u64) -> Reply,
-) -> Reply {
-    let Ok(key) = state.idle.new_key() else {
-        return Reply { kind: OUT_OF_MEMORY, ..Reply::default() };
-    };
-    let reply = step(&mut state.desk, key);
-    state.idle.settle(key, value, reply.kind == STORED);
-    reply
-}
-
 /// How an add has ended. A value that is left was refused.
-fn added<T>(value: Option<T>, reply: Reply) -> Result<(), (T, PoolError)> {
-    value.map_or(Ok(()), |value| Err((value, refusal(reply))))
-}
-
-fn refusal(reply: Reply) -> PoolError {
-    match reply.kind {
-        FULL | EXPIRED => PoolError::Timeout,
-        OUT_OF_MEMORY => PoolError::OutOfMemory,
-        _ => PoolError::Closed,
+fn added<T>(value: Option<Boxed<T>>, end: Result<(), PoolError>) -> Result<(), (T, PoolError)> {
+    match (value, end) {
+        (Some(value), Err(refusal)) => Err((value.open(), refusal)),
+        _ => Ok(()),
     }
 }

@@ -54,6 +54,19 @@ impl Wake for Count {
     }
 }
 
+/// As the waker of a task whose executor has gone: its wake panics.
+struct Gone;
+
+impl Wake for Gone {
+    fn wake(self: Arc<Self>) {
+        panic!("the executor has gone");
+    }
+}
+
+pub fn gone() -> Waker {
+    Waker::from(Arc::new(Gone))
+}
+
 /// A future that is polled by hand.
 pub struct Task<'a, T> {
     future: Pin<Box<dyn Future<Output = T> + 'a>>,

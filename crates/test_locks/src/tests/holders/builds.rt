@@ -4,7 +4,8 @@ ghost use Rattle.std.specs.Prelude.{◌≡◌};
 
 use super::tracked::{Builder, Drops, Tracked, builder};
 use crate::tests::Host;
-use deadpool::managed::{Blanks, BuildError, Ledgers, NoHook, Pool};
+use deadpool_managed::{BuildError, NoHook};
+use deadpool_shared::{Blanks, Build, Ledgers, Pool};
 use std::marker::Brand;
 use std::test::Fail;
 use std::time::Duration;

@@ -4,8 +4,9 @@ ghost use Rattle.std.specs.Prelude.{◌≡◌};
 
 use super::tracked::{Drops, Tracked, builder};
 use crate::tests::Host;
-use deadpool::Runtime;
-use deadpool::managed::{Blanks, Get, Ledgers, NoHook, Object, Pool, Timeouts, WeakPool};
+use deadpool_managed::{NoHook, Timeouts};
+use deadpool_parts::Runtime;
+use deadpool_shared::{Blanks, Build, Get, Ledgers, Object, Pool, WeakPool};
 use futures::task::Poll;
 use futures::test::MockTask;
 use std::marker::Brand;

@@ -1,8 +1,7 @@
 //! What a pool is made of, each part of which counts its drop.
-use deadpool::managed::{
-    Hook, HookResult, Manager, Metrics, NoHook, PoolBuilder, RecycleResult, SyncHook,
-};
-use deadpool::{Clock, Moment};
+use deadpool_builder::PoolBuilder;
+use deadpool_managed::{Hook, HookResult, Manager, Metrics, NoHook, RecycleResult, SyncHook};
+use deadpool_parts::{Clock, Moment};
 use futures::task::{Context, Poll};
 use std::alloc::{AllocError, Global};
 use std::sync::Arc;

@@ -1,7 +1,7 @@
 //! The clock of an unmanaged pool goes with its last holder, whatever that is.
 use super::tracked::{Counter, Tracked};
 use crate::tests::Host;
-use deadpool::unmanaged::{Add, Get, Object, Pool, Remove};
+use deadpool_unmanaged_shared::{Add, Get, Object, Pool, Remove};
 use futures::test::MockTask;
 use std::sync::Arc;
 use std::sync::atomic::{AtomicUsize, Ordering};

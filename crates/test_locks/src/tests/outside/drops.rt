@@ -5,7 +5,7 @@ ghost use Rattle.std.specs.Prelude.{◌≡◌};
 use super::managed::{WatchedPool, builder, first_poll, take_lock};
 use super::watch::{Call, Watch, Watched, answer};
 use crate::tests::ThreadHost;
-use deadpool::managed::{Blanks, Ledgers};
+use deadpool_shared::{Blanks, Build, Ledgers};
 use futures::test::MockTask;
 use std::marker::Brand;
 use std::sync::atomic::Ordering;

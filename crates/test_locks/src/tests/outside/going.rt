@@ -5,7 +5,7 @@ ghost use Rattle.std.specs.Prelude.{◌≡◌};
 use super::managed::{WatchedObject, WatchedPool, builder, first_poll};
 use super::watch::{Call, Watch, Watched};
 use crate::tests::ThreadHost;
-use deadpool::managed::{Blanks, Ledgers};
+use deadpool_shared::{Blanks, Build, Ledgers};
 use futures::test::MockTask;
 use std::alloc::Global;
 use std::marker::Brand;

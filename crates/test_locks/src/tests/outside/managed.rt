@@ -1,10 +1,11 @@
 //! A managed pool whose user code is watched.
 use super::watch::{Call, SharedWatch, Tracked, Watch, Watched, WatchedClock};
-use deadpool::Runtime;
-use deadpool::managed::{
-    AsyncHook, Hook, HookError, HookResult, Ledgers, Manager, Metrics, Object, Pool, PoolBuilder,
-    RecycleError, RecycleResult, SyncHook, WeakPool,
+use deadpool_builder::PoolBuilder;
+use deadpool_managed::{
+    AsyncHook, Hook, HookError, HookResult, Manager, Metrics, RecycleError, RecycleResult, SyncHook,
 };
+use deadpool_parts::Runtime;
+use deadpool_shared::{Ledgers, Object, Pool, WeakPool};
 use futures::task::{Context, Poll};
 use futures::test::MockTask;
 use std::alloc::{AllocError, Global};

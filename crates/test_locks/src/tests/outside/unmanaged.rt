@@ -3,8 +3,9 @@
 use super::nap::{Nap, SharedNap, let_go, poll_in, slow_task, take_often};
 use super::watch::{Call, SharedWatch, Tracked, Watch, Watched, WatchedClock, answer};
 use crate::tests::ThreadHost;
-use deadpool::Runtime;
-use deadpool::unmanaged::{Object, Pool, PoolConfig};
+use deadpool_parts::Runtime;
+use deadpool_unmanaged::PoolConfig;
+use deadpool_unmanaged_shared::{Object, Pool};
 use futures::task::Solo;
 use futures::test::MockTask;
 use std::fs::Files;

@@ -1,5 +1,5 @@
 //! Calls of user code that wait until another thread has the pool's status.
-use deadpool::{Clock, Moment};
+use deadpool_parts::{Clock, Moment};
 use futures::task::Context;
 use std::alloc::{AllocError, Global};
 use std::sync::atomic::{AtomicBool, AtomicU64, AtomicUsize, Ordering};

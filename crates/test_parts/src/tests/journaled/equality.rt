@@ -1,9 +1,7 @@
 //! Two journals are equal only if each of their parts is.
 use crate::tests::expected::expect;
 use deadpool_journal::{Entry, Journal};
-use deadpool_managed::{
-    AgainReply, CreatedReply, EnterReply, QueueMode, Removal, Removals, Serving, StepReply,
-};
+use deadpool_managed::{QueueMode, Removal, Removals, Reply, Step};
 use std::alloc::{AllocError, Global};
 use std::test::Fail;
 
@@ -12,10 +10,21 @@ fn retained(alloc: Global, position: usize, number: usize) -> Result<Entry, Allo
     Ok(Entry::Retain(Ok(Removals::new(removals))))
 }
 
+// A step by which no object passes, with its reply.
+fn made(step: Step, reply: Reply) -> Entry {
+    Entry::Made(step, None, reply)
+}
+
+// A get that goes on is given an object, and may take so many more.
+fn again(number: usize, left: usize) -> Entry {
+    let step = Step::Again { allowance: None };
+    Entry::Made(step, Some(number), Reply::Object { left })
+}
+
 // A journal of two entries.
 fn journal(alloc: Global) -> Result<Journal, AllocError> {
     let entries = vec![in alloc;
-        Entry::Created(CreatedReply::Created(0)),
+        made(Step::Created, Reply::Number(0)),
         retained(alloc, 1, 0)?,
     ]?;
     Ok(Journal {
@@ -90,28 +99,26 @@ fn differ(entry: &Entry, other: &Entry) -> Result<(), Fail> {
 fn entries_that_differ_are_not_equal(rt: HostRuntime) -> Result<(), Fail> {
     let pairs = vec![in rt.alloc();
         (
-            Entry::Failed(StepReply::Done),
-            Entry::Failed(StepReply::Unknown)
+            made(Step::Failed, Reply::Done),
+            made(Step::Failed, Reply::Unknown)
         ),
         (
-            Entry::Failed(StepReply::Done),
-            Entry::Refused(StepReply::Done)
+            made(Step::Failed, Reply::Done),
+            made(Step::Refused, Reply::Done)
         ),
         (
-            Entry::Created(CreatedReply::Created(0)),
-            Entry::Created(CreatedReply::Created(1))
+            made(Step::Created, Reply::Number(0)),
+            made(Step::Created, Reply::Number(1))
         ),
         (
-            Entry::Enter(true, EnterReply::Closed),
-            Entry::Enter(false, EnterReply::Closed)
+            made(Step::Enter { wait: true }, Reply::Closed),
+            made(Step::Enter { wait: false }, Reply::Closed)
         ),
+        (again(4, 1), again(4, 2)),
+        (again(4, 1), again(3, 1)),
         (
-            Entry::Again(None, AgainReply::Served(Serving::Object(4, 1))),
-            Entry::Again(None, AgainReply::Served(Serving::Object(4, 2)))
-        ),
-        (
-            Entry::Again(None, AgainReply::Unknown),
-            Entry::Again(Some(0), AgainReply::Unknown)
+            made(Step::Again { allowance: None }, Reply::Unknown),
+            made(Step::Again { allowance: Some(0) }, Reply::Unknown)
         ),
         (
             Entry::Retain(Ok(Removals::new(Vec::new(rt.alloc())))),

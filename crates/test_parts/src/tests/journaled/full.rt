@@ -1,11 +1,8 @@
 //! A journal that is full.
-use super::object;
+use super::{back, make, object, reply};
 use crate::tests::expected::expect;
-use deadpool_journal::{Journal, Journaled, by_number};
-use deadpool_managed::{
-    BackReply, CreatedReply, Desk, EnterReply, HandleReply, Held, Metrics, OwnerDesk, QueueMode,
-    Retainer, Serving, StepReply, TakeReply,
-};
+use deadpool_journal::{Journal, Journaled};
+use deadpool_managed::{HandleReply, Metrics, OwnerDesk, QueueMode, Reply, Retainer, Step};
 use std::alloc::Global;
 use std::test::Fail;
 
@@ -30,7 +27,7 @@ fn full_journal(alloc: Global) -> Result<Journaled<u64>, Fail> {
 
 fn fill(pool: &mut Journaled<u64>) -> Result<(), Fail> {
     let slot = object(pool)?;
-    pool.back(slot);
+    back(pool, slot);
     pool.status();
     Ok(())
 }
@@ -67,24 +64,25 @@ fn gets_change_nothing(pool: &mut Journaled<u64>, journal: &Journal) -> Result<(
 
 // A get takes the idle object and gives it up, then creates another in vain.
 fn gives_up_the_idle_object(pool: &mut Journaled<u64>) -> Result<(), Fail> {
-    let is_served = matches!(pool.enter(true), EnterReply::Served(_));
-    let discarded = pool.discard();
-    pool.again(None);
+    let (entered, slot) = make(pool, Step::Enter { wait: true });
+    let is_served = matches!(entered, Reply::Object { .. }) && slot.is_some();
+    let discarded = reply(pool, Step::Discard);
+    make(pool, Step::Again { allowance: None });
     expect(
         "served, discarded and failed",
-        (is_served, discarded, pool.failed()),
-        (true, StepReply::Done, StepReply::Done),
+        (is_served, discarded, reply(pool, Step::Failed)),
+        (true, Reply::Done, Reply::Done),
     )
 }
 
 // The second has a new object refused.
 fn refuses_a_new_object(pool: &mut Journaled<u64>) -> Result<(), Fail> {
-    let is_served = matches!(pool.enter(false), EnterReply::Served(_));
-    let created = pool.created();
+    let entered = reply(pool, Step::Enter { wait: false });
+    let created = reply(pool, Step::Created);
     expect(
         "served, created and refused",
-        (is_served, created, pool.refused()),
-        (true, CreatedReply::Created(1), StepReply::Done),
+        (entered, created, reply(pool, Step::Refused)),
+        (Reply::Create, Reply::Number(1), Reply::Done),
     )
 }
 
@@ -92,12 +90,13 @@ fn refuses_a_new_object(pool: &mut Journaled<u64>) -> Result<(), Fail> {
 fn gives_up_while_it_waits(pool: &mut Journaled<u64>) -> Result<(), Fail> {
     object(pool)?;
     object(pool)?;
-    let EnterReply::Waiting(ticket) = pool.enter(true) else {
+    let Reply::Waiting(ticket) = reply(pool, Step::Enter { wait: true }) else {
         return Err(Fail::new("not queued"));
     };
-    pool.ask(ticket, false);
-    let cancelled = pool.cancel(Held::Ticket(ticket));
-    expect("cancelled", cancelled, StepReply::Done)
+    let expired = false;
+    reply(pool, Step::Ask { ticket, expired });
+    let cancelled = reply(pool, Step::Withdraw { ticket });
+    expect("cancelled", cancelled, Reply::Done)
 }
 
 #[test]
@@ -117,24 +116,26 @@ fn the_owner_changes_nothing(pool: &mut Journaled<u64>, journal: &Journal) -> Re
 }
 
 fn takes_the_idle_object(pool: &mut Journaled<u64>) -> Result<(), Fail> {
-    let entered = by_number::entering(&pool.enter(true));
+    let (entered, slot) = make(pool, Step::Enter { wait: true });
+    let number = slot.map(|slot| slot.number);
     expect(
-        "entered and taken",
-        (entered, pool.take()),
+        "entered, with which object, and taken",
+        (entered, number, reply(pool, Step::Take)),
         (
-            EnterReply::Served(Serving::Object(0, 0)),
-            TakeReply::Taken { detach: true },
+            Reply::Object { left: 0 },
+            Some(0),
+            Reply::Taken { detach: true },
         ),
     )
 }
 
 fn keeps_a_new_object(pool: &mut Journaled<u64>) -> Result<(), Fail> {
     let slot = object(pool)?;
-    let back = by_number::coming_back(&pool.back(slot));
+    let back = back(pool, slot);
     expect(
         "what came back, and how many are available",
         (back, pool.status().available),
-        (BackReply::Kept, 1),
+        ((Reply::Kept, None), 1),
     )
 }
 

@@ -1,9 +1,9 @@
 //! The journal of a get that creates an object, which comes back: with more room than its six steps take, with just enough,
 //! with too little, and with none.
-use super::object;
+use super::{back, object};
 use crate::tests::expected::expect;
-use deadpool_journal::{Journal, Journaled, by_number};
-use deadpool_managed::{BackReply, Desk, OwnerDesk, QueueMode};
+use deadpool_journal::{Journal, Journaled};
+use deadpool_managed::{OwnerDesk, QueueMode, Reply};
 use std::alloc::Global;
 use std::test::Fail;
 
@@ -12,9 +12,9 @@ fn get_and_return(pool: &mut Journaled<u64>) -> Result<(), Fail> {
     pool.clone_handle();
     let slot = object(pool)?;
     pool.drop_handle();
-    let back = by_number::coming_back(&pool.back(slot));
+    let back = back(pool, slot);
     pool.status();
-    expect("what came back", back, BackReply::Kept)
+    expect("what came back", back, (Reply::Kept, None))
 }
 
 // The journal of the pool with room for so many entries.

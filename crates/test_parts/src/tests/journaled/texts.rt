@@ -1,11 +1,9 @@
 //! The text of an entry of each kind, with each reply.
+use super::reply;
 use crate::tests::expected::expect;
 use deadpool_journal::{Entry, Journal, Journaled};
 use deadpool_managed::gate::Ticket;
-use deadpool_managed::{
-    AgainReply, AskReply, BackReply, CreatedReply, Desk, EnterReply, HandleReply, Held, QueueMode,
-    Removal, Removals, Serving, Status, StepReply, TakeReply,
-};
+use deadpool_managed::{HandleReply, Held, QueueMode, Removal, Removals, Reply, Status, Step};
 use std::alloc::{AllocError, Global};
 use std::test::Fail;
 
@@ -22,11 +20,16 @@ fn has_text(alloc: Global, entries: Vec<Entry>, text: &str) -> Result<(), Fail> 
     expect("the text", shown.as_str(), text)
 }
 
+// A step by which no object passes, with its reply.
+fn made(step: Step, reply: Reply) -> Entry {
+    Entry::Made(step, None, reply)
+}
+
 // A ticket, whose number is 0: nobody else waits.
 fn ticket(alloc: Global) -> Result<Ticket, Fail> {
     let mut pool: Journaled<u64> = Journaled::new(alloc, 0, QueueMode::Fifo, 0, 0)?;
-    match pool.enter(true) {
-        EnterReply::Waiting(ticket) => Ok(ticket),
+    match reply(&mut pool, Step::Enter { wait: true }) {
+        Reply::Waiting(ticket) => Ok(ticket),
         _ => Err(Fail::new("not queued")),
     }
 }
@@ -45,14 +48,18 @@ enter out_of_memory";
 fn new_gets(rt: HostRuntime) -> Result<(), Fail> {
     let ticket = ticket(rt.alloc())?;
     let entries = vec![in rt.alloc();
-        Entry::Enter(true, EnterReply::Served(Serving::Object(4, 2))),
-        Entry::Enter(true, EnterReply::Served(Serving::Create)),
-        Entry::Enter(true, EnterReply::Served(Serving::Going)),
-        Entry::Enter(true, EnterReply::Served(Serving::Exhausted)),
-        Entry::Enter(true, EnterReply::Closed),
-        Entry::Enter(false, EnterReply::Full),
-        Entry::Enter(true, EnterReply::Waiting(ticket)),
-        Entry::Enter(true, EnterReply::OutOfMemory),
+        Entry::Made(
+            Step::Enter { wait: true },
+            Some(4),
+            Reply::Object { left: 2 }
+        ),
+        made(Step::Enter { wait: true }, Reply::Create),
+        made(Step::Enter { wait: true }, Reply::Going),
+        made(Step::Enter { wait: true }, Reply::Exhausted),
+        made(Step::Enter { wait: true }, Reply::Closed),
+        made(Step::Enter { wait: false }, Reply::Full),
+        made(Step::Enter { wait: true }, Reply::Waiting(ticket)),
+        made(Step::Enter { wait: true }, Reply::OutOfMemory),
     ]?;
     has_text(rt.alloc(), entries, ENTERED)
 }
@@ -67,18 +74,23 @@ again create
 again 0 going
 again 3 unknown";
 
+// A get in the queue asks, in time or late.
+fn asked(ticket: Ticket, expired: bool, reply: Reply) -> Entry {
+    made(Step::Ask { ticket, expired }, reply)
+}
+
 #[test]
 fn gets_that_ask_or_go_on(rt: HostRuntime) -> Result<(), Fail> {
     let ticket = ticket(rt.alloc())?;
     let entries = vec![in rt.alloc();
-        Entry::Ask(ticket, false, AskReply::Served(Serving::Create)),
-        Entry::Ask(ticket, false, AskReply::Closed),
-        Entry::Ask(ticket, true, AskReply::Expired),
-        Entry::Ask(ticket, false, AskReply::Waiting),
-        Entry::Ask(ticket, false, AskReply::Unknown),
-        Entry::Again(None, AgainReply::Served(Serving::Create)),
-        Entry::Again(Some(0), AgainReply::Served(Serving::Going)),
-        Entry::Again(Some(3), AgainReply::Unknown),
+        asked(ticket, false, Reply::Create),
+        asked(ticket, false, Reply::Closed),
+        asked(ticket, true, Reply::Expired),
+        asked(ticket, false, Reply::Waiting(ticket)),
+        asked(ticket, false, Reply::Unknown),
+        made(Step::Again { allowance: None }, Reply::Create),
+        made(Step::Again { allowance: Some(0) }, Reply::Going),
+        made(Step::Again { allowance: Some(3) }, Reply::Unknown),
     ]?;
     has_text(rt.alloc(), entries, ASKED)
 }
@@ -96,14 +108,14 @@ refused unknown";
 #[test]
 fn creations_and_preparations(rt: HostRuntime) -> Result<(), Fail> {
     let entries = vec![in rt.alloc();
-        Entry::Discard(StepReply::Done),
-        Entry::Discard(StepReply::Unknown),
-        Entry::Created(CreatedReply::Created(9)),
-        Entry::Created(CreatedReply::Unknown),
-        Entry::Failed(StepReply::Done),
-        Entry::Failed(StepReply::Unknown),
-        Entry::Refused(StepReply::Done),
-        Entry::Refused(StepReply::Unknown),
+        made(Step::Discard, Reply::Done),
+        made(Step::Discard, Reply::Unknown),
+        made(Step::Created, Reply::Number(9)),
+        made(Step::Created, Reply::Unknown),
+        made(Step::Failed, Reply::Done),
+        made(Step::Failed, Reply::Unknown),
+        made(Step::Refused, Reply::Done),
+        made(Step::Refused, Reply::Unknown),
     ]?;
     has_text(rt.alloc(), entries, PREPARED)
 }
@@ -121,21 +133,26 @@ take detach
 take taken
 take unknown";
 
+// The object with the number 5 comes back.
+fn back(reply: Reply) -> Entry {
+    Entry::Made(Step::Back, Some(5), reply)
+}
+
 #[test]
 fn what_is_given_back(rt: HostRuntime) -> Result<(), Fail> {
     let ticket = ticket(rt.alloc())?;
     let entries = vec![in rt.alloc();
-        Entry::Back(5, BackReply::Kept),
-        Entry::Back(5, BackReply::Detach(5)),
-        Entry::Back(5, BackReply::Dropped(5)),
-        Entry::Back(5, BackReply::Unknown(5)),
-        Entry::Cancel(Held::Ticket(ticket), StepReply::Done),
-        Entry::Cancel(Held::Place, StepReply::Unknown),
-        Entry::Cancel(Held::Creation, StepReply::Done),
-        Entry::Cancel(Held::Object, StepReply::Unknown),
-        Entry::Take(TakeReply::Taken { detach: true }),
-        Entry::Take(TakeReply::Taken { detach: false }),
-        Entry::Take(TakeReply::Unknown),
+        back(Reply::Kept),
+        back(Reply::Detach),
+        back(Reply::Dropped),
+        back(Reply::Unknown),
+        made(Step::Withdraw { ticket }, Reply::Done),
+        made(Step::Cancel(Held::Place), Reply::Unknown),
+        made(Step::Cancel(Held::Creation), Reply::Done),
+        made(Step::Cancel(Held::Object), Reply::Unknown),
+        made(Step::Take, Reply::Taken { detach: true }),
+        made(Step::Take, Reply::Taken { detach: false }),
+        made(Step::Take, Reply::Unknown),
     ]?;
     has_text(rt.alloc(), entries, GIVEN_BACK)
 }

@@ -1,9 +1,10 @@
 //! A manager and hooks that answer as they are told, in each way that there is.
-use deadpool::NoTime;
-use deadpool::managed::{
-    AsyncHook, Hook, HookError, HookResult, Manager, Metrics, NoHook, PoolBuilder, PoolError,
-    RecycleError, RecycleResult,
+use deadpool_builder::PoolBuilder;
+use deadpool_managed::{
+    AsyncHook, Hook, HookError, HookResult, Manager, Metrics, NoHook, PoolError, RecycleError,
+    RecycleResult,
 };
+use deadpool_parts::NoTime;
 use futures::task::{Context, Poll};
 use std::alloc::{AllocError, Global};
 use std::mem;

@@ -1,6 +1,6 @@
 //! Eight lanes over one pool, in each of which one get comes after another.
 use super::answers::Answers;
-use deadpool::{Moment, Status};
+use deadpool_parts::{Moment, Status};
 use std::process::Abort;
 use std::test::Fail;
 use test_support::expected::expect;

@@ -4,9 +4,9 @@ ghost use Rattle.std.specs.Prelude.{◌≡◌};
 
 use super::answers::{Answer, Answers, Switch, Told, ToldHook, builder, new_switch};
 use super::lanes::{Fault, LANES, LIMIT, Lanes, MOST_STEPS, Standing, play};
-use deadpool::managed::desk::{EnterReply, Serving};
-use deadpool::managed::{Blanks, Entry, Get, Journal, Ledgers, NoHook, Object, Pool};
-use deadpool::{Moment, NoTime, Status};
+use deadpool_managed::{NoHook, Reply, Step};
+use deadpool_parts::{Moment, NoTime, Status};
+use deadpool_shared::{Blanks, Build, Entry, Get, Journal, Ledgers, Object, Pool};
 use futures::task::Poll;
 use futures::test::MockTask;
 use std::alloc::Global;
@@ -169,19 +169,19 @@ impl<R: Wait + Drop, L: Ledgers> Lanes for PoolLanes<R, L> {
 fn is_served(entry: &Entry) -> bool {
     matches!(
         entry,
-        Entry::Enter(
-            _,
-            EnterReply::Served(Serving::Object(_, _) | Serving::Create)
-        )
+        Entry::Made(Step::Enter { .. }, _, Reply::Object { .. } | Reply::Create)
     )
 }
 
 // Whether of the last three gets two were served, and the third waits.
 fn are_two_served(journal: &Journal) -> bool {
     match journal.entries.as_slice() {
-        [.., first, second, Entry::Enter(_, EnterReply::Waiting(_))] => {
-            !journal.full && is_served(first) && is_served(second)
-        }
+        [
+            ..,
+            first,
+            second,
+            Entry::Made(Step::Enter { .. }, _, Reply::Waiting(_)),
+        ] => { !journal.full && is_served(first) && is_served(second) }
         _ => false,
     }
 }

@@ -1,9 +1,9 @@
 //! Gets over a trial, an advance at a time, with each way to answer.
 use super::answers::{Answer, Answers, Refused, Told, ToldHook, builder, new_switch};
 use super::lanes::{Fault, LANES, LIMIT, Lanes, MOST_STEPS, ROUNDS, Standing, play};
-use deadpool::managed::NoHook;
-use deadpool::replay::{Move, Reply, Trial};
-use deadpool::{Moment, NoTime, Status};
+use deadpool_managed::NoHook;
+use deadpool_parts::{Moment, NoTime, Status};
+use deadpool_replay::{Move, Reply, Trial};
 use futures::test::MockTask;
 use std::alloc::Global;
 use std::process::Abort;

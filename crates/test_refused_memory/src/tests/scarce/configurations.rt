@@ -1,8 +1,9 @@
 //! Configurations that are written, and hooks that are added, while too little memory is left.
 use super::calls::TRIES;
 use super::told::{Told, ToldHook, hook_of, manager_of, no_answers};
-use deadpool::managed::{ConfigError, Hook, NoHook, PoolBuilder, PoolConfig, QueueMode, Timeouts};
-use deadpool::unmanaged;
+use deadpool_builder::PoolBuilder;
+use deadpool_managed::{ConfigError, Hook, NoHook, PoolConfig, QueueMode, Timeouts};
+use deadpool_unmanaged as unmanaged;
 use pool_scripts::Kind;
 use serde_json::Value;
 use std::alloc::{AllocError, Global};

@@ -1,8 +1,9 @@
 //! A managed trial on which scripts are played.
 use super::player::Player;
 use super::told::{SharedAnswers, Told, ToldHook, hook_of, manager_of, no_answers};
-use deadpool::managed::{BuildError, NoHook, PoolBuilder};
-use deadpool::replay::{Move, Reply, Trial};
+use deadpool_builder::PoolBuilder;
+use deadpool_managed::{BuildError, NoHook};
+use deadpool_replay::{Move, Reply, Trial};
 use futures::test::MockTask;
 use pool_scripts::{
     Answer, Kind, ManagedLine, ManagedPool, PoolLine, Refused, Settings, parse_managed, parse_pool,

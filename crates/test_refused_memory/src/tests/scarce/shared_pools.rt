@@ -4,10 +4,10 @@ ghost use Rattle.std.specs.Prelude.{◌≡◌};
 
 use super::calls::{Came, Polled, TRIES};
 use super::tracked::{Counts, Maker, SharedCounts};
-use deadpool::managed::{
-    Blanks, BuildError, Get, Ledgers, NoHook, Object, Pool, PoolBuilder, PoolError, WeakPool,
-};
-use deadpool::{NoTime, Status};
+use deadpool_builder::PoolBuilder;
+use deadpool_managed::{BuildError, NoHook, PoolError};
+use deadpool_parts::{NoTime, Status};
+use deadpool_shared::{Blanks, Build, Get, Ledgers, Object, Pool, WeakPool};
 use futures::task::Poll;
 use futures::test::MockTask;
 use std::alloc::{AllocError, Global};

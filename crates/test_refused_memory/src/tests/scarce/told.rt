@@ -1,5 +1,5 @@
 //! The manager and the hooks of a script, which share its answers.
-use deadpool::managed::{Hook, NoHook};
+use deadpool_managed::{Hook, NoHook};
 use pool_scripts::{Answers, Kind, ScriptHook, ScriptManager};
 use std::alloc::{AllocError, Global};
 use std::rc::Rc;

@@ -1,5 +1,5 @@
 //! Objects whose drops are counted, and a manager that makes them.
-use deadpool::managed::{Manager, Metrics, RecycleResult};
+use deadpool_managed::{Manager, Metrics, RecycleResult};
 use futures::task::{Context, Poll};
 use std::alloc::{AllocError, Global};
 use std::sync::Arc;

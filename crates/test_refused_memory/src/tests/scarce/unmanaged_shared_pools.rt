@@ -1,8 +1,9 @@
 //! Calls of a shared unmanaged pool, made while too little memory is left.
 use super::calls::{Came, Polled, TRIES};
 use super::tracked::{Counts, SharedCounts, Tracked};
-use deadpool::NoTime;
-use deadpool::unmanaged::{Add, Get, Pool, PoolError, Remove};
+use deadpool_parts::NoTime;
+use deadpool_unmanaged::PoolError;
+use deadpool_unmanaged_shared::{Add, Get, Pool, Remove};
 use futures::task::Poll;
 use futures::test::MockTask;
 use std::alloc::AllocError;

@@ -1,6 +1,6 @@
 //! An unmanaged pool on one thread, polled by hand.
-use deadpool::unmanaged::{AddState, BackReply, Core, GetState};
-use deadpool::{Moment, Status};
+use deadpool_parts::{Moment, Status};
+use deadpool_unmanaged::{AddState, BackReply, Core, GetState};
 use futures::task::Poll;
 use std::test::Fail;
 

@@ -2,10 +2,10 @@
 
 ghost use Rattle.std.specs.Prelude.{◌≡◌};
 
-use deadpool::NoTime;
-use deadpool::managed::{
-    Blanks, Ledgers, Manager, Metrics, NoHook, Pool, PoolBuilder, RecycleResult,
-};
+use deadpool_builder::PoolBuilder;
+use deadpool_managed::{Manager, Metrics, NoHook, RecycleResult};
+use deadpool_parts::NoTime;
+use deadpool_shared::{Blanks, Build, Ledgers, Pool};
 use futures::executor::block_on;
 use futures::task::{Context, Poll};
 use std::marker::Brand;

@@ -1,7 +1,8 @@
 //! A pool on one thread, played by moves.
-use deadpool::Moment;
-use deadpool::managed::{Manager, Metrics, NoHook, PoolBuilder, RecycleResult};
-use deadpool::replay::{Move, Reply, Trial};
+use deadpool_builder::PoolBuilder;
+use deadpool_managed::{Manager, Metrics, NoHook, RecycleResult};
+use deadpool_parts::Moment;
+use deadpool_replay::{Move, Reply, Trial};
 use futures::task::{Context, Poll};
 use futures::test::MockTask;
 use std::cell::Cell;

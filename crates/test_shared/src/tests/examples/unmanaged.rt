@@ -1,6 +1,6 @@
 //! An unmanaged pool between threads.
-use deadpool::NoTime;
-use deadpool::unmanaged::Pool;
+use deadpool_parts::NoTime;
+use deadpool_unmanaged_shared::Pool;
 use futures::executor::block_on;
 use std::test::Fail;
 use std::thread;

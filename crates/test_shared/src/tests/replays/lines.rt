@@ -1,8 +1,8 @@
 //! What a test does, as lines of words.
 use super::outside::{Answer, Kind};
-use deadpool::Moment;
-use deadpool::managed::Timeouts;
-use deadpool::replay::Move;
+use deadpool_managed::Timeouts;
+use deadpool_parts::Moment;
+use deadpool_replay::Move;
 use std::alloc::Global;
 use std::str::{FromStr, Split};
 use std::test::Fail;

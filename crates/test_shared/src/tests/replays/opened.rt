@@ -6,7 +6,7 @@ use super::Host;
 use super::bench::{Bench, TestPool};
 use super::openings::builder;
 use super::outside::Outside;
-use deadpool::managed::{Blanks, Ledgers};
+use deadpool_shared::{Blanks, Build, Ledgers};
 use std::sync::Arc;
 use std::test::Fail;
 

@@ -1,8 +1,9 @@
 //! How a pool is opened.
 use super::lines::{Words, next_number, next_word, parse_number};
 use super::outside::{Common, Kind, TestClock, TestHook, TestManager};
-use deadpool::Runtime;
-use deadpool::managed::{Hook, NoHook, PoolBuilder, PoolConfig, QueueMode};
+use deadpool_builder::PoolBuilder;
+use deadpool_managed::{Hook, NoHook, PoolConfig, QueueMode};
+use deadpool_parts::Runtime;
 use serde_json::Value;
 use std::alloc::{AllocError, Global};
 use std::sync::Arc;

@@ -1,8 +1,8 @@
 //! A manager, hooks and a clock that answer as a test says.
-use deadpool::managed::{
+use deadpool_managed::{
     AsyncHook, HookError, HookResult, Manager, Metrics, RecycleError, RecycleResult,
 };
-use deadpool::{Clock, Moment};
+use deadpool_parts::{Clock, Moment};
 use futures::task::{Context, Poll};
 use std::alloc::{AllocError, Global};
 use std::fmt;

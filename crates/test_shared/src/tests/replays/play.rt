@@ -5,7 +5,7 @@ ghost use Rattle.std.specs.Prelude.{◌≡◌};
 use super::Host;
 use super::bench::Bench;
 use super::opened::open_bench;
-use deadpool::managed::{Blanks, Ledgers};
+use deadpool_shared::{Blanks, Ledgers};
 use std::alloc::Global;
 use std::marker::Brand;
 use std::test::Fail;

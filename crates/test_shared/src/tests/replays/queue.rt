@@ -1,7 +1,7 @@
 //! Who is in the queue of a shared pool, and whom its steps are to wake, by its journal.
-use deadpool::gate::Ticket;
-use deadpool::managed::desk::{AskReply, Core, EnterReply, Held};
-use deadpool::managed::{Entry, Journal};
+use deadpool_gate::gate::Ticket;
+use deadpool_managed::{Core, Reply, Step};
+use deadpool_shared::{Entry, Journal};
 use std::alloc::{AllocError, Global};
 use std::test::Fail;
 use test_support::journals::{answers_so, opened};
@@ -67,9 +67,11 @@ impl Queue {
             }
         }
         match entry {
-            Entry::Enter(_, EnterReply::Waiting(ticket)) => self.gets.push((*ticket, polled))?,
-            Entry::Ask(_, _, AskReply::Waiting) => {}
-            Entry::Ask(ticket, _, _) | Entry::Cancel(Held::Ticket(ticket), _) => self.leave(
+            Entry::Made(Step::Enter { .. }, _, Reply::Waiting(ticket)) => {
+                self.gets.push((*ticket, polled))?
+            }
+            Entry::Made(Step::Ask { .. }, _, Reply::Waiting(_)) => {}
+            Entry::Made(Step::Ask { ticket, .. } | Step::Withdraw { ticket }, _, _) => self.leave(
                 *ticket,
             ),
             _ => {}

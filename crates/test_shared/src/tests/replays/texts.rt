@@ -1,8 +1,8 @@
 //! Replies as text.
 use super::outside::Refused;
-use deadpool::Status;
-use deadpool::managed::RetainResult;
-use deadpool::replay::Reply;
+use deadpool_managed::RetainResult;
+use deadpool_parts::Status;
+use deadpool_replay::Reply;
 use std::alloc::{AllocError, Global};
 
 /// The reply to a move, with the value of the object that it hands out.

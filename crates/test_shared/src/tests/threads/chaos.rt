@@ -6,8 +6,10 @@ mod world;
 
 ghost use Rattle.std.specs.Prelude.{◌≡◌};
 
-use deadpool::Runtime;
-use deadpool::managed::{Blanks, Hook, Ledgers, PoolBuilder};
+use deadpool_builder::PoolBuilder;
+use deadpool_managed::Hook;
+use deadpool_parts::Runtime;
+use deadpool_shared::{Blanks, Build, Ledgers};
 use rounds::{ChaosPool, Host, play};
 use std::alloc::Global;
 use std::marker::Brand;

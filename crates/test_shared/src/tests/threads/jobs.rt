@@ -3,11 +3,10 @@
 ghost use Rattle.std.specs.Prelude.{◌≡◌};
 
 use crate::tests::examples::threads::{Numbers, Zeros, total};
-use deadpool::NoTime;
-use deadpool::managed::desk::{
-    AgainReply, AskReply, BackReply, CreatedReply, StepReply, TakeReply,
-};
-use deadpool::managed::{Blanks, Entry, Journal, Ledgers, PoolBuilder, Status};
+use deadpool_builder::PoolBuilder;
+use deadpool_managed::{Reply, Status, Step};
+use deadpool_parts::NoTime;
+use deadpool_shared::{Blanks, Build, Entry, Journal, Ledgers};
 use futures::executor::block_on;
 use std::alloc::Global;
 use std::marker::Brand;
@@ -70,32 +69,20 @@ fn tally_of(journal: &Journal) -> Tally {
         unknown: 0,
     };
     for entry in &journal.entries {
-        if is_unknown(entry) {
+        let Entry::Made(step, _, reply) = entry else {
+            continue;
+        };
+        // (the step found nothing to do)
+        if *reply == Reply::Unknown {
             tally.unknown = tally.unknown.saturating_add(1);
         }
-        match entry {
-            Entry::Enter(..) => tally.enters = tally.enters.saturating_add(1),
-            Entry::Back(..) => tally.backs = tally.backs.saturating_add(1),
+        match step {
+            Step::Enter { .. } => tally.enters = tally.enters.saturating_add(1),
+            Step::Back => tally.backs = tally.backs.saturating_add(1),
             _ => {}
         }
     }
     tally
-}
-
-// Whether the step found nothing to do.
-fn is_unknown(entry: &Entry) -> bool {
-    match entry {
-        Entry::Ask(_, _, reply) => *reply == AskReply::Unknown,
-        Entry::Again(_, reply) => *reply == AgainReply::Unknown,
-        Entry::Created(reply) => *reply == CreatedReply::Unknown,
-        Entry::Discard(reply) | Entry::Failed(reply) | Entry::Refused(reply) => {
-            *reply == StepReply::Unknown
-        }
-        Entry::Cancel(_, reply) => *reply == StepReply::Unknown,
-        Entry::Back(_, reply) => matches!(reply, BackReply::Unknown(_)),
-        Entry::Take(reply) => *reply == TakeReply::Unknown,
-        _ => false,
-    }
 }
 
 fn all_jobs<R, L>(rt: R, blanks: Blanks) -> Result<(), Fail>

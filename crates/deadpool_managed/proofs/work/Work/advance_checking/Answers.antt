@@ -1,4 +1,4 @@
-use Rattle.deadpool_managed.proofs.Words.{refl, may, no_step, refusing}
+use Rattle.deadpool_managed.proofs.Words.{None, refl, may, no_step, making, Step}
 use Rattle.deadpool_managed.proofs.Phases.{checked_in, checking_in, refused_in}
 use Rattle.deadpool_managed.proofs.work.Work.advance_checking.Goals as goal
 
@@ -25,4 +25,4 @@ returns-in-Refused-clause-advanced g c =
     let made = c.refuse.ensures.advanced in
     let rest = refused_in (may g.M.Manager g.F.SyncHook g.A.AsyncHook env.manager) env.runtime env.hooks c.args.now c.args.timeouts.now
     c.args.position c.in-Refused.cause c.args.self.now.slot c.post_create_in.new.place made.0 _ _ given made.1.1 in
-    (refusing made.0, (made.1.0, rest))
+    (making Step.Refused made.0 None, (made.1.0, rest))

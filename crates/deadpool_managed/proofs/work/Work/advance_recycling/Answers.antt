@@ -1,4 +1,4 @@
-use Rattle.deadpool_managed.proofs.Words.{None, refl, may, no_step, discarding}
+use Rattle.deadpool_managed.proofs.Words.{None, refl, may, no_step, making, Step}
 use Rattle.deadpool_managed.proofs.Phases.{accepted_in, pending_in, given_up_in}
 use Rattle.deadpool_managed.proofs.work.Work.advance_recycling.Goals as goal
 
@@ -25,4 +25,4 @@ returns-in-GivenUp-clause-advanced g c =
     let made = c.discard.ensures.advanced in
     let rest = given_up_in (may g.M.Manager g.F.SyncHook g.A.AsyncHook env.manager) env.runtime env.hooks c.args.now c.args.timeouts.now
     c.args.preparing None c.args.self.now.slot c.prepare_in.new.place made.0 _ _ given made.1.1 in
-    (discarding made.0, (made.1.0, rest))
+    (making Step.Discard made.0 None, (made.1.0, rest))

@@ -1,11 +1,11 @@
-use Rattle.deadpool_managed.proofs.Words.{◌∙◌, sym, subst, inl, Option, None, refl, failing, AfterCreation, Moment, may, stage_of, turn_of}
+use Rattle.deadpool_managed.proofs.Words.{◌∙◌, sym, subst, inl, Option, None, refl, making, Step, AfterCreation, Moment, may, stage_of, turn_of}
 use Rattle.deadpool_managed.proofs.Polls.{begins}
 use Rattle.deadpool_managed.proofs.Phases.{finished, ended_is}
 use Rattle.deadpool_managed.proofs.work.Work.begin_creation.Goals as goal
 
 pub returns-then-lacks_runtime-clause-advanced : goal.returns-then-lacks_runtime-clause-advanced
 returns-then-lacks_runtime-clause-advanced g c =
-    (failing c.failed-reply.result, (c.failed-reply.ensures.failed, inl (sym c.lacks_runtime.ensures ∙ c.if-lacks_runtime.true, finished c.args.self.now.phase c.args.self.now.slot c.requires.finished, ended_is _ _ _ c.args.self.now.slot c.ended.ensures)))
+    (making Step.Failed c.report-reply.result None, (c.report-reply.ensures.made, inl (c.report-reply.result, (sym c.lacks_runtime.ensures ∙ c.if-lacks_runtime.true, refl, finished c.args.self.now.phase c.args.self.now.slot c.requires.finished, ended_is _ _ _ c.args.self.now.slot c.ended.ensures))))
 
 pub returns-clause-advanced : goal.returns-clause-advanced
 returns-clause-advanced g c =

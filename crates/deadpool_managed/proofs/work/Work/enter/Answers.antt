@@ -1,4 +1,4 @@
-use Rattle.deadpool_managed.proofs.Words.{◌∙◌, ap, sym, not, refl, no_step, entering, turn_of}
+use Rattle.deadpool_managed.proofs.Words.{◌∙◌, ap, sym, not, refl, no_step, making, turn_of, Step}
 use Rattle.deadpool_managed.proofs.Phases.{finished}
 use Rattle.deadpool_managed.proofs.work.Work.enter.Goals as goal
 
@@ -9,11 +9,10 @@ returns-then-cannot_wait-clause-advanced g c =
 pub returns-clause-advanced : goal.returns-clause-advanced
 returns-clause-advanced g c =
     let deadline = c.deadline_after-deadline.ensures in
-    let entered = c.enter_in-rest.ensures.entered in
-    let after = c.after_entered.ensures.after entered.0 c.args.self.now.slot entered.1.1 in (
-      entering (not c.is_reached.result) entered.0,
+    let made = c.make-reply.ensures in (
+      making (Step.Enter (not c.is_reached-wait.result)) c.make-reply.result c.make-reply.new.hand,
       (
-        entered.1.0,
-        (sym c.cannot_wait.ensures ∙ c.if-cannot_wait.false, ap not (rw deadline at c.is_reached.ensures), rw deadline at after),
+        (made.fits, rw c.requires.empty at made.made),
+        (sym c.cannot_wait.ensures ∙ c.if-cannot_wait.false, ap not (rw deadline at c.is_reached-wait.ensures), rw deadline at c.served.ensures.after),
       ),
     )

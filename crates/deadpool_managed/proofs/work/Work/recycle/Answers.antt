@@ -1,4 +1,4 @@
-use Rattle.deadpool_managed.proofs.Words.{Some, refl, start, Phase, may, no_step, discarding, Preparing}
+use Rattle.deadpool_managed.proofs.Words.{None, Some, refl, start, Phase, may, no_step, making, Step, Preparing}
 use Rattle.deadpool_managed.proofs.Phases.{accepted_in, pending_in, given_up_in}
 use Rattle.deadpool_managed.proofs.work.Work.recycle.Goals as goal
 
@@ -25,4 +25,4 @@ returns-in-GivenUp-clause-advanced g c =
     let made = c.discard.ensures.advanced in
     let rest = given_up_in (may g.M.Manager g.F.SyncHook g.A.AsyncHook env.manager) env.runtime env.hooks c.args.now c.args.timeouts.now
     (Preparing.PreRecycle start) (Some c.args.left) c.args.self.now.slot c.pre_recycle_in.new.place made.0 _ _ given made.1.1 in
-    (discarding made.0, (made.1.0, rest))
+    (making Step.Discard made.0 None, (made.1.0, rest))

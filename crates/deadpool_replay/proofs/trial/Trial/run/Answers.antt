@@ -39,14 +39,17 @@ returns-clause-run g c =
     let l = c.loop-first in
     let steps = c.in-None.ensures.steps in
     let ended : into_iter_items l.first-iterator ≡ [] = none_left (into_iter_items l.first-iterator) (into_iter_len l.first-iterator) l.invariant.left steps.0 in
-    let ran = rw append-nil at (l.invariant.goes [] [] l.self.pool (runs_end (may g.M.Manager g.F.SyncHook g.A.AsyncHook c.args.self.now.manager) l.self.pool (into_iter_items l.first-iterator) ended)) in
+    rw append-nil at (l.invariant.goes [] [] l.self.pool (runs_end (may g.M.Manager g.F.SyncHook g.A.AsyncHook c.args.self.now.manager) l.self.pool (into_iter_items l.first-iterator) ended))
+
+pub returns-clause-nobody_waits : goal.returns-clause-nobody_waits
+returns-clause-nobody_waits g c passed ran =
     let well : IsWell c.args.self.now.pool = rw (← c.self.view_is) c.self.invariant.well in
-    let may_answer = may g.M.Manager g.F.SyncHook g.A.AsyncHook c.args.self.now.manager in (
-      ran.0,
-      ran.1,
-      each_state may_answer NobodyWaits (λ q w. w.lawful.nobody_waits) c.args.moves.items c.args.self.now.pool l.self.pool ran.0 l.replies.items well ran.1,
-      each_step may_answer WithinReach (λ q r s. s.1) c.args.moves.items c.args.self.now.pool l.self.pool ran.0 l.replies.items well ran.1,
-    )
+    each_state (may g.M.Manager g.F.SyncHook g.A.AsyncHook c.args.self.now.manager) NobodyWaits (λ q w. w.lawful.nobody_waits) c.args.moves.items c.args.self.now.pool c.loop-first.self.pool passed c.loop-first.replies.items well ran
+
+pub returns-clause-within_reach : goal.returns-clause-within_reach
+returns-clause-within_reach g c passed ran =
+    let well : IsWell c.args.self.now.pool = rw (← c.self.view_is) c.self.invariant.well in
+    each_step (may g.M.Manager g.F.SyncHook g.A.AsyncHook c.args.self.now.manager) WithinReach (λ q r s. s.1) c.args.moves.items c.args.self.now.pool c.loop-first.self.pool passed c.loop-first.replies.items well ran
 
 pub returns-clause-manager : goal.returns-clause-manager
 returns-clause-manager g c = c.loop-first.invariant.manager

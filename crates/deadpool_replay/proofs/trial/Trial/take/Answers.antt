@@ -13,19 +13,19 @@ returns-in-None-clause-made g c =
     let same = c.take_out.ensures.items ∙ none_there slot_number c.args.number f.out.items none in
     rw (← c.self.view_is, same) (rw none refl)
 
-pub after_take-requires : goal.after_take-requires
-after_take-requires g c =
+pub after_take-requires-clause-known : goal.after_take-requires-clause-known
+after_take-requires-clause-known g c =
     let f = c.self.inside in
-    taken_known (may g.M.Manager g.F.SyncHook g.A.AsyncHook f.fixed.environment.manager) (λ found. tt) f.fixed f.core.desk c.take-reply.new.self.desk f.parties.items f.out.items c.self.invariant.counted c.args.number c.in-Some.slot c.take-reply.result (sym c.take_out.ensures.item ∙ c.in-Some.is) c.take-reply.ensures.taken.0
+    taken_known (may g.M.Manager g.F.SyncHook g.A.AsyncHook f.fixed.environment.manager) (λ found. tt) f.fixed f.core.desk c.leave-reply.new.core.desk f.parties.items f.out.items c.self.invariant.counted c.args.number c.in-Some.slot c.leave-reply.result (sym c.take_out.ensures.item ∙ c.in-Some.is) c.leave-reply.ensures.made.0
 
 pub invariant_of-self-in-Some : goal.invariant_of-self-in-Some
 invariant_of-self-in-Some g c =
     let f = c.self.inside in
-    let all = taken (may g.M.Manager g.F.SyncHook g.A.AsyncHook f.fixed.environment.manager) (λ found. tt) f.fixed f.core.desk c.take-reply.new.self.desk f.parties.items f.out.items c.self.invariant.counted c.args.number c.in-Some.slot c.take-reply.result c.after_take.result (sym c.take_out.ensures.item ∙ c.in-Some.is) c.take-reply.ensures.taken.0 c.after_take.ensures in
+    let all = taken (may g.M.Manager g.F.SyncHook g.A.AsyncHook f.fixed.environment.manager) (λ found. tt) f.fixed f.core.desk c.leave-reply.new.core.desk f.parties.items f.out.items c.self.invariant.counted c.args.number c.in-Some.slot c.leave-reply.result c.after_take.result (sym c.take_out.ensures.item ∙ c.in-Some.is) c.leave-reply.ensures.made.0 c.after_take.ensures in
     rw c.take_out.ensures.items record { counted = all.1; well = leads_to_well g.M.Manager g.F.SyncHook g.A.AsyncHook f.fixed.environment.manager (Take c.args.number) _ _ _ c.self.invariant.well all.0; parties = c.self.invariant.parties; party_room = c.self.invariant.party_room; out_room = rw c.take_out.ensures.capacity c.self.invariant.out_room }
 
 pub returns-in-Some-clause-made : goal.returns-in-Some-clause-made
 returns-in-Some-clause-made g c =
     let f = c.self.inside in
-    let all = taken (may g.M.Manager g.F.SyncHook g.A.AsyncHook f.fixed.environment.manager) (λ found. tt) f.fixed f.core.desk c.take-reply.new.self.desk f.parties.items f.out.items c.self.invariant.counted c.args.number c.in-Some.slot c.take-reply.result c.after_take.result (sym c.take_out.ensures.item ∙ c.in-Some.is) c.take-reply.ensures.taken.0 c.after_take.ensures in
+    let all = taken (may g.M.Manager g.F.SyncHook g.A.AsyncHook f.fixed.environment.manager) (λ found. tt) f.fixed f.core.desk c.leave-reply.new.core.desk f.parties.items f.out.items c.self.invariant.counted c.args.number c.in-Some.slot c.leave-reply.result c.after_take.result (sym c.take_out.ensures.item ∙ c.in-Some.is) c.leave-reply.ensures.made.0 c.after_take.ensures in
     rw (← c.self.view_is, c.take_out.ensures.items) all.0

@@ -1,7 +1,8 @@
 //! What a thread does with the pool.
 use super::dice::Dice;
 use super::world::{Maker, Refusing, Stalling, Ticking};
-use deadpool::managed::{Ledgers, Object, Pool, PoolError, Timeouts};
+use deadpool_managed::{PoolError, Timeouts};
+use deadpool_shared::{Ledgers, Object, Pool};
 use futures::executor::block_on;
 use futures::test::MockTask;
 use std::random::RandomSource;

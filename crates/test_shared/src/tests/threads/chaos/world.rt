@@ -2,10 +2,10 @@
 ghost use Rattle.futures.specs.Task.{Keeps};
 
 use super::dice::SharedDice;
-use deadpool::managed::{
+use deadpool_managed::{
     AsyncHook, HookError, HookResult, Manager, Metrics, RecycleError, RecycleResult, SyncHook,
 };
-use deadpool::{Clock, Moment};
+use deadpool_parts::{Clock, Moment};
 use futures::task::{Context, Poll};
 use std::alloc::{AllocError, Global};
 use std::sync::Arc;

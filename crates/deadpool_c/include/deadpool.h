@@ -1,0 +1,355 @@
+/* deadpool.h: made by .ci/c-header of the sources in crates/deadpool_c/src, and not by hand.
+ *
+ * The steps of both pools for programs that are not Rattle, each a call on a pool behind a pointer.
+ *
+ * An object is a key of the caller's, any `uint64_t`, and in a managed pool its number too. The caller
+ * keeps the values by key, the wakers by ticket, and a lock: it makes one call at a time on a pool.
+ * `deadpool_managed_new` and `deadpool_unmanaged_new` make a pool in a block whose pointer is null; each
+ * other call wants a block in which a pool was made.
+ *
+ * NAME_len is how many values lie at NAME. No pointer that is passed is null. */
+#ifndef DEADPOOL_H
+#define DEADPOOL_H
+
+#include <stdbool.h>
+#include <stddef.h>
+#include <stdint.h>
+
+#ifdef __cplusplus
+extern "C" {
+#endif
+
+/* A managed pool, which the caller passes back unchanged. It owns its state, which lies where `at` points.
+ * With a null pointer it is no pool, and owns nothing. */
+typedef struct deadpool_managed_pool {
+    /* Where its state lies, or null. */
+    void *at;
+} deadpool_managed_pool;
+
+/* A reply: its kind, and what comes with it, else 0. */
+typedef struct deadpool_reply {
+    /* One of the constants `DEADPOOL_REPLY_..`. */
+    uint64_t kind;
+    /* The number of an object or of a ticket, or how many keys were written. */
+    size_t number;
+    /* The key of an object. */
+    uint64_t key;
+    /* How many more idle objects this poll may take, or how many stay. */
+    size_t left;
+} deadpool_reply;
+
+/* What the call names is not there, and nothing has changed: no such step, ticket, object or key, nothing
+ * held, nobody to wake. With it comes the object that was brought. */
+#define DEADPOOL_REPLY_UNKNOWN UINT64_C(0)
+
+/* The step is made. With it comes what the call says. */
+#define DEADPOOL_REPLY_DONE UINT64_C(1)
+
+/* The get is given an idle object: its key, and of a managed pool its number and how many more this poll
+ * may take. */
+#define DEADPOOL_REPLY_OBJECT UINT64_C(2)
+
+/* The get has begun a creation, which is counted. */
+#define DEADPOOL_REPLY_CREATE UINT64_C(3)
+
+/* Objects are idle, but this poll may take no more. The get keeps its place. */
+#define DEADPOOL_REPLY_GOING UINT64_C(4)
+
+/* No object number is left. The get has no place any more. */
+#define DEADPOOL_REPLY_EXHAUSTED UINT64_C(5)
+
+/* The pool is closed. With it comes the key that an add brought. */
+#define DEADPOOL_REPLY_CLOSED UINT64_C(6)
+
+/* Nothing is free, and the get or the add does not wait. With it comes the key that an add brought. */
+#define DEADPOOL_REPLY_FULL UINT64_C(7)
+
+/* The get or the add is in the queue. With it comes its ticket, if it has joined it or the pool is
+ * managed, and the key that an add brought. */
+#define DEADPOOL_REPLY_WAITING UINT64_C(8)
+
+/* There was no memory, and nothing has changed. With it comes the key that an add brought. */
+#define DEADPOOL_REPLY_OUT_OF_MEMORY UINT64_C(9)
+
+/* The get has waited long enough, and left the queue. */
+#define DEADPOOL_REPLY_EXPIRED UINT64_C(10)
+
+/* The creation has ended well: the new object has this number. */
+#define DEADPOOL_REPLY_CREATED UINT64_C(11)
+
+/* The pool keeps the object. */
+#define DEADPOOL_REPLY_KEPT UINT64_C(12)
+
+/* The object leaves the pool, and has to be detached. */
+#define DEADPOOL_REPLY_DETACH UINT64_C(13)
+
+/* The pool gives the object up, and it is not detached. */
+#define DEADPOOL_REPLY_DROPPED UINT64_C(14)
+
+/* The object has left for good, and is not detached. */
+#define DEADPOOL_REPLY_TAKEN UINT64_C(15)
+
+/* The pool has the object that the add brought. */
+#define DEADPOOL_REPLY_STORED UINT64_C(16)
+
+/* No handle is left, and nothing has changed. */
+#define DEADPOOL_REPLY_NO_HANDLE UINT64_C(17)
+
+/* How a pool stands. Each is a number of objects or, for `waiting`, of gets. */
+typedef struct deadpool_standing {
+    /* How many objects there may be. */
+    size_t max_size;
+    /* How many there are: idle, under preparation or out. */
+    size_t size;
+    /* How many are idle, in a managed pool less the gets that have no object yet. */
+    size_t available;
+    /* How many gets wait, in a managed pool less the idle objects. */
+    size_t waiting;
+} deadpool_standing;
+
+/* A step of a pool as its journal has it. */
+typedef struct deadpool_noted_step {
+    /* One of the constants from `DEADPOOL_STEP_NO_ENTRY` to `DEADPOOL_STEP_UPGRADE`. */
+    uint64_t step;
+    /* As the step was asked for. */
+    bool is_set;
+    /* As the step was asked for, or the limit of a resize. */
+    size_t number;
+    /* The reply that the step had. */
+    deadpool_reply reply;
+    /* Of `DEADPOOL_STEP_STATUS` how the pool stood. */
+    deadpool_standing standing;
+} deadpool_noted_step;
+
+/* An unmanaged pool, which the caller passes back unchanged. It owns its state, which lies where `at`
+ * points. With a null pointer it is no pool, and owns nothing. */
+typedef struct deadpool_unmanaged_pool {
+    /* Where its state lies, or null. */
+    void *at;
+} deadpool_unmanaged_pool;
+
+/* No step: there is no entry at this position. */
+#define DEADPOOL_STEP_NO_ENTRY UINT64_C(0)
+
+/* A new get asks for a place. `is_set` says whether it joins the queue if none is free. The reply is
+ * `DEADPOOL_REPLY_OBJECT`, `DEADPOOL_REPLY_CREATE`, `DEADPOOL_REPLY_EXHAUSTED`, `DEADPOOL_REPLY_CLOSED`,
+ * `DEADPOOL_REPLY_FULL`, `DEADPOOL_REPLY_WAITING` or `DEADPOOL_REPLY_OUT_OF_MEMORY`. */
+#define DEADPOOL_STEP_ENTER UINT64_C(1)
+
+/* A get in the queue asks for its place, by its ticket as `number`. `is_set` says whether it has waited
+ * long enough. The reply is `DEADPOOL_REPLY_OBJECT`, `DEADPOOL_REPLY_CREATE`, `DEADPOOL_REPLY_EXHAUSTED`,
+ * `DEADPOOL_REPLY_CLOSED`, `DEADPOOL_REPLY_EXPIRED`, `DEADPOOL_REPLY_WAITING` or `DEADPOOL_REPLY_UNKNOWN`. */
+#define DEADPOOL_STEP_ASK UINT64_C(2)
+
+/* A get that holds a place goes on. It may take `number` idle objects, or as many as are idle if `is_set`
+ * is false. The reply is `DEADPOOL_REPLY_OBJECT`, `DEADPOOL_REPLY_CREATE`, `DEADPOOL_REPLY_GOING`,
+ * `DEADPOOL_REPLY_EXHAUSTED` or `DEADPOOL_REPLY_UNKNOWN`. */
+#define DEADPOOL_STEP_AGAIN UINT64_C(3)
+
+/* A get gives up an object that was idle, and keeps its place: `DEADPOOL_REPLY_DONE` or
+ * `DEADPOOL_REPLY_UNKNOWN`. */
+#define DEADPOOL_STEP_DISCARD UINT64_C(4)
+
+/* A creation under way has ended well: `DEADPOOL_REPLY_CREATED` or `DEADPOOL_REPLY_UNKNOWN`. */
+#define DEADPOOL_STEP_NEW_OBJECT UINT64_C(5)
+
+/* A creation under way has ended without an object: `DEADPOOL_REPLY_DONE` or `DEADPOOL_REPLY_UNKNOWN`. */
+#define DEADPOOL_STEP_FAILED UINT64_C(6)
+
+/* A get gives up a new object: `DEADPOOL_REPLY_DONE` or `DEADPOOL_REPLY_UNKNOWN`. */
+#define DEADPOOL_STEP_REFUSED UINT64_C(7)
+
+/* An object comes back under its `number` and `key`: `DEADPOOL_REPLY_KEPT`, or with both
+ * `DEADPOOL_REPLY_DETACH`, `DEADPOOL_REPLY_DROPPED` or `DEADPOOL_REPLY_UNKNOWN`. */
+#define DEADPOOL_STEP_BACK UINT64_C(8)
+
+/* A get leaves the queue, by its ticket as `number`: `DEADPOOL_REPLY_DONE` or `DEADPOOL_REPLY_UNKNOWN`. */
+#define DEADPOOL_STEP_WITHDRAW UINT64_C(9)
+
+/* A get gives back a place, and held nothing else: `DEADPOOL_REPLY_DONE` or `DEADPOOL_REPLY_UNKNOWN`. */
+#define DEADPOOL_STEP_CANCEL_PLACE UINT64_C(10)
+
+/* A get gives up a creation under way: `DEADPOOL_REPLY_DONE` or `DEADPOOL_REPLY_UNKNOWN`. */
+#define DEADPOOL_STEP_CANCEL_CREATION UINT64_C(11)
+
+/* A get gives up an object under preparation: `DEADPOOL_REPLY_DONE` or `DEADPOOL_REPLY_UNKNOWN`. */
+#define DEADPOOL_STEP_CANCEL_OBJECT UINT64_C(12)
+
+/* An object that is out leaves the pool for good, and its place is free: `DEADPOOL_REPLY_DETACH`,
+ * `DEADPOOL_REPLY_TAKEN` or `DEADPOOL_REPLY_UNKNOWN`. */
+#define DEADPOOL_STEP_TAKE UINT64_C(13)
+
+/* The pool was asked how it stands. */
+#define DEADPOOL_STEP_STATUS UINT64_C(14)
+
+/* The pool was given another limit. */
+#define DEADPOOL_STEP_RESIZE UINT64_C(15)
+
+/* Each idle object was asked about. */
+#define DEADPOOL_STEP_RETAIN UINT64_C(16)
+
+/* The pool has closed. */
+#define DEADPOOL_STEP_CLOSE UINT64_C(17)
+
+/* A handle was to be counted. */
+#define DEADPOOL_STEP_CLONE_HANDLE UINT64_C(18)
+
+/* A handle was given back. */
+#define DEADPOOL_STEP_DROP_HANDLE UINT64_C(19)
+
+/* An owner that has none asked for one handle more. */
+#define DEADPOOL_STEP_UPGRADE UINT64_C(20)
+
+/* A managed pool: how it is made and ended, the steps that gets and objects make, and who is to be woken. */
+
+/* Makes a pool of so many objects at most, with one handle and room for so many entries of its journal:
+ * `false` if memory is wanting. `min_idle` is how many objects a resize and a retain leave idle. The block
+ * has to be empty, with a null pointer: what it led to before is forgotten. */
+bool deadpool_managed_new(deadpool_managed_pool *pool, size_t limit, bool is_lifo, size_t most_entries,
+    size_t min_idle);
+
+/* Ends a pool. The keys of what is idle are forgotten. */
+void deadpool_managed_free(deadpool_managed_pool pool);
+
+/* Makes a step of a get or an object: `step` is one of the constants from `DEADPOOL_STEP_ENTER` to
+ * `DEADPOOL_STEP_TAKE`. Each of them says what `is_set`, `number` and `key` are to it, and which replies
+ * it has; what it does not name is not looked at. Another `step` is none: the reply is
+ * `DEADPOOL_REPLY_UNKNOWN`, and nothing has changed. */
+deadpool_reply deadpool_managed_make(deadpool_managed_pool *pool, uint64_t step, bool is_set, size_t number,
+    uint64_t key);
+
+/* How the pool stands. */
+deadpool_standing deadpool_managed_status(deadpool_managed_pool *pool);
+
+/* The next get in the queue that is due to be woken, and counts as told from then on:
+ * `DEADPOOL_REPLY_DONE` with its ticket, `DEADPOOL_REPLY_UNKNOWN`. It is no step. */
+deadpool_reply deadpool_managed_take_wake(deadpool_managed_pool *pool);
+
+/* The steps of a managed pool's owner, and what is read without a step. A step that gives idle objects up
+ * writes their keys, in the order in which they stood, to the front of `keys`, as far as it reaches. Room
+ * for as many keys as are idle is enough. */
+
+/* The pool gets another limit: `DEADPOOL_REPLY_DONE` with how many keys were written, or
+ * `DEADPOOL_REPLY_OUT_OF_MEMORY`, and the pool is as it was. The objects above the limit go, but for those
+ * that are to stay idle. */
+deadpool_reply deadpool_managed_resize(deadpool_managed_pool *pool, size_t limit, uint64_t *keys,
+    size_t keys_len);
+
+/* Asks about each idle object once, front to back: those go whose byte of `keep` is 0, if more are idle
+ * than are to stay, and the others stay, also those beyond it. `DEADPOOL_REPLY_DONE` with how many went
+ * and in `left` how many stay, or `DEADPOOL_REPLY_OUT_OF_MEMORY`, and nothing has changed. */
+deadpool_reply deadpool_managed_retain(deadpool_managed_pool *pool, const uint8_t *keep, size_t keep_len,
+    uint64_t *keys, size_t keys_len);
+
+/* The pool closes for good, and all that is idle goes. Gives how many keys were written. */
+size_t deadpool_managed_close(deadpool_managed_pool *pool, uint64_t *keys, size_t keys_len);
+
+/* There is one handle more: `DEADPOOL_REPLY_DONE`, `DEADPOOL_REPLY_NO_HANDLE`. */
+deadpool_reply deadpool_managed_clone_handle(deadpool_managed_pool *pool);
+
+/* There is one handle less: `DEADPOOL_REPLY_DONE`, `DEADPOOL_REPLY_NO_HANDLE`. The last one takes all that
+ * is idle with it, and `written` is how many keys of that were written. */
+deadpool_reply deadpool_managed_drop_handle(deadpool_managed_pool *pool, uint64_t *keys, size_t keys_len,
+    size_t *written);
+
+/* There is one handle more, for an owner that has none, if one is left. */
+bool deadpool_managed_upgrade(deadpool_managed_pool *pool);
+
+/* Whether the pool has closed. It is no step. */
+bool deadpool_managed_is_closed(deadpool_managed_pool *pool);
+
+/* The key of the idle object at this position, front to back: `DEADPOOL_REPLY_DONE` with it,
+ * `DEADPOOL_REPLY_UNKNOWN`. It is no step. */
+deadpool_reply deadpool_managed_key(deadpool_managed_pool *pool, size_t at);
+
+/* Whether the journal has found no room for a step. It is no step. */
+bool deadpool_managed_is_full(deadpool_managed_pool *pool);
+
+/* The entry of the journal at this position, or the step `DEADPOOL_STEP_NO_ENTRY`. It is no step of the
+ * pool. */
+deadpool_noted_step deadpool_managed_entry(deadpool_managed_pool *pool, size_t at);
+
+/* Of the entry at a position, that of a retain, the object that was removed at an index:
+ * `DEADPOOL_REPLY_DONE`, its number and in `left` where it stood. `DEADPOOL_REPLY_UNKNOWN` if there is
+ * none. It is no step. */
+deadpool_reply deadpool_managed_removal(deadpool_managed_pool *pool, size_t at, size_t index);
+
+/* The steps of an unmanaged pool. A step that gives idle objects up writes their keys, in the order in
+ * which they stood, to the front of `keys`, as far as it reaches. Room for as many keys as are idle is
+ * enough. */
+
+/* Makes an open pool of so many objects at most, with one handle: `false` if memory is wanting. The block
+ * has to be empty, with a null pointer: what it led to before is forgotten. */
+bool deadpool_unmanaged_new(deadpool_unmanaged_pool *pool, size_t limit);
+
+/* Ends a pool. The keys of what is idle are forgotten. */
+void deadpool_unmanaged_free(deadpool_unmanaged_pool pool);
+
+/* A new get asks for an object, and joins the queue if none is free and `wait` says so:
+ * `DEADPOOL_REPLY_OBJECT` with its key, `DEADPOOL_REPLY_CLOSED`, `DEADPOOL_REPLY_FULL`,
+ * `DEADPOOL_REPLY_WAITING` with a ticket, or `DEADPOOL_REPLY_OUT_OF_MEMORY`. */
+deadpool_reply deadpool_unmanaged_get_enter(deadpool_unmanaged_pool *pool, bool wait);
+
+/* A get in the queue asks for its object. `expired` says that it has waited long enough.
+ * `DEADPOOL_REPLY_OBJECT`, `DEADPOOL_REPLY_CLOSED`, `DEADPOOL_REPLY_EXPIRED`, `DEADPOOL_REPLY_WAITING` or
+ * `DEADPOOL_REPLY_UNKNOWN`. */
+deadpool_reply deadpool_unmanaged_get_ask(deadpool_unmanaged_pool *pool, size_t ticket, bool expired);
+
+/* A get leaves the queue, and what it was granted is free again: `DEADPOOL_REPLY_DONE`,
+ * `DEADPOOL_REPLY_UNKNOWN`. */
+deadpool_reply deadpool_unmanaged_get_cancel(deadpool_unmanaged_pool *pool, size_t ticket);
+
+/* A new add brings an object by its key, and joins the queue if there is no room and `wait` says so:
+ * `DEADPOOL_REPLY_STORED`, or with the key `DEADPOOL_REPLY_CLOSED`, `DEADPOOL_REPLY_FULL`,
+ * `DEADPOOL_REPLY_WAITING` with a ticket, or `DEADPOOL_REPLY_OUT_OF_MEMORY`. */
+deadpool_reply deadpool_unmanaged_add_enter(deadpool_unmanaged_pool *pool, uint64_t key, bool wait);
+
+/* An add in the queue asks for its room: `DEADPOOL_REPLY_STORED`, or with the key `DEADPOOL_REPLY_CLOSED`,
+ * `DEADPOOL_REPLY_WAITING` or `DEADPOOL_REPLY_UNKNOWN`. */
+deadpool_reply deadpool_unmanaged_add_ask(deadpool_unmanaged_pool *pool, size_t ticket, uint64_t key);
+
+/* An add leaves the queue, and the room that it was granted is free again: `DEADPOOL_REPLY_DONE`,
+ * `DEADPOOL_REPLY_UNKNOWN`. */
+deadpool_reply deadpool_unmanaged_add_cancel(deadpool_unmanaged_pool *pool, size_t ticket);
+
+/* An object comes back: `DEADPOOL_REPLY_KEPT`, or with its key `DEADPOOL_REPLY_DROPPED` or
+ * `DEADPOOL_REPLY_UNKNOWN`. */
+deadpool_reply deadpool_unmanaged_back(deadpool_unmanaged_pool *pool, uint64_t key);
+
+/* An object that is out leaves the pool for good, and its room is free: `DEADPOOL_REPLY_TAKEN`,
+ * `DEADPOOL_REPLY_UNKNOWN`. */
+deadpool_reply deadpool_unmanaged_take(deadpool_unmanaged_pool *pool);
+
+/* The pool closes for good, and all that is idle goes. Gives how many keys were written. */
+size_t deadpool_unmanaged_close(deadpool_unmanaged_pool *pool, uint64_t *keys, size_t keys_len);
+
+/* There is one handle more: `DEADPOOL_REPLY_DONE`, `DEADPOOL_REPLY_NO_HANDLE`. */
+deadpool_reply deadpool_unmanaged_clone_handle(deadpool_unmanaged_pool *pool);
+
+/* There is one handle less: `DEADPOOL_REPLY_DONE`, `DEADPOOL_REPLY_NO_HANDLE`. The last one takes all that
+ * is idle with it, and `written` is how many keys of that were written. */
+deadpool_reply deadpool_unmanaged_drop_handle(deadpool_unmanaged_pool *pool, uint64_t *keys, size_t keys_len,
+    size_t *written);
+
+/* There is one handle more, for an owner that has none, if one is left. */
+bool deadpool_unmanaged_upgrade(deadpool_unmanaged_pool *pool);
+
+/* The next get in the queue that is due to be woken, and counts as told from then on:
+ * `DEADPOOL_REPLY_DONE` with its ticket, `DEADPOOL_REPLY_UNKNOWN`. Nothing else changes. */
+deadpool_reply deadpool_unmanaged_take_get_wake(deadpool_unmanaged_pool *pool);
+
+/* The next add in the queue that is due to be woken, and counts as told from then on:
+ * `DEADPOOL_REPLY_DONE` with its ticket, `DEADPOOL_REPLY_UNKNOWN`. Nothing else changes. */
+deadpool_reply deadpool_unmanaged_take_add_wake(deadpool_unmanaged_pool *pool);
+
+/* How the pool stands. */
+deadpool_standing deadpool_unmanaged_status(deadpool_unmanaged_pool *pool);
+
+/* Whether the pool has closed. */
+bool deadpool_unmanaged_is_closed(deadpool_unmanaged_pool *pool);
+
+#ifdef __cplusplus
+}
+#endif
+
+#endif

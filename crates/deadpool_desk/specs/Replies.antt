@@ -1,0 +1,101 @@
+-- Which replies a step may have, what is in the hand then, and what the get holds.
+use Rattle.std.specs.Prelude.{◌≡◌, ◌+◌, ⊤, Option, Some, None, IsSome}
+use Rattle.deadpool_desk.specs.declared.step.Held.{Held}
+use Rattle.deadpool_desk.specs.declared.step.Held.TheVariants as held
+use Rattle.deadpool_desk.specs.declared.step.Holding.{Holding}
+use Rattle.deadpool_desk.specs.declared.step.Holding.TheVariants as holding
+use Rattle.deadpool_desk.specs.declared.step.Reply.{Reply}
+use Rattle.deadpool_desk.specs.declared.step.Reply.TheVariants.{Object, Create, Going, Exhausted, Closed, Full, Waiting, OutOfMemory, Expired, Done, Number, Kept, Detach, Dropped, Taken, Unknown}
+use Rattle.deadpool_desk.specs.declared.step.Step.{Step}
+use Rattle.deadpool_desk.specs.declared.step.Step.TheVariants.{Enter, Ask, Again, Discard, Created, Failed, Refused, Back, Withdraw, Cancel, Take}
+
+-- The replies to each step. A get that goes on takes an object only within an allowance that is set, which is then one less.
+abbrev pub IsReplyTo : Step → Reply → Type 0
+IsReplyTo (Enter wait) (Object left) = ⊤
+IsReplyTo (Enter wait) Create = ⊤
+IsReplyTo (Enter wait) Going = ⊤
+IsReplyTo (Enter wait) Exhausted = ⊤
+IsReplyTo (Enter wait) Closed = ⊤
+IsReplyTo (Enter wait) Full = ⊤
+IsReplyTo (Enter wait) (Waiting ticket) = ⊤
+IsReplyTo (Enter wait) OutOfMemory = ⊤
+IsReplyTo (Ask ticket expired) (Object left) = ⊤
+IsReplyTo (Ask ticket expired) Create = ⊤
+IsReplyTo (Ask ticket expired) Going = ⊤
+IsReplyTo (Ask ticket expired) Exhausted = ⊤
+IsReplyTo (Ask ticket expired) Closed = ⊤
+IsReplyTo (Ask ticket expired) (Waiting same) = same ≡ ticket
+IsReplyTo (Ask ticket expired) Expired = ⊤
+IsReplyTo (Ask ticket expired) Unknown = ⊤
+IsReplyTo (Again (Some allowance)) (Object left) = left + 1 ≡ allowance
+IsReplyTo (Again None) (Object left) = ⊤
+IsReplyTo (Again allowance) Create = ⊤
+IsReplyTo (Again allowance) Going = ⊤
+IsReplyTo (Again allowance) Exhausted = ⊤
+IsReplyTo (Again allowance) Unknown = ⊤
+IsReplyTo Created (Number number) = ⊤
+IsReplyTo Created Unknown = ⊤
+IsReplyTo Back Kept = ⊤
+IsReplyTo Back Detach = ⊤
+IsReplyTo Back Dropped = ⊤
+IsReplyTo Back Unknown = ⊤
+IsReplyTo Take (Taken detach) = ⊤
+IsReplyTo Take Unknown = ⊤
+IsReplyTo Discard Done = ⊤
+IsReplyTo Discard Unknown = ⊤
+IsReplyTo Failed Done = ⊤
+IsReplyTo Failed Unknown = ⊤
+IsReplyTo Refused Done = ⊤
+IsReplyTo Refused Unknown = ⊤
+IsReplyTo (Withdraw ticket) Done = ⊤
+IsReplyTo (Withdraw ticket) Unknown = ⊤
+IsReplyTo (Cancel what) Done = ⊤
+IsReplyTo (Cancel what) Unknown = ⊤
+IsReplyTo _ _ = ⊥
+
+module _ {O : Type 0} where
+  -- only an object that comes back is in the hand at the start
+  abbrev pub Brings : Step → Option O → Type 0
+  Brings Back hand = IsSome hand
+  Brings _ hand = hand ≡ None
+
+  -- an object that is given is in the hand then, one that is kept is not, and otherwise the hand is as it was
+  abbrev pub Leaves : Reply → Option O → Option O → Type 0
+  Leaves (Object left) was hand = IsSome hand
+  Leaves Kept was hand = hand ≡ None
+  Leaves _ was hand = hand ≡ was
+
+-- what is given back
+abbrev pub held_as : Held → Holding
+held_as held.Place = holding.Place
+held_as held.Creation = holding.Creation
+held_as held.Object = holding.Object
+
+-- what a get holds before a step
+abbrev pub needed : Step → Holding
+needed (Enter wait) = holding.Nothing
+needed (Ask ticket expired) = holding.Nothing
+needed (Again allowance) = holding.Place
+needed Discard = holding.Object
+needed Created = holding.Creation
+needed Failed = holding.Creation
+needed Refused = holding.Object
+needed Back = holding.Object
+needed (Withdraw ticket) = holding.Nothing
+needed (Cancel what) = held_as what
+needed Take = holding.Object
+
+-- and after it
+abbrev pub held_if_served : Reply → Holding
+held_if_served (Object left) = holding.Object
+held_if_served Create = holding.Creation
+held_if_served Going = holding.Place
+held_if_served _ = holding.Nothing
+
+abbrev pub left_by : Step → Reply → Holding
+left_by (Enter wait) reply = held_if_served reply
+left_by (Ask ticket expired) reply = held_if_served reply
+left_by (Again allowance) reply = held_if_served reply
+left_by Discard Done = holding.Place
+left_by Created (Number number) = holding.Object
+left_by _ _ = holding.Nothing

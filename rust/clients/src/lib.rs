@@ -1,0 +1,1 @@
+//! Programs with real executors, which have `deadpool` as any program with backends has it: `tests` has all of them.

@@ -1,0 +1,113 @@
+//! What each feature has: tokio's and async-std's own timers and threads, names, and configurations in JSON.
+use deadpool::managed::{
+    Manager, Metrics, Pool, PoolConfig, PoolError, QueueMode, RecycleResult, TimeoutType, Timeouts,
+};
+use deadpool::{Runtime, SpawnBlockingError, unmanaged};
+use std::convert::Infallible;
+use std::future::pending;
+use std::time::{Duration, Instant};
+
+const HOUR: Duration = Duration::from_secs(3600);
+const SOON: Duration = Duration::from_millis(30);
+
+/// Makes zeros, or waits for good.
+struct Zeros {
+    is_stuck: bool,
+}
+
+impl Manager for Zeros {
+    type Type = u64;
+    type Error = Infallible;
+
+    async fn create(&self) -> Result<u64, Infallible> {
+        if self.is_stuck { pending().await } else { Ok(0) }
+    }
+
+    async fn recycle(&self, _: &mut u64, _: &Metrics) -> RecycleResult<Infallible> {
+        Ok(())
+    }
+}
+
+fn pool(is_stuck: bool, runtime: Runtime, timeouts: Timeouts) -> Pool<Zeros> {
+    let builder = Pool::builder(Zeros { is_stuck }).max_size(1).runtime(runtime).timeouts(timeouts);
+    builder.build().expect("a pool")
+}
+
+#[tokio::test(start_paused = true)]
+async fn an_hour_of_tokios_paused_clock_passes_at_once() {
+    let (begun, begun_there) = (Instant::now(), tokio::time::Instant::now());
+    let all = Timeouts { wait: Some(HOUR), create: Some(2 * HOUR), recycle: None };
+    let waits = pool(false, Runtime::Tokio1, all);
+    let object = waits.get().await.expect("an object");
+    assert_eq!(tokio::time::Instant::now(), begun_there);
+    assert!(matches!(waits.get().await, Err(PoolError::Timeout(TimeoutType::Wait))));
+    assert!((HOUR..HOUR + SOON).contains(&begun_there.elapsed()));
+    let creates = pool(true, Runtime::Tokio1, all);
+    assert!(matches!(creates.get().await, Err(PoolError::Timeout(TimeoutType::Create))));
+    let config = unmanaged::PoolConfig { max_size: 1, timeout: Some(HOUR), runtime: Some(Runtime::Tokio1) };
+    let empty = unmanaged::Pool::<u8>::from_config(&config);
+    assert!(matches!(empty.get().await, Err(unmanaged::PoolError::Timeout)));
+    assert_eq!(Runtime::Tokio1.timeout(HOUR, pending::<u8>()).await, None);
+    assert!((5 * HOUR..5 * HOUR + SOON).contains(&begun_there.elapsed()));
+    assert!(begun.elapsed() < HOUR / 60, "no hour of real time has passed");
+    drop(object);
+    assert_eq!(*waits.get().await.expect("the object is back"), 0);
+}
+
+#[tokio::test]
+async fn tokio_runs_what_blocks_on_its_own_threads() {
+    let there = Runtime::Tokio1.spawn_blocking(|| tokio::runtime::Handle::try_current().is_ok()).await;
+    assert!(there.expect("it does not panic"), "the closure is on a thread of the executor");
+    let ended = Runtime::Tokio1.spawn_blocking(|| panic!("planned")).await;
+    let Err::<(), _>(SpawnBlockingError::Panic(panic)) = ended else { panic!("it has panicked") };
+    assert_eq!(panic.downcast_ref(), Some(&"planned"));
+}
+
+#[test]
+fn async_std_has_its_own_timers_and_threads() {
+    async_std::task::block_on(async {
+        let begun = Instant::now();
+        let waits = pool(false, Runtime::AsyncStd1, Timeouts { wait: Some(SOON), ..Timeouts::new() });
+        let object = waits.get().await.expect("an object");
+        assert!(matches!(waits.get().await, Err(PoolError::Timeout(TimeoutType::Wait))));
+        assert!(begun.elapsed() >= SOON);
+        drop(object);
+        let name = Runtime::AsyncStd1.spawn_blocking(|| std::thread::current().name().map(String::from)).await;
+        assert!(name.expect("it does not panic").is_some_and(|it| it.starts_with("blocking")));
+    });
+}
+
+#[test]
+fn each_runtime_has_its_name() {
+    fn is_same_type(runtime: deadpool_runtime::Runtime) -> Runtime {
+        runtime
+    }
+    let _: fn(deadpool_runtime::SpawnBlockingError) -> SpawnBlockingError = |it| it;
+    let names = [Runtime::Thread, Runtime::Tokio1, Runtime::AsyncStd1, Runtime::Smol2];
+    let told = names.map(|it| format!("{:?}", is_same_type(it)));
+    assert_eq!(told, ["Thread", "Tokio1", "AsyncStd1", "Smol2"]);
+    for (at, one) in names.iter().enumerate() {
+        assert!(names.iter().enumerate().all(|(other_at, other)| (one == other) == (at == other_at)));
+    }
+    // (it is a pattern too, as backends write it)
+    assert!(matches!(Runtime::Tokio1, Runtime::Tokio1) && !matches!(Runtime::Thread, Runtime::Tokio1));
+}
+
+#[test]
+fn configurations_are_read_and_written() {
+    let timeouts = r#"{"wait":{"secs":1,"nanos":2},"create":null,"recycle":null}"#;
+    let text = format!(r#"{{"max_size":3,"timeouts":{timeouts},"queue_mode":"Lifo"}}"#);
+    let config: PoolConfig = serde_json::from_str(&text).expect("a configuration");
+    assert_eq!((config.max_size, config.queue_mode), (3, QueueMode::Lifo));
+    assert_eq!(config.timeouts.wait, Some(Duration::new(1, 2)));
+    assert_eq!(serde_json::to_string(&config).expect("a text"), text);
+    let config: PoolConfig = serde_json::from_str(r#"{"max_size":4}"#).expect("the others have defaults");
+    assert_eq!((config.max_size, config.queue_mode, config.timeouts.wait), (4, QueueMode::Fifo, None));
+    assert!(serde_json::from_str::<PoolConfig>(r#"{"max_size":4,"queue_mode":"lifo"}"#).is_err());
+    assert!(serde_json::from_str::<PoolConfig>("{}").is_err(), "the limit has no default");
+    let config = unmanaged::PoolConfig { max_size: 5, timeout: Some(HOUR), runtime: Some(Runtime::Tokio1) };
+    let text = serde_json::to_string(&config).expect("a text");
+    assert_eq!(text, r#"{"max_size":5,"timeout":{"secs":3600,"nanos":0}}"#);
+    let config: unmanaged::PoolConfig = serde_json::from_str(&text).expect("a configuration");
+    assert_eq!((config.max_size, config.timeout, config.runtime), (5, Some(HOUR), None));
+}

@@ -1,0 +1,84 @@
+// Made by .ci/made-rust of crates/deadpool_desk/src/state/counted.rt, without its contracts. The proof is of that text.
+//! What a core says of itself between two steps: its handles, its counts, its idle objects, and who in the queue has a place.
+
+use super::Core;
+use crate::cores::desk::gate::Ticket;
+use crate::cores::desk::{Counts, Slot};
+
+impl<T> Core<T> {
+    /// Whether a pool handle is left.
+    #[inline]
+    pub fn has_handle(&self) -> bool {
+        self.handles > 0
+    }
+
+    /// Whether just one pool handle is left, which takes the idle objects with it.
+    #[inline]
+    pub fn is_last_handle(&self) -> bool {
+        self.handles == 1
+    }
+
+    /// The idle object at this position, front to back.
+    #[inline]
+    pub fn idle_at(&self, at: usize) -> Option<&Slot<T>> {
+        self.ring.get(at)
+    }
+
+    /// How many idle objects a resize to this limit gives up: those at the front. It is 0 once the pool has closed.
+    #[inline]
+    pub fn surplus(&self, limit: usize) -> usize {
+        if self.gate.is_closed() {
+            return 0;
+        }
+        let idle = self.ring.len();
+        let excess = (idle + self.places.outside).saturating_sub(limit);
+        excess.min(idle.saturating_sub(self.min_idle.min(limit)))
+    }
+
+    /// Whether the pool has closed.
+    #[inline]
+    pub fn is_closed(&self) -> bool {
+        self.gate.is_closed()
+    }
+
+    /// Whether a get that enters now, and is willing to wait, has to join the queue: the pool is open, and no place is free.
+    #[inline]
+    pub fn would_queue(&self) -> bool {
+        !self.gate.is_closed() && self.places.room(&self.gate) == 0
+    }
+
+    /// What the pool counts.
+    #[inline]
+    pub fn counts(&self) -> Counts {
+        let idle = self.ring.len();
+        let granted = self.gate.granted();
+        let size = idle + self.places.outside;
+        let served = granted + self.places.going;
+        Counts {
+            limit: self.places.limit,
+            size,
+            places: served + self.places.creations + self.places.outside,
+            reach: size + self.places.creations + served.saturating_sub(idle),
+            granted,
+            waiting: self.gate.waiting(),
+        }
+    }
+
+    /// Whether the get in the queue with this ticket was granted a place, which it has not taken yet. Nothing changes.
+    #[inline]
+    pub fn is_granted(&mut self, ticket: Ticket) -> bool {
+        self.gate.has_place(ticket)
+    }
+
+    /// The number of the ticket that the next get in the queue has.
+    #[inline]
+    pub fn next_ticket(&self) -> usize {
+        self.gate.next_number()
+    }
+
+    // How many objects stay idle, if as many are.
+    #[inline]
+    pub(super) fn least_idle(&self) -> usize {
+        self.min_idle.min(self.places.limit)
+    }
+}

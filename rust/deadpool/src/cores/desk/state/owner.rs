@@ -1,0 +1,105 @@
+// Made by .ci/made-rust of crates/deadpool_desk/src/state/owner.rt, without its contracts. The proof is of that text.
+//! The steps of a core that the pool's owner makes.
+
+use super::Core;
+use crate::cores::desk::review::review;
+use crate::cores::desk::{HandleReply, OwnerDesk, Removals, RetainResult, Retainer, Status};
+use crate::rattle::AllocError;
+
+impl<T> Core<T> {
+    /// A retain that notes the objects that it gives up. The list of notes takes memory as that of the values does.
+    #[inline]
+    pub fn retain_noting<R: Retainer<T>>(
+        &mut self,
+        retainer: &mut R,
+    ) -> Result<(RetainResult<T>, Removals), AllocError> {
+        let least = self.least_idle();
+        let (removed, noted) = review(&mut self.ring, least, retainer)?;
+        let result = RetainResult { retained: self.ring.len(), removed };
+        Ok((result, Removals::new(noted)))
+    }
+}
+
+impl<T> OwnerDesk<T> for Core<T> {
+    // A get without an object counts against the idle ones, and waits if none is left for it.
+    #[inline]
+    fn status(&mut self) -> Status {
+        let idle = self.ring.len();
+        let pending = self.gate.waiting() + self.gate.granted() + self.places.going + self.places.creations;
+        Status {
+            max_size: self.places.limit,
+            size: idle + self.places.outside,
+            available: idle.saturating_sub(pending),
+            waiting: pending.saturating_sub(idle),
+        }
+    }
+
+    // What is beyond the limit goes from the front.
+    #[inline]
+    fn resize(&mut self, limit: usize) -> Result<(), AllocError> {
+        if self.gate.is_closed() {
+            return Ok(());
+        }
+        if limit > self.ring.capacity() {
+            self.ring.resize(limit)?;
+        }
+        let idle = self.ring.len();
+        let excess = (idle + self.places.outside).saturating_sub(limit);
+        let spare = idle.saturating_sub(self.min_idle.min(limit));
+        self.places.limit = limit;
+        self.ring.truncate_front(idle - excess.min(spare));
+        self.places.settle(&mut self.gate);
+        Ok(())
+    }
+
+    // The notes of a retain that notes are dropped.
+    #[inline]
+    fn retain<R: Retainer<T>>(&mut self, retainer: &mut R) -> Result<RetainResult<T>, AllocError> {
+        match self.retain_noting(retainer) {
+            Ok((result, _)) => Ok(result),
+            Err(e) => Err(e),
+        }
+    }
+
+    // Those that wait are refused when they ask.
+    #[inline]
+    fn close(&mut self) {
+        self.places.limit = 0;
+        self.ring.clear();
+        self.gate.close();
+    }
+
+    // There is one more only if one is left.
+    #[inline]
+    fn clone_handle(&mut self) -> HandleReply {
+        if self.handles == 0 {
+            return HandleReply::NoHandle;
+        }
+        self.handles = self.handles.saturating_add(1);
+        HandleReply::Done
+    }
+
+    // The last takes what is idle with it.
+    #[inline]
+    fn drop_handle(&mut self) -> HandleReply {
+        if self.handles == 0 {
+            return HandleReply::NoHandle;
+        }
+        if self.handles < u64::MAX {
+            self.handles -= 1;
+        }
+        if self.handles == 0 {
+            self.ring.clear();
+        }
+        HandleReply::Done
+    }
+
+    // A clone, seen as an answer.
+    #[inline]
+    fn upgrade(&mut self) -> bool {
+        match self.clone_handle() {
+            HandleReply::Done => true,
+            HandleReply::NoHandle => false,
+        }
+    }
+}

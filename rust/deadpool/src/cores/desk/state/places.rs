@@ -1,0 +1,42 @@
+// Made by .ci/made-rust of crates/deadpool_desk/src/state/places.rt, without its contracts. The proof is of that text.
+//! The places of a pool: how many there are, and what holds those that no get in the queue has.
+//!
+//! A step may leave places free while gets wait, and settles them before it ends. So these are functions over the counts and
+//! the queue alone, and not over a core, which is settled.
+
+use crate::cores::desk::gate::Gate;
+
+// How many places there are, and how many of them are held, by what holds them.
+pub(super) struct Places {
+    pub limit: usize,
+    // Of gets that hold nothing else.
+    pub going: usize,
+    // Of gets with a creation under way.
+    pub creations: usize,
+    // Of objects: those under preparation and those out.
+    pub outside: usize,
+}
+
+impl Places {
+    // None is held.
+    #[inline]
+    pub fn new(limit: usize) -> Places {
+        Places { limit, going: 0, creations: 0, outside: 0 }
+    }
+
+    // How many more there are than are held, those included that the gate has granted.
+    #[inline]
+    pub fn room(&self, gate: &Gate) -> usize {
+        let held = gate.granted() + self.going + self.creations + self.outside;
+        self.limit.saturating_sub(held)
+    }
+
+    // Grants the free places to the earliest that wait.
+    #[inline]
+    pub fn settle(&self, gate: &mut Gate) {
+        if gate.waiting() > 0 {
+            let room = self.room(gate);
+            gate.settle(room);
+        }
+    }
+}

@@ -1,0 +1,99 @@
+// Made by .ci/made-rust of crates/deadpool_gate/src/gate/store.rt, without its contracts. The proof is of that text.
+//! The nodes of a gate. They are reached only through this store, which counts each access to one of them.
+
+use crate::rattle::Slab;
+use crate::rattle::{AllocError, Global};
+
+/// A listed waiter, with the keys of its neighbours.
+#[derive(Clone, Copy)]
+pub struct Node {
+    pub previous: Option<usize>,
+    pub next: Option<usize>,
+    pub granted: bool,
+    pub told: bool,
+}
+
+/// What a write sets in a node: one field.
+#[derive(Clone, Copy)]
+pub enum Change {
+    Previous(Option<usize>),
+    Next(Option<usize>),
+    Granted,
+    Told,
+}
+
+impl Node {
+    #[inline]
+    fn with(self, change: Change) -> Self {
+        match change {
+            Change::Previous(previous) => Node { previous, ..self },
+            Change::Next(next) => Node { next, ..self },
+            Change::Granted => Node { granted: true, ..self },
+            Change::Told => Node { told: true, ..self },
+        }
+    }
+}
+
+/// The nodes under their keys.
+#[repr(C)]
+pub struct NodeStore {
+    nodes: Slab<Node>,
+    accesses: u128,
+}
+
+impl NodeStore {
+    /// No nodes, and no memory for any.
+    #[inline]
+    pub fn new(alloc: Global) -> Self {
+        NodeStore { nodes: Slab::new(alloc), accesses: 0 }
+    }
+
+    /// How many accesses there were so far. It never falls; at the greatest number it stays.
+    #[inline]
+    pub fn accesses(&self) -> u128 {
+        self.accesses
+    }
+
+    /// The key that the next node gets. It is no access to a node.
+    #[inline]
+    pub fn next_key(&self) -> usize {
+        self.nodes.vacant_key()
+    }
+
+    /// Reads a node: one access.
+    #[inline]
+    pub fn read(&mut self, key: usize) -> Option<Node> {
+        self.accesses = self.accesses.saturating_add(1);
+        self.nodes.get(key).copied()
+    }
+
+    /// Writes one field of a node, if there is one under the key: one access.
+    #[inline]
+    pub fn write(&mut self, key: usize, change: Change) {
+        self.accesses = self.accesses.saturating_add(1);
+        if let Some(node) = self.nodes.get_mut(key) {
+            *node = node.with(change);
+        }
+    }
+
+    /// Puts a node in, under a key that had none: one access. If no memory is found only the count changes. Half of
+    /// all numbers is taken to be more nodes than any memory has.
+    #[inline]
+    pub fn put(&mut self, node: Node) -> Result<usize, AllocError> {
+        self.accesses = self.accesses.saturating_add(1);
+        if self.nodes.len() >= usize::MAX / 2 {
+            return Err(AllocError);
+        }
+        match self.nodes.insert(node) {
+            Ok(key) => Ok(key),
+            Err(_) => Err(AllocError),
+        }
+    }
+
+    /// Takes a node out: one access. Its key may be given again.
+    #[inline]
+    pub fn take(&mut self, key: usize) -> Option<Node> {
+        self.accesses = self.accesses.saturating_add(1);
+        self.nodes.try_remove(key)
+    }
+}

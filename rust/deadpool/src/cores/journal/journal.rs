@@ -1,0 +1,22 @@
+// Made by .ci/made-rust of crates/deadpool_journal/src/journal.rt, without its contracts. The proof is of that text.
+//! A journal as it is handed out.
+use crate::cores::desk::QueueMode;
+use crate::cores::journal::Entry;
+use crate::rattle::Vec;
+
+/// A copy of a journal: the steps that a pool made since it opened, in order, each with its reply.
+///
+/// It is printed line by line: `opened` with the limit, the mode and the least number of idle objects, then one entry a
+/// line, and at the end `full` if the journal is full. The last line has no line end.
+#[derive(Debug, PartialEq)]
+pub struct Journal {
+    /// The limit that the pool opened with, a number of objects.
+    pub limit: usize,
+    /// The mode that it opened with.
+    pub mode: QueueMode,
+    /// How many objects a shrink and a retain leave idle, if as many are.
+    pub min_idle: usize,
+    pub entries: Vec<Entry>,
+    /// Whether a step has found no room for its entry. Steps from there on are not among the entries.
+    pub full: bool,
+}

@@ -1,0 +1,192 @@
+// Made by .ci/made-rust of crates/deadpool_journal/src/journaled.rt, without its contracts. The proof is of that text.
+//! A pool's state, beside the steps that led to it.
+
+use crate::cores::desk::gate::Ticket;
+use crate::cores::desk::{
+    Core, Desk, HandleReply, OwnerDesk, QueueMode, Reply, RetainResult, Retainer, Slot, Status, Step,
+};
+use crate::cores::journal::log::{Log, number_in};
+use crate::cores::journal::{Entry, Journal};
+use crate::rattle::{AllocError, Global};
+
+/// A pool's state with a journal: at most so many entries, one for each step, and a mark that a step found no room.
+///
+/// Until the mark is set, the entries, replayed from the state that the pool opened with, are the state, objects by
+/// number. Each step is that of `Core` and adds its entry, or sets the mark. Of the steps, an entry into the queue, a
+/// resize and a retain may take memory, as they do without a journal; the notes of a retain take some too, but not if
+/// there is no room for its entry.
+#[repr(C)]
+pub struct Journaled<T> {
+    core: Core<T>,
+    log: Log,
+    limit: usize,
+    mode: QueueMode,
+    min_idle: usize,
+}
+
+impl<T> Journaled<T> {
+    /// A pool with nothing idle and one handle, whose first object gets the number 0, and room for so many entries. With
+    /// none the journal takes no memory, and the first step sets the mark. `min_idle` is as in `Core::new`.
+    #[inline]
+    pub fn new(
+        alloc: Global,
+        limit: usize,
+        mode: QueueMode,
+        most_entries: usize,
+        min_idle: usize,
+    ) -> Result<Journaled<T>, AllocError> {
+        let core = Core::new(alloc, limit, mode, 0, min_idle)?;
+        let log = Log::new(alloc, most_entries)?;
+        Ok(Journaled { core, limit, mode, min_idle, log })
+    }
+
+    /// A copy of the journal. It is no step.
+    #[inline]
+    pub fn journal(&self) -> Result<Journal, AllocError> {
+        Ok(Journal {
+            limit: self.limit,
+            mode: self.mode,
+            min_idle: self.min_idle,
+            entries: self.log.entries()?,
+            full: self.log.is_full(),
+        })
+    }
+
+    /// The entry at this position of the journal. It is no step.
+    #[inline]
+    pub fn entry(&self, at: usize) -> Option<&Entry> {
+        self.log.entry(at)
+    }
+
+    /// Whether a step has found no room for its entry. It is no step.
+    #[inline]
+    pub fn is_full(&self) -> bool {
+        self.log.is_full()
+    }
+
+    /// What is true of every state with its journal. The call does nothing.
+    #[inline]
+    pub fn laws(&self) {
+        self.core.laws();
+    }
+
+    /// Whether the pool has closed. It is no step.
+    #[inline]
+    pub fn is_closed(&self) -> bool {
+        self.core.is_closed()
+    }
+
+    /// Whether just one pool handle is left, which takes the idle objects with it. It is no step.
+    #[inline]
+    pub fn is_last_handle(&self) -> bool {
+        self.core.is_last_handle()
+    }
+
+    /// The idle object at this position, front to back. It is no step.
+    #[inline]
+    pub fn idle_at(&self, at: usize) -> Option<&Slot<T>> {
+        self.core.idle_at(at)
+    }
+
+    /// How many idle objects a resize to this limit gives up: those at the front. It is no step.
+    #[inline]
+    pub fn surplus(&self, limit: usize) -> usize {
+        self.core.surplus(limit)
+    }
+
+    /// Whether a get that enters now, and is willing to wait, has to join the queue. It is no step.
+    #[inline]
+    pub fn would_queue(&self) -> bool {
+        self.core.would_queue()
+    }
+
+    /// The number of the ticket that the next get in the queue has. It is no step.
+    #[inline]
+    pub fn next_ticket(&self) -> usize {
+        self.core.next_ticket()
+    }
+
+    /// The next get in the queue that is due to be woken, and that was not named before. It is no step, and nothing is
+    /// noted.
+    #[inline]
+    pub fn take_wake(&mut self) -> Option<Ticket> {
+        self.core.take_wake()
+    }
+
+    /// Whether `take_wake` would name a get. It is no step.
+    #[inline]
+    pub fn is_wake_due(&self) -> bool {
+        self.core.is_wake_due()
+    }
+}
+
+impl<T> Desk<T> for Journaled<T> {
+    #[inline(always)]
+    fn make(&mut self, step: &Step, hand: &mut Option<Slot<T>>) -> Reply {
+        let taken = number_in(hand);
+        let reply = self.core.make(step, hand);
+        self.log.add_step(step, taken, hand, &reply);
+        reply
+    }
+}
+
+impl<T> OwnerDesk<T> for Journaled<T> {
+    #[inline]
+    fn status(&mut self) -> Status {
+        let status = self.core.status();
+        self.log.add(Entry::Status(status));
+        status
+    }
+
+    #[inline]
+    fn resize(&mut self, limit: usize) -> Result<(), AllocError> {
+        let reply = self.core.resize(limit);
+        self.log.add(Entry::Resize(limit, reply));
+        reply
+    }
+
+    #[inline]
+    fn retain<R: Retainer<T>>(&mut self, retainer: &mut R) -> Result<RetainResult<T>, AllocError> {
+        if !self.log.has_room() {
+            self.log.mark_full();
+            return self.core.retain(retainer);
+        }
+        match self.core.retain_noting(retainer) {
+            Ok((result, noted)) => {
+                self.log.add(Entry::Retain(Ok(noted)));
+                Ok(result)
+            }
+            Err(e) => {
+                self.log.add(Entry::Retain(Err(e)));
+                Err(e)
+            }
+        }
+    }
+
+    #[inline]
+    fn close(&mut self) {
+        self.core.close();
+        self.log.add(Entry::Close);
+    }
+
+    #[inline]
+    fn clone_handle(&mut self) -> HandleReply {
+        let reply = self.core.clone_handle();
+        self.log.add_clone_handle(reply);
+        reply
+    }
+
+    #[inline]
+    fn drop_handle(&mut self) -> HandleReply {
+        let reply = self.core.drop_handle();
+        self.log.add_drop_handle(reply);
+        reply
+    }
+
+    #[inline]
+    fn upgrade(&mut self) -> bool {
+        let is_left = self.core.upgrade();
+        self.log.add(Entry::Upgrade(is_left));
+        is_left
+    }
+}

@@ -1,0 +1,12 @@
+// Made by .ci/made-rust of crates/deadpool_journal/src/lib.rt, without its contracts. The proof is of that text.
+//! A managed pool's state with a journal of its steps, for whoever keeps both under a lock. Nothing here takes one.
+
+mod entry;
+mod journal;
+mod journaled;
+mod log;
+mod texts;
+
+pub use entry::Entry;
+pub use journal::Journal;
+pub use journaled::Journaled;
