@@ -84,9 +84,9 @@ enum Cut {
 }
 
 impl Cut {
-    fn new(random: &mut Random) -> Self {
-        // (an attempt takes some 100 ms, most of which is its wait)
-        let (after, polls) = (Duration::from_micros(random.below(150_000)), random.below(7) as usize);
+    /// Of the times half come before a transfer of the usual time ends, on a fast machine and on a slow one.
+    fn new(random: &mut Random, usual_time: Duration) -> Self {
+        let (after, polls) = (usual_time.mul_f64(random.below(2000) as f64 / 1000.0), random.below(7) as usize);
         match random.below(16) {
             0 => Cut::Timeout(after),
             1 => Cut::Select(after),
@@ -160,7 +160,7 @@ pub async fn make(pool: Pool, ledger: Arc<Ledger>, seed: u64) {
     let mut random = Random::new(seed + 1);
     while ledger.kept() < TRANSFERS {
         let transfer = Transfer::new(ledger.begun.fetch_add(1, SeqCst), &mut random);
-        let counted = match attempt_cut(&pool, &ledger, transfer, Cut::new(&mut random)).await {
+        let counted = match attempt_cut(&pool, &ledger, transfer, Cut::new(&mut random, ledger.usual_time())).await {
             End::Kept => {
                 ledger.kept.lock().expect("no task has panicked").push(transfer.number);
                 continue;
