@@ -1,4 +1,4 @@
-//! Sixty-four tasks move money between a hundred accounts over a pool of eight connections. A quarter of what they try is cancelled,
+//! Sixty-four tasks move money between a hundred accounts over a pool of eight connections. Some quarter of what they try is cancelled,
 //! connections are ended by the server, and the server is restarted twice. At the end the books agree, the pool is whole, and no
 //! connection is left open.
 #[path = "../common/mod.rs"]
