@@ -75,7 +75,8 @@ pub fn cancel_gets<R: Host, L: Line>(table: Table<R>, line: L) -> io::Result<()>
     Ok(())
 }
 
-/// Times leaving the middle of lines in which so many wait, and writes its row. The lines come back with nobody in them.
+/// Times leaving the middle of lines in which so many wait, and writes its row. The lines come back with nobody in
+/// them.
 ///
 /// A tenth of a line leaves in a window, but five of ten, so that its length stays about what it was. A window has one
 /// reading of the clock in it, which is felt if few leave.

@@ -1,8 +1,8 @@
 //! What a get and its return cost, beside a plain pool and a bare lock.
 //!
 //! The program writes nothing to standard output. With the argument `measure` it does each work often and writes a
-//! table to standard error. With a number it does each work so often in a window, and writes the table too. With neither it
-//! does each a few times, which shows that all of it runs.
+//! table to standard error. With a number it does each work so often in a window, and writes the table too. With
+//! neither it does each a few times, which shows that all of it runs.
 #![tactic(auto)]
 
 mod cancels;

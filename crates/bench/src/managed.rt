@@ -10,7 +10,7 @@ use crate::table::Table;
 use crate::work::{SharedWork, all_served, lacks_object};
 use crate::zeros::Zeros;
 use deadpool::NoTime;
-use deadpool::managed::desk::Slot;
+use deadpool::managed::desk::{Kept, Slot};
 use deadpool::managed::{Blanks, Build, Get, Ledgers, NoHook, Object, Pool, PoolBuilder, Timeouts};
 use deadpool_threads::Waiter;
 use futures::Future;
@@ -65,7 +65,7 @@ where
 
 fn measure_alone<R: Host, L: Ledgers>(table: Table<R>, pool: &ZeroPool<R, L>) -> io::Result<()> {
     // Beside its object's slot and timeouts of its own, a get takes at most 128 bytes.
-    let places = size_of::<Option<Slot<u64>>>() + size_of::<Option<Timeouts>>();
+    let places = size_of::<Option<Slot<Kept<u64>>>>() + size_of::<Option<Timeouts>>();
     prove!(size_of::<ZeroGet<R, L>>() <= 128 + places);
     measure_polls(table, pool)?;
     measure_waits(table, pool)

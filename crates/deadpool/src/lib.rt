@@ -1,5 +1,5 @@
-//! Object and connection pools: the managed and the unmanaged pool's state, gets over it, and trials, which play moves and
-//! lose no place, no object and no get that waits.
+//! Object and connection pools: the managed and the unmanaged pool's state, gets over it, and trials, which play moves
+//! and lose no place, no object and no get that waits.
 #![tactic(auto)]
 
 pub mod managed;

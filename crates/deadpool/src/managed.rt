@@ -1,7 +1,7 @@
 //! The managed pool: a manager creates its objects and recycles those that came back.
 //!
-//! A `PoolBuilder` builds it for threads and tasks, or opens it on one thread. It stands in crates of its own, which know
-//! no trial. `desk` has what a pool is made of.
+//! A `PoolBuilder` builds it for threads and tasks, or opens it on one thread. It stands in crates of its own, which
+//! know no trial. `desk` has what a pool is made of.
 
 pub mod desk;
 

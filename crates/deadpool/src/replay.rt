@@ -1,4 +1,5 @@
-//! Runs of moves over a managed pool on one thread, by any number of parties; `unmanaged` has those over an unmanaged one.
+//! Runs of moves over a managed pool on one thread, by any number of parties; `unmanaged` has those over an unmanaged
+//! one.
 
 pub mod unmanaged;
 

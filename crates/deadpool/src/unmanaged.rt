@@ -1,13 +1,12 @@
 //! The unmanaged pool: its objects are those that its user adds.
 //!
-//! `Pool` is the pool for threads and tasks; its gets, adds and removals are futures. `Core` is its state on one thread,
-//! where a get and an add are states that their owner polls (`GetState`, `AddState`), each poll with at most one of its
-//! steps. Both stand in crates of their own, which know no manager.
+//! `Pool` is the pool for threads and tasks; its gets, adds and removals are futures. `Core` is its state on one
+//! thread, where a get and an add are states that their owner polls (`GetState`, `AddState`), each poll with at most
+//! one of its steps. Both stand in crates of their own, which know no manager.
 
 pub use deadpool_unmanaged::{
-    AddAskReply, AddEnterReply, AddStage, AddState, BackReply, ConfigError, Core, Counts,
-    GetAskReply, GetEnterReply, GetStage, GetState, HandleReply, PoolConfig, PoolError, Status,
-    StepReply, TakeReply,
+    AddStage, AddState, ConfigError, Core, Counts, GetStage, GetState, HandleReply, PoolConfig,
+    PoolError, Reply, Status, Step,
 };
 pub use deadpool_unmanaged_shared::{
     Add, AddRef, Adding, Get, GetRef, Getting, Object, Pool, Remove, Removing,

@@ -27,7 +27,7 @@ pub fn poll_buffer<C: Clock, R: Wait + Drop, L: Ledgers>(
     get: &mut GetBuffer<C, R, L>,
     cx: &mut Context<'_>,
 ) -> Poll<Result<Buffer<C, R, L>, PoolError<BufferError>>>
-    ensures empty { IfReadyOk result (λ buffer. buffer.slot.value.items ≡ []) }
+    ensures empty { IfReadyOk result (λ buffer. buffer.slot.value.value.items ≡ []) }
     ensures armed { OnPending result (IsArmed cx.new) }
     ensures kept { Keeps cx.old cx.new }
 {
@@ -39,9 +39,9 @@ pub fn fill<C: Clock, R: Wait + Drop, L: Ledgers>(
     buffer: &mut Buffer<C, R, L>,
     line: &[u8],
 ) -> Result<usize, AllocError>
-    requires empty { buffer.old.slot.value.items ≡ [] }
+    requires empty { buffer.old.slot.value.value.items ≡ [] }
     ensures length { IfOk result (λ count. count ≡ length line.now) }
-    ensures filled { OnOk result (buffer.new.slot.value.items ≡ line.now) }
+    ensures filled { OnOk result (buffer.new.slot.value.value.items ≡ line.now) }
 {
     buffer.extend_from_slice(line)?;
     Ok(buffer.len())

@@ -7,8 +7,8 @@ ghost use Rattle.deadpool_managed.specs.HookLists.{CanCall};
 ghost use Rattle.deadpool_builder.specs.Building.{Building, lacks_any_runtime, newly};
 
 use deadpool_managed::{
-    AsyncHook, BuildError, Core, Environment, Hook, Hooks, Manager, PoolConfig, QueueMode, Runtime,
-    SyncHook, Timeouts,
+    AsyncHook, BuildError, Core, Environment, Hook, Hooks, Kept, Manager, PoolConfig, QueueMode,
+    Runtime, SyncHook, Timeouts,
 };
 use std::alloc::Global;
 use std::marker::Model;
@@ -35,7 +35,7 @@ pub struct PoolParts<M: Manager, F: SyncHook<M>, A: AsyncHook<M>, C: Drop> {
 /// A pool on one thread as its builder opens it: its state, what it lends to its gets, and what it keeps for them.
 #[derive(Drop)]
 pub struct OpenPool<M: Manager, F: SyncHook<M>, A: AsyncHook<M>, C: Drop> {
-    pub core: Core<M::Type>,
+    pub core: Core<Kept<M::Type>>,
     pub environment: Environment<M, F, A>,
     /// Those of a get that is started without its own.
     pub timeouts: Timeouts,
@@ -63,7 +63,17 @@ impl<M: Manager, F: SyncHook<M>, A: AsyncHook<M>, C: Drop> Model for PoolBuilder
 
     ghost Value = { Building M F A C };
 
-    ghost view = { λ b. record { manager = b.manager; hooks = b.hooks; clock = b.clock; max_size = b.max_size; timeouts = b.timeouts; queue_mode = b.queue_mode; min_idle = b.min_idle; runtime = b.runtime; journal = b.journal } };
+    ghost view = { λ b. record {
+      manager = b.manager;
+      hooks = b.hooks;
+      clock = b.clock;
+      max_size = b.max_size;
+      timeouts = b.timeouts;
+      queue_mode = b.queue_mode;
+      min_idle = b.min_idle;
+      runtime = b.runtime;
+      journal = b.journal;
+    } };
 }
 
 impl<M: Manager, F: SyncHook<M>, A: AsyncHook<M>, C: Drop> PoolBuilder<M, F, A, C> {
@@ -99,8 +109,8 @@ impl<M: Manager, F: SyncHook<M>, A: AsyncHook<M>, C: Drop> PoolBuilder<M, F, A, 
         is_timed && self.runtime.is_none()
     }
 
-    /// Gives up all that a pool is made of. A timeout that is set, zero included, needs a runtime. If there is none, the
-    /// builder is dropped with all that it has.
+    /// Gives up all that a pool is made of. A timeout that is set, zero included, needs a runtime. If there is none,
+    /// the builder is dropped with all that it has.
     pub fn into_parts(self) -> Result<PoolParts<M, F, A, C>, BuildError>
         ensures refused { (result ≡ Err NoRuntimeSpecified)
             ↔ (lacks_any_runtime self.runtime self.timeouts ≡ true) }

@@ -146,22 +146,24 @@ static void tell(void) {
     printf("%zu entries, and the journal %s\n", count, deadpool_managed_is_full(&pool) ? "is full" : "has room");
 }
 
+/* Makes a step of the owner, which is to be done, and gives how many keys of idle objects that go were written. */
+static size_t make_for_owner(uint64_t step, size_t number, uint64_t *keys, const char *call) {
+    return want(DEADPOOL_REPLY_DONE, deadpool_managed_make_for_owner(&pool, step, number, keys, LIMIT), call).number;
+}
+
 static void resize(size_t limit) {
     uint64_t keys[LIMIT];
-    deadpool_reply reply = want(DEADPOOL_REPLY_DONE, deadpool_managed_resize(&pool, limit, keys, LIMIT), "resize");
-    drop_all(keys, reply.number);
+    drop_all(keys, make_for_owner(DEADPOOL_STEP_RESIZE, limit, keys, "resize"));
     show("it is resized");
 }
 
 /* Closes the pool and drops its last handle. */
 static void close_all(void) {
     uint64_t keys[LIMIT];
-    drop_all(keys, deadpool_managed_close(&pool, keys, LIMIT));
+    drop_all(keys, make_for_owner(DEADPOOL_STEP_CLOSE, 0, keys, "close"));
     want(DEADPOOL_REPLY_CLOSED, enter(true), "a get at a closed pool");
     show("it is closed");
-    size_t written = LIMIT;
-    want(DEADPOOL_REPLY_DONE, deadpool_managed_drop_handle(&pool, keys, LIMIT, &written), "drop_handle");
-    check(written == 0, "nothing was idle any more");
+    check(make_for_owner(DEADPOOL_STEP_DROP_HANDLE, 0, keys, "drop_handle") == 0, "nothing was idle any more");
 }
 
 int main(void) {

@@ -64,8 +64,7 @@ typedef struct deadpool_reply {
 /* Nothing is free, and the get or the add does not wait. With it comes the key that an add brought. */
 #define DEADPOOL_REPLY_FULL UINT64_C(7)
 
-/* The get or the add is in the queue. With it comes its ticket, if it has joined it or the pool is
- * managed, and the key that an add brought. */
+/* The get or the add is in the queue. With it comes its ticket, and the key that an add brought. */
 #define DEADPOOL_REPLY_WAITING UINT64_C(8)
 
 /* There was no memory, and nothing has changed. With it comes the key that an add brought. */
@@ -179,26 +178,65 @@ typedef struct deadpool_unmanaged_pool {
  * `DEADPOOL_REPLY_TAKEN` or `DEADPOOL_REPLY_UNKNOWN`. */
 #define DEADPOOL_STEP_TAKE UINT64_C(13)
 
-/* The pool was asked how it stands. */
+/* The owner asks how the pool stands. It is made by `deadpool_managed_status`. */
 #define DEADPOOL_STEP_STATUS UINT64_C(14)
 
-/* The pool was given another limit. */
+/* The pool gets another limit, which is `number`, and the idle objects above it go, but for those that are
+ * to stay: `DEADPOOL_REPLY_DONE` or `DEADPOOL_REPLY_OUT_OF_MEMORY`. */
 #define DEADPOOL_STEP_RESIZE UINT64_C(15)
 
-/* Each idle object was asked about. */
+/* Each idle object is asked about. It is made by `deadpool_managed_retain`. */
 #define DEADPOOL_STEP_RETAIN UINT64_C(16)
 
-/* The pool has closed. */
+/* The pool closes for good, and all that is idle goes: `DEADPOOL_REPLY_DONE`. */
 #define DEADPOOL_STEP_CLOSE UINT64_C(17)
 
-/* A handle was to be counted. */
+/* There is one handle more: `DEADPOOL_REPLY_DONE` or `DEADPOOL_REPLY_NO_HANDLE`. */
 #define DEADPOOL_STEP_CLONE_HANDLE UINT64_C(18)
 
-/* A handle was given back. */
+/* There is one handle less, and the last one takes all that is idle with it: `DEADPOOL_REPLY_DONE` or
+ * `DEADPOOL_REPLY_NO_HANDLE`. */
 #define DEADPOOL_STEP_DROP_HANDLE UINT64_C(19)
 
-/* An owner that has none asked for one handle more. */
+/* There is one handle more, for an owner that has none: `DEADPOOL_REPLY_DONE`, or
+ * `DEADPOOL_REPLY_NO_HANDLE` if none is left. */
 #define DEADPOOL_STEP_UPGRADE UINT64_C(20)
+
+/* A new get asks for an object. `is_set` says whether it joins the queue if none is free. The reply is
+ * `DEADPOOL_REPLY_OBJECT` with its key, `DEADPOOL_REPLY_CLOSED`, `DEADPOOL_REPLY_FULL`,
+ * `DEADPOOL_REPLY_WAITING` or `DEADPOOL_REPLY_OUT_OF_MEMORY`. */
+#define DEADPOOL_UNMANAGED_STEP_GET_ENTER UINT64_C(1)
+
+/* A get in the queue asks for its object, by its ticket as `number`. `is_set` says whether it has waited
+ * long enough. The reply is `DEADPOOL_REPLY_OBJECT` with its key, `DEADPOOL_REPLY_CLOSED`,
+ * `DEADPOOL_REPLY_EXPIRED`, `DEADPOOL_REPLY_WAITING` or `DEADPOOL_REPLY_UNKNOWN`. */
+#define DEADPOOL_UNMANAGED_STEP_GET_ASK UINT64_C(2)
+
+/* A get leaves the queue, by its ticket as `number`, and what it was granted is free again:
+ * `DEADPOOL_REPLY_DONE` or `DEADPOOL_REPLY_UNKNOWN`. */
+#define DEADPOOL_UNMANAGED_STEP_GET_CANCEL UINT64_C(3)
+
+/* A new add brings an object by its `key`. `is_set` says whether it joins the queue if there is no room.
+ * The reply is `DEADPOOL_REPLY_STORED`, or with the key `DEADPOOL_REPLY_CLOSED`, `DEADPOOL_REPLY_FULL`,
+ * `DEADPOOL_REPLY_WAITING` or `DEADPOOL_REPLY_OUT_OF_MEMORY`. */
+#define DEADPOOL_UNMANAGED_STEP_ADD_ENTER UINT64_C(4)
+
+/* An add in the queue asks for its room, by its ticket as `number`, and brings its object by its `key`:
+ * `DEADPOOL_REPLY_STORED`, or with the key `DEADPOOL_REPLY_CLOSED`, `DEADPOOL_REPLY_WAITING` or
+ * `DEADPOOL_REPLY_UNKNOWN`. */
+#define DEADPOOL_UNMANAGED_STEP_ADD_ASK UINT64_C(5)
+
+/* An add leaves the queue, by its ticket as `number`, and the room that it was granted is free again:
+ * `DEADPOOL_REPLY_DONE` or `DEADPOOL_REPLY_UNKNOWN`. */
+#define DEADPOOL_UNMANAGED_STEP_ADD_CANCEL UINT64_C(6)
+
+/* An object comes back by its `key`: `DEADPOOL_REPLY_KEPT`, or with the key `DEADPOOL_REPLY_DROPPED` or
+ * `DEADPOOL_REPLY_UNKNOWN`. */
+#define DEADPOOL_UNMANAGED_STEP_BACK UINT64_C(7)
+
+/* An object that is out leaves the pool for good, and its room is free: `DEADPOOL_REPLY_TAKEN` or
+ * `DEADPOOL_REPLY_UNKNOWN`. */
+#define DEADPOOL_UNMANAGED_STEP_TAKE UINT64_C(8)
 
 /* A managed pool: how it is made and ended, the steps that gets and objects make, and who is to be woken. */
 
@@ -229,31 +267,19 @@ deadpool_reply deadpool_managed_take_wake(deadpool_managed_pool *pool);
  * writes their keys, in the order in which they stood, to the front of `keys`, as far as it reaches. Room
  * for as many keys as are idle is enough. */
 
-/* The pool gets another limit: `DEADPOOL_REPLY_DONE` with how many keys were written, or
- * `DEADPOOL_REPLY_OUT_OF_MEMORY`, and the pool is as it was. The objects above the limit go, but for those
- * that are to stay idle. */
-deadpool_reply deadpool_managed_resize(deadpool_managed_pool *pool, size_t limit, uint64_t *keys,
-    size_t keys_len);
+/* Makes a step of the pool's owner: `step` is `DEADPOOL_STEP_RESIZE`, `DEADPOOL_STEP_CLOSE`,
+ * `DEADPOOL_STEP_CLONE_HANDLE`, `DEADPOOL_STEP_DROP_HANDLE` or `DEADPOOL_STEP_UPGRADE`. Each of them says
+ * what `number` is to it, which replies it has, and which idle objects go: with `DEADPOOL_REPLY_DONE`
+ * comes how many of their keys were written. Another `step` is none: the reply is
+ * `DEADPOOL_REPLY_UNKNOWN`, and nothing has changed. */
+deadpool_reply deadpool_managed_make_for_owner(deadpool_managed_pool *pool, uint64_t step, size_t number,
+    uint64_t *keys, size_t keys_len);
 
 /* Asks about each idle object once, front to back: those go whose byte of `keep` is 0, if more are idle
  * than are to stay, and the others stay, also those beyond it. `DEADPOOL_REPLY_DONE` with how many went
  * and in `left` how many stay, or `DEADPOOL_REPLY_OUT_OF_MEMORY`, and nothing has changed. */
 deadpool_reply deadpool_managed_retain(deadpool_managed_pool *pool, const uint8_t *keep, size_t keep_len,
     uint64_t *keys, size_t keys_len);
-
-/* The pool closes for good, and all that is idle goes. Gives how many keys were written. */
-size_t deadpool_managed_close(deadpool_managed_pool *pool, uint64_t *keys, size_t keys_len);
-
-/* There is one handle more: `DEADPOOL_REPLY_DONE`, `DEADPOOL_REPLY_NO_HANDLE`. */
-deadpool_reply deadpool_managed_clone_handle(deadpool_managed_pool *pool);
-
-/* There is one handle less: `DEADPOOL_REPLY_DONE`, `DEADPOOL_REPLY_NO_HANDLE`. The last one takes all that
- * is idle with it, and `written` is how many keys of that were written. */
-deadpool_reply deadpool_managed_drop_handle(deadpool_managed_pool *pool, uint64_t *keys, size_t keys_len,
-    size_t *written);
-
-/* There is one handle more, for an owner that has none, if one is left. */
-bool deadpool_managed_upgrade(deadpool_managed_pool *pool);
 
 /* Whether the pool has closed. It is no step. */
 bool deadpool_managed_is_closed(deadpool_managed_pool *pool);
@@ -285,40 +311,12 @@ bool deadpool_unmanaged_new(deadpool_unmanaged_pool *pool, size_t limit);
 /* Ends a pool. The keys of what is idle are forgotten. */
 void deadpool_unmanaged_free(deadpool_unmanaged_pool pool);
 
-/* A new get asks for an object, and joins the queue if none is free and `wait` says so:
- * `DEADPOOL_REPLY_OBJECT` with its key, `DEADPOOL_REPLY_CLOSED`, `DEADPOOL_REPLY_FULL`,
- * `DEADPOOL_REPLY_WAITING` with a ticket, or `DEADPOOL_REPLY_OUT_OF_MEMORY`. */
-deadpool_reply deadpool_unmanaged_get_enter(deadpool_unmanaged_pool *pool, bool wait);
-
-/* A get in the queue asks for its object. `expired` says that it has waited long enough.
- * `DEADPOOL_REPLY_OBJECT`, `DEADPOOL_REPLY_CLOSED`, `DEADPOOL_REPLY_EXPIRED`, `DEADPOOL_REPLY_WAITING` or
- * `DEADPOOL_REPLY_UNKNOWN`. */
-deadpool_reply deadpool_unmanaged_get_ask(deadpool_unmanaged_pool *pool, size_t ticket, bool expired);
-
-/* A get leaves the queue, and what it was granted is free again: `DEADPOOL_REPLY_DONE`,
- * `DEADPOOL_REPLY_UNKNOWN`. */
-deadpool_reply deadpool_unmanaged_get_cancel(deadpool_unmanaged_pool *pool, size_t ticket);
-
-/* A new add brings an object by its key, and joins the queue if there is no room and `wait` says so:
- * `DEADPOOL_REPLY_STORED`, or with the key `DEADPOOL_REPLY_CLOSED`, `DEADPOOL_REPLY_FULL`,
- * `DEADPOOL_REPLY_WAITING` with a ticket, or `DEADPOOL_REPLY_OUT_OF_MEMORY`. */
-deadpool_reply deadpool_unmanaged_add_enter(deadpool_unmanaged_pool *pool, uint64_t key, bool wait);
-
-/* An add in the queue asks for its room: `DEADPOOL_REPLY_STORED`, or with the key `DEADPOOL_REPLY_CLOSED`,
- * `DEADPOOL_REPLY_WAITING` or `DEADPOOL_REPLY_UNKNOWN`. */
-deadpool_reply deadpool_unmanaged_add_ask(deadpool_unmanaged_pool *pool, size_t ticket, uint64_t key);
-
-/* An add leaves the queue, and the room that it was granted is free again: `DEADPOOL_REPLY_DONE`,
- * `DEADPOOL_REPLY_UNKNOWN`. */
-deadpool_reply deadpool_unmanaged_add_cancel(deadpool_unmanaged_pool *pool, size_t ticket);
-
-/* An object comes back: `DEADPOOL_REPLY_KEPT`, or with its key `DEADPOOL_REPLY_DROPPED` or
- * `DEADPOOL_REPLY_UNKNOWN`. */
-deadpool_reply deadpool_unmanaged_back(deadpool_unmanaged_pool *pool, uint64_t key);
-
-/* An object that is out leaves the pool for good, and its room is free: `DEADPOOL_REPLY_TAKEN`,
- * `DEADPOOL_REPLY_UNKNOWN`. */
-deadpool_reply deadpool_unmanaged_take(deadpool_unmanaged_pool *pool);
+/* Makes a step of a get, an add or an object: `step` is one of the eight constants from
+ * `DEADPOOL_UNMANAGED_STEP_GET_ENTER` on. Each of them says what `is_set`, `number` and `key` are to it,
+ * and which replies it has; what it does not name is not looked at. Another `step` is none: the reply is
+ * `DEADPOOL_REPLY_UNKNOWN`, and nothing has changed. */
+deadpool_reply deadpool_unmanaged_make(deadpool_unmanaged_pool *pool, uint64_t step, bool is_set,
+    size_t number, uint64_t key);
 
 /* The pool closes for good, and all that is idle goes. Gives how many keys were written. */
 size_t deadpool_unmanaged_close(deadpool_unmanaged_pool *pool, uint64_t *keys, size_t keys_len);

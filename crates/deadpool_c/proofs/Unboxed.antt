@@ -4,7 +4,11 @@
 --     Loose                what is owned of it: the value where the pointer leads, the right to free it, and the handle
 --     unboxes, boxes       what a box owns is `Loose`, and back. A block that is not null owns the same
 --     begins               a function that is passed a box begins with `Loose`
-use Rattle.deadpool_c.proofs.Steps.{◌≡◌, refl, List, [], ◌∷◌, ◌++◌, ℕ, T, Ura, Fml, fsep, SProp, no, arg, layout, Laws, arg_laws, RattleType, block_ptr, raw_type as raw, Fn, impl, tcons, tnil, dnil, Val, has_ty, WT, Calls, Loops, WpFn, Goal, Seq, Step, step, Item, ‵, prop, ◌$◌, fsplit, fjoin, regoal, Logic, Fits, box_owns, Bx, D, R, B, box_ty, box_typed, word, handle, box_out, box_in, heap_laws, heap_row, ghosts, dict, no_drop_symbol}
+use Rattle.deadpool_c.proofs.Steps.{◌≡◌, refl, List, [], ◌∷◌, ◌++◌, ℕ, T, Ura, Fml, fsep, SProp, no, arg, layout, Laws}
+use Rattle.deadpool_c.proofs.Steps.{arg_laws, RattleType, block_ptr, raw_type as raw, Fn, impl, tcons, tnil, dnil, Val}
+use Rattle.deadpool_c.proofs.Steps.{has_ty, WT, Calls, Loops, WpFn, Goal, Seq, Step, step, Item, ‵, prop, ◌$◌, fsplit}
+use Rattle.deadpool_c.proofs.Steps.{fjoin, regoal, Logic, Fits, box_owns, Bx, D, R, B, box_ty, box_typed, word, handle}
+use Rattle.deadpool_c.proofs.Steps.{box_out, box_in, heap_laws, heap_row, ghosts, dict, no_drop_symbol}
 
 -- the handle, as a call is given it
 abbrev pub Handle : RattleType
@@ -19,7 +23,13 @@ module _ (S : RattleType) (L : Laws S) where
   E = record {
     row = S;
     laws = L;
-    al = record { row = Handle; laws = handle_laws; g = ghosts; d = dict; drops = impl (no_drop_symbol ∷ []) (tcons (layout Handle) tnil) dnil };
+    al = record {
+      row = Handle;
+      laws = handle_laws;
+      g = ghosts;
+      d = dict;
+      drops = impl (no_drop_symbol ∷ []) (tcons (layout Handle) tnil) dnil;
+    };
   }
 
   abbrev pub Boxed : Type 0
@@ -51,16 +61,20 @@ module _ (S : RattleType) (L : Laws S) where
     parts_sound = box_typed E k.freeing k.block k.offset
 
     abbrev pub Loose : Fml
-    Loose = fsep (box_owns (ghosts.dealloc_token k.alloc) (R E) (block_ptr k.block k.offset) k.value) (handle E k.alloc k.freeing)
+    Loose = fsep (box_owns (ghosts.dealloc_token k.alloc) (R E) (block_ptr k.block k.offset) k.value)
+        (handle E k.alloc k.freeing)
 
     abbrev pub boxed : Boxed
     boxed = record { ptr = block_ptr k.block k.offset; alloc = k.alloc; value = k.value }
 
   module _ {M : Type 1} {𝓤 : Ura M} {𝓛 : Logic 𝓤} {K : Type 0} {Γ : List (Item 𝓤)} {G : Goal 𝓤 𝓛.H} where
-    pub unboxes : K → (d : Boxed) (vs : List Val) → ((k : Unboxed) → k.value ≡ d.value → vs ≡ parts k ∷ [] → Sound k → Seq K 𝓛 (‵ (Loose k) ∷ Γ) G)
+    pub unboxes : K → (d : Boxed) (vs : List Val)
+        → ((k : Unboxed) → k.value ≡ d.value → vs ≡ parts k ∷ [] → Sound k → Seq K 𝓛 (‵ (Loose k) ∷ Γ) G)
         → Seq K 𝓛 (‵ (owned d vs) ∷ Γ) G
     unboxes t d vs next =
-        box_out E t d vs (λ b o hv at is sound. fjoin t $ fjoin t $ next (record { alloc = d.alloc; value = d.value; block = b; offset = o; freeing = hv }) refl is sound)
+        box_out E t d vs
+        (λ b o hv at is sound. fjoin t $ fjoin t
+        $ next (record { alloc = d.alloc; value = d.value; block = b; offset = o; freeing = hv }) refl is sound)
 
     pub boxes : K → (k : Unboxed) → Step K 𝓛 (‵ (owned (boxed k) (parts k ∷ [])) ∷ Γ) G (‵ (Loose k) ∷ Γ) G
     boxes t k = step (λ s. fsplit t $ fsplit t $ box_in E t (boxed k) k.block k.offset k.value refl refl $ s)
@@ -69,7 +83,10 @@ module _ (S : RattleType) (L : Laws S) where
     open 𝓛 use {H}
 
     pub begins : K → (C : Calls 𝓤 H) (Λ : Loops 𝓤 H) (f : Fn) (Post : Val → SProp 𝓤) (d : Boxed) (vs : List Val)
-        → ((k : Unboxed) → k.value ≡ d.value → Sound k → Seq K 𝓛 (‵ (Loose k) ∷ Γ) (prop (WpFn 𝓤 H C Λ f (parts k ∷ []) Post)))
+        → ((k : Unboxed) → k.value ≡ d.value → Sound k
+        → Seq K 𝓛 (‵ (Loose k) ∷ Γ) (prop (WpFn 𝓤 H C Λ f (parts k ∷ []) Post)))
         → Seq K 𝓛 (‵ (owned d vs) ∷ Γ) (prop (WpFn 𝓤 H C Λ f (vs ++ []) Post))
     begins t C Λ f Post d vs next =
-        unboxes t d vs (λ k same is sound. regoal t (λ (us : List Val). prop (WpFn 𝓤 H C Λ f (us ++ []) Post)) is refl $ next k same sound)
+        unboxes t d vs
+        (λ k same is sound. regoal t (λ (us : List Val). prop (WpFn 𝓤 H C Λ f (us ++ []) Post)) is refl
+        $ next k same sound)

@@ -17,10 +17,10 @@ is_kept [] = true
 is_kept (byte ∷ bytes) = not (byte == 0)
 
 -- a retainer that keeps the objects by these bytes, and leaves each value as it is
-abbrev pub choice_asks : RetainerOf Choice ℕ
+abbrev pub choice_asks : RetainerOf Choice ℕ ℕ
 choice_asks = record {
   can_call = λ _. ⊤;
-  may_keep = λ choice _ _ _ kept after. (kept ≡ is_kept choice.keep.now) × (after.keep.now ≡ drop 1 choice.keep.now);
+  may_keep = λ choice _ _ kept after. (kept ≡ is_kept choice.keep.now) × (after.keep.now ≡ drop 1 choice.keep.now);
   may_detach = λ choice value left after. (left ≡ value) × (after ≡ choice);
 }
 

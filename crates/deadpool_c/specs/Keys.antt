@@ -2,6 +2,8 @@
 use Rattle.std.specs.Prelude.{◌≡◌, ℕ, ◌==◌, List, [], length, take, drop, min, map, Option, Some, None, if◌then◌else◌}
 use Rattle.deadpool_desk.specs.DeskState.{DeskState}
 use Rattle.deadpool_desk.specs.DeskSteps.{surplus}
+use Rattle.deadpool_desk.specs.declared.owner_step.OwnerStep.{OwnerStep}
+use Rattle.deadpool_desk.specs.declared.owner_step.OwnerStep.TheVariants as owner
 use Rattle.deadpool_desk.specs.declared.slot.Slot.{Slot}
 use Rattle.deadpool_unmanaged.specs.State.{State}
 use Rattle.deadpool_c.specs.Replies.{plain, keyed}
@@ -29,7 +31,14 @@ surplus_keys limit d = take (surplus limit d) (idle_keys d)
 abbrev pub last_keys : DeskState (Slot ℕ) → List ℕ
 last_keys d = if d.handles == 1 then idle_keys d else []
 
--- the same of an unmanaged pool
+-- those of the objects that a step of the owner gives up
+abbrev pub given_up_keys : Option OwnerStep → DeskState (Slot ℕ) → List ℕ
+given_up_keys (Some (owner.Resize limit)) d = surplus_keys limit d
+given_up_keys (Some owner.Close) d = idle_keys d
+given_up_keys (Some owner.DropHandle) d = last_keys d
+given_up_keys _ d = []
+
+-- those of the idle objects of an unmanaged pool that go with the handle that is dropped now
 abbrev pub last_unmanaged_keys : State ℕ → List ℕ
 last_unmanaged_keys d = if d.handles == 1 then d.idle else []
 

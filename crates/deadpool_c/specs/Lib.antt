@@ -4,6 +4,7 @@
 pub mod Replies
 pub mod ManagedSteps
 pub mod ManagedReplies
+pub mod UnmanagedSteps
 pub mod UnmanagedReplies
 -- The keys that a step gives up; a retain by a choice that was made beforehand.
 pub mod Keys

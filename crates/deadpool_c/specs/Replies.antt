@@ -1,8 +1,6 @@
 -- Replies as plain numbers.
 use Rattle.std.specs.Prelude.{ℕ, Option, Some, None}
 use Rattle.deadpool_parts.specs.declared.status.Status.{Status}
-use Rattle.deadpool_parts.specs.declared.replies.StepReply.{StepReply}
-use Rattle.deadpool_parts.specs.declared.replies.StepReply.TheVariants as step
 use Rattle.deadpool_parts.specs.declared.replies.HandleReply.{HandleReply}
 use Rattle.deadpool_parts.specs.declared.replies.HandleReply.TheVariants as handle
 use Rattle.deadpool_c.specs.declared.reply.Reply.{Reply}
@@ -17,10 +15,6 @@ numbered kind number = keyed kind number 0
 
 abbrev pub plain : ℕ → Reply
 plain kind = numbered kind 0
-
-abbrev pub raw_step : StepReply → Reply
-raw_step step.Done = plain DONE
-raw_step step.Unknown = plain UNKNOWN
 
 abbrev pub raw_handle : HandleReply → Reply
 raw_handle handle.Done = plain DONE

@@ -2,7 +2,7 @@
 ghost use Rattle.std.specs.Prelude.{◌≡◌, drop};
 ghost use Rattle.deadpool_c.specs.Choices.{is_kept};
 
-use deadpool_desk::{Metrics, Retainer};
+use deadpool_desk::Retainer;
 
 /// A byte for each object that is still to be asked about: one that is 0 lets its object go. Those beyond stay.
 #[derive(Drop)]
@@ -12,11 +12,14 @@ pub struct Choice<'a> {
 }
 
 impl Retainer<u64> for Choice<'_> {
-    ghost may_keep = { λ choice _ _ _ kept after. (kept ≡ is_kept choice.keep.now) × (after.keep.now ≡ drop 1 choice.keep.now) };
+    type Left = u64;
+
+    ghost may_keep = { λ choice _ _ kept after. (kept ≡ is_kept choice.keep.now)
+        × (after.keep.now ≡ drop 1 choice.keep.now) };
 
     ghost may_detach = { λ choice value left after. (left ≡ value) × (after ≡ choice) };
 
-    fn keeps(&mut self, _number: usize, _value: &u64, _metrics: &Metrics) -> bool {
+    fn keeps(&mut self, _number: usize, _value: &u64) -> bool {
         match self.keep.split_first() {
             Some((first, rest)) => {
                 self.keep = rest;
@@ -26,5 +29,7 @@ impl Retainer<u64> for Choice<'_> {
         }
     }
 
-    fn detach(&mut self, _value: &mut u64) {}
+    fn detach(&mut self, value: u64) -> u64 {
+        value
+    }
 }

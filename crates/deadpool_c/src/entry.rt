@@ -1,17 +1,16 @@
 //! Entries of a journal as plain numbers.
 ghost use Rattle.std.specs.Prelude.{◌≡◌, Some, None};
-ghost use Rattle.deadpool_c.specs.Entries.{noted, noted_at, noted_made, noted_retain, removed_at};
+ghost use Rattle.deadpool_c.specs.Entries.{no_standing, noted, noted_at, noted_for_owner, noted_made, noted_retain};
+ghost use Rattle.deadpool_c.specs.Entries.{removed_at, standing_in};
 
 use crate::managed_reply;
-use crate::reply::{
-    self, DONE, NO_HANDLE, OUT_OF_MEMORY, Reply, Standing, UNKNOWN, numbered, plain,
-};
+use crate::reply::{self, DONE, OUT_OF_MEMORY, Reply, Standing, UNKNOWN, numbered, plain};
 use crate::step::{
     AGAIN, ASK, BACK, CANCEL_CREATION, CANCEL_OBJECT, CANCEL_PLACE, CLONE_HANDLE, CLOSE, DISCARD,
     DROP_HANDLE, ENTER, FAILED, NEW_OBJECT, NO_ENTRY, REFUSED, RESIZE, RETAIN, STATUS, TAKE,
     UPGRADE, WITHDRAW,
 };
-use deadpool_desk::{Held, Removals, Step};
+use deadpool_desk::{Held, OwnerReply, OwnerStep, Removals, Step};
 use deadpool_journal::Entry;
 use std::alloc::AllocError;
 
@@ -39,12 +38,18 @@ fn noted_as(step: u64, is_set: bool, number: usize, reply: Reply) -> NotedStep
         is_set,
         number,
         reply,
-        standing: Standing {
-            max_size: 0,
-            size: 0,
-            available: 0,
-            waiting: 0,
-        },
+        standing: no_standing(),
+    }
+}
+
+fn no_standing() -> Standing
+    ensures { result ≡ no_standing }
+{
+    Standing {
+        max_size: 0,
+        size: 0,
+        available: 0,
+        waiting: 0,
     }
 }
 
@@ -64,31 +69,43 @@ pub fn noted(entry: &Entry) -> NotedStep
             let object = object.unwrap_or(0);
             made(step, object, managed_reply::made(reply, object, 0))
         }
-        Entry::Status(status) => NotedStep {
-            step: STATUS,
-            is_set: false,
-            number: 0,
-            reply: plain(DONE),
-            standing: reply::stood(*status),
-        },
-        Entry::Resize(limit, reply) => noted_as(
-            RESIZE,
-            false,
-            *limit,
-            managed_reply::resize(*reply, 0),
+        Entry::Owner(step, reply) => for_owner(
+            step,
+            managed_reply::for_owner(reply, 0),
+            standing_in(reply),
         ),
         Entry::Retain(reply) => noted_as(RETAIN, false, 0, retained(reply)),
-        Entry::Close => noted_as(CLOSE, false, 0, plain(DONE)),
-        Entry::CloneHandle(reply) => noted_as(CLONE_HANDLE, false, 0, reply::handle(*reply)),
-        Entry::DropHandle(reply) => noted_as(DROP_HANDLE, false, 0, reply::handle(*reply)),
-        Entry::Upgrade(is_left) => {
-            noted_as(
-                UPGRADE,
-                false,
-                0,
-                plain(if *is_left { DONE } else { NO_HANDLE }),
-            )
-        }
+    }
+}
+
+// How the pool stood, if that was asked.
+fn standing_in(reply: &OwnerReply) -> Standing
+    ensures { result ≡ standing_in reply.now }
+{
+    match reply {
+        OwnerReply::Stands(status) => reply::stood(*status),
+        _ => no_standing(),
+    }
+}
+
+// A step of the owner, by the numbers that ask for it.
+fn for_owner(step: &OwnerStep, reply: Reply, standing: Standing) -> NotedStep
+    ensures { result ≡ noted_for_owner step.now reply standing }
+{
+    let (step, number) = match step {
+        OwnerStep::Status => (STATUS, 0),
+        OwnerStep::Resize { limit } => (RESIZE, *limit),
+        OwnerStep::Close => (CLOSE, 0),
+        OwnerStep::CloneHandle => (CLONE_HANDLE, 0),
+        OwnerStep::DropHandle => (DROP_HANDLE, 0),
+        OwnerStep::Upgrade => (UPGRADE, 0),
+    };
+    NotedStep {
+        step,
+        is_set: false,
+        number,
+        reply,
+        standing,
     }
 }
 

@@ -22,6 +22,7 @@ pub mod unmanaged;
 mod unmanaged_block;
 mod unmanaged_reply;
 mod unmanaged_state;
+mod unmanaged_step;
 mod unmanaged_steps;
 
 pub use entry::NotedStep;

@@ -1,13 +1,13 @@
 //! The steps of a managed pool's owner, and what is read without a step. A step that gives idle objects up writes
 //! their keys, in the order in which they stood, to the front of `keys`, as far as it reaches. Room for as many keys
 //! as are idle is enough.
-ghost use Rattle.std.specs.Prelude.{◌≡◌, ◌==◌, not, slice_get, take};
+ghost use Rattle.std.specs.Prelude.{◌≡◌, not, slice_get, take, Some};
 ghost use denote.RawPtr.{InBlock};
-ghost use Rattle.deadpool_journal.specs.Steps.{ClosesNoted, UpgradesNoted};
 ghost use Rattle.deadpool_c.specs.Choices.{RetainsRaw};
 ghost use Rattle.deadpool_c.specs.Entries.{noted_at, removed_at};
-ghost use Rattle.deadpool_c.specs.Keys.{Writes, written_count, idle_keys, surplus_keys, last_keys, key_reply};
-ghost use Rattle.deadpool_c.specs.ManagedReplies.{ResizesRaw, ClonesRaw, DropsHandleRaw};
+ghost use Rattle.deadpool_c.specs.Keys.{Writes, written_count, idle_keys, given_up_keys, key_reply};
+ghost use Rattle.deadpool_c.specs.ManagedReplies.{MakesForOwnerRaw};
+ghost use Rattle.deadpool_c.specs.ManagedSteps.{owner_step_of};
 
 use crate::choice::Choice;
 use crate::entry::NotedStep;
@@ -15,7 +15,9 @@ use crate::keys::copy_keys;
 use crate::managed_block::ManagedPool;
 use crate::managed_owner_steps::{self, key_at};
 use crate::reply::{DONE, OUT_OF_MEMORY, Reply, UNKNOWN, keyed, plain};
+use crate::step;
 use core::mem::replace_with;
+use deadpool_desk::OwnerStep;
 
 // Writes the keys of the idle objects, at most so many, from the front on, and says how many it has written.
 fn write_keys(pool: &mut ManagedPool, most: usize, keys: &mut [u64]) -> usize
@@ -49,23 +51,56 @@ fn write_all_keys(pool: &mut ManagedPool, keys: &mut [u64]) -> usize
     write_keys(pool, room, keys)
 }
 
-/// The pool gets another limit: `DONE` with how many keys were written, or `OUT_OF_MEMORY`, and the pool is as it
-/// was. The objects above the limit go, but for those that are to stay idle.
+// Writes the keys of the idle objects that go with a step, and says how many it has written.
+fn write_given_up(pool: &mut ManagedPool, step: &OwnerStep, keys: &mut [u64]) -> usize
+    requires { InBlock pool.old.at }
+    ensures written { Writes
+        (given_up_keys (Some step.now) pool.old.state.pool.core.desk) keys.old keys.new }
+    ensures count { result
+        ≡ written_count (given_up_keys (Some step.now) pool.old.state.pool.core.desk) keys.old }
+    ensures same { pool.new.state ≡ pool.old.state }
+    ensures made { InBlock pool.new.at }
+{
+    match step {
+        OwnerStep::Resize { limit } => {
+            let surplus = replace_with(pool, *limit, managed_owner_steps::surplus);
+            write_keys(pool, surplus, keys)
+        }
+        OwnerStep::Close => write_all_keys(pool, keys),
+        OwnerStep::DropHandle => {
+            if !replace_with(pool, (), managed_owner_steps::is_last_handle) {
+                return 0;
+            }
+            write_all_keys(pool, keys)
+        }
+        OwnerStep::Status | OwnerStep::CloneHandle | OwnerStep::Upgrade => 0,
+    }
+}
+
+/// Makes a step of the pool's owner: `step` is `RESIZE`, `CLOSE`, `CLONE_HANDLE`, `DROP_HANDLE` or `UPGRADE`. Each of
+/// them says what `number` is to it, which replies it has, and which idle objects go: with `DONE` comes how many of
+/// their keys were written. Another `step` is none: the reply is `UNKNOWN`, and nothing has changed.
 #[unsafe(no_mangle)]
-pub extern "C" fn deadpool_managed_resize(
+pub extern "C" fn deadpool_managed_make_for_owner(
     pool: &mut ManagedPool,
-    limit: usize,
+    step: u64,
+    number: usize,
     keys: &mut [u64],
 ) -> Reply
     requires { InBlock pool.old.at }
-    ensures step { ResizesRaw pool.old.state.pool limit (written_count
-        (surplus_keys limit pool.old.state.pool.core.desk) keys.old) result pool.new.state.pool }
-    ensures keys { Writes (surplus_keys limit pool.old.state.pool.core.desk) keys.old keys.new }
+    ensures step { let asked = owner_step_of step number
+        in MakesForOwnerRaw pool.old.state.pool asked
+        (written_count (given_up_keys asked pool.old.state.pool.core.desk) keys.old)
+        result pool.new.state.pool }
+    ensures keys { Writes (given_up_keys (owner_step_of step number) pool.old.state.pool.core.desk)
+        keys.old keys.new }
     ensures made { InBlock pool.new.at }
 {
-    let surplus = replace_with(pool, limit, managed_owner_steps::surplus);
-    let count = write_keys(pool, surplus, keys);
-    replace_with(pool, (limit, count), managed_owner_steps::resize)
+    let Some(step) = step::asked_by_owner(step, number) else {
+        return plain(UNKNOWN);
+    };
+    let count = write_given_up(pool, &step, keys);
+    replace_with(pool, (step, count), managed_owner_steps::make)
 }
 
 /// Asks about each idle object once, front to back: those go whose byte of `keep` is 0, if more are idle than are to
@@ -94,62 +129,6 @@ pub extern "C" fn deadpool_managed_retain(
         }
         Err(_) => plain(OUT_OF_MEMORY),
     }
-}
-
-/// The pool closes for good, and all that is idle goes. Gives how many keys were written.
-#[unsafe(no_mangle)]
-pub extern "C" fn deadpool_managed_close(pool: &mut ManagedPool, keys: &mut [u64]) -> usize
-    requires { InBlock pool.old.at }
-    ensures step { ClosesNoted pool.old.state.pool pool.new.state.pool }
-    ensures keys { Writes (idle_keys pool.old.state.pool.core.desk) keys.old keys.new }
-    ensures count { result ≡ written_count (idle_keys pool.old.state.pool.core.desk) keys.old }
-    ensures made { InBlock pool.new.at }
-{
-    let count = write_all_keys(pool, keys);
-    replace_with(pool, (), managed_owner_steps::close);
-    count
-}
-
-/// There is one handle more: `DONE`, `NO_HANDLE`.
-#[unsafe(no_mangle)]
-pub extern "C" fn deadpool_managed_clone_handle(pool: &mut ManagedPool) -> Reply
-    requires { InBlock pool.old.at }
-    ensures step { ClonesRaw pool.old.state.pool result pool.new.state.pool }
-    ensures made { InBlock pool.new.at }
-{
-    replace_with(pool, (), managed_owner_steps::clone_handle)
-}
-
-/// There is one handle less: `DONE`, `NO_HANDLE`. The last one takes all that is idle with it, and `written` is how
-/// many keys of that were written.
-#[unsafe(no_mangle)]
-pub extern "C" fn deadpool_managed_drop_handle(
-    pool: &mut ManagedPool,
-    keys: &mut [u64],
-    written: &mut usize,
-) -> Reply
-    requires { InBlock pool.old.at }
-    ensures step { DropsHandleRaw pool.old.state.pool result pool.new.state.pool }
-    ensures keys { Writes (last_keys pool.old.state.pool.core.desk) keys.old keys.new }
-    ensures count { written.new ≡ written_count (last_keys pool.old.state.pool.core.desk) keys.old }
-    ensures made { InBlock pool.new.at }
-{
-    *written = if replace_with(pool, (), managed_owner_steps::is_last_handle) {
-        write_all_keys(pool, keys)
-    } else {
-        0
-    };
-    replace_with(pool, (), managed_owner_steps::drop_handle)
-}
-
-/// There is one handle more, for an owner that has none, if one is left.
-#[unsafe(no_mangle)]
-pub extern "C" fn deadpool_managed_upgrade(pool: &mut ManagedPool) -> bool
-    requires { InBlock pool.old.at }
-    ensures step { UpgradesNoted pool.old.state.pool result pool.new.state.pool }
-    ensures made { InBlock pool.new.at }
-{
-    replace_with(pool, (), managed_owner_steps::upgrade)
 }
 
 /// Whether the pool has closed. It is no step.

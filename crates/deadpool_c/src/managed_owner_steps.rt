@@ -1,32 +1,37 @@
-//! The steps of a managed pool's owner, each on a pool that is taken and given back, and what is read without a step. What
-//! each does is said at its export in `managed_owner.rt`.
-ghost use Rattle.std.specs.Prelude.{◌≡◌, ◌==◌, not, slice_get};
+//! The steps of a managed pool's owner, each on a pool that is taken and given back, and what is read without a step.
+//! What each does is said at its export in `managed_owner.rt`.
+ghost use Rattle.std.specs.Prelude.{◌≡◌, ◌==◌, not, slice_get, Some};
 ghost use denote.RawPtr.{InBlock};
 ghost use Rattle.deadpool_desk.specs.DeskSteps.{surplus};
-ghost use Rattle.deadpool_journal.specs.Steps.{RetainsNoted, ClosesNoted, UpgradesNoted};
+ghost use Rattle.deadpool_journal.specs.Steps.{RetainsNoted};
 ghost use Rattle.deadpool_c.specs.Choices.{choice_asks};
 ghost use Rattle.deadpool_c.specs.declared.choice.Choice.{Choice};
 ghost use Rattle.deadpool_c.specs.Entries.{noted_at, removed_at};
 ghost use Rattle.deadpool_c.specs.Keys.{idle_keys};
-ghost use Rattle.deadpool_c.specs.ManagedReplies.{ClonesRaw, DropsHandleRaw, ResizesRaw};
+ghost use Rattle.deadpool_c.specs.ManagedReplies.{MakesForOwnerRaw};
 
 use crate::choice::Choice;
 use crate::entry::{self, NotedStep};
 use crate::managed_block::ManagedPool;
 use crate::managed_reply;
 use crate::reply::{self, Reply};
-use deadpool_desk::{OwnerDesk, RetainResult};
+use deadpool_desk::{OwnerDesk, OwnerStep, RetainResult};
 use std::alloc::AllocError;
 
-pub fn resize(pool: ManagedPool, resized: (usize, usize)) -> (ManagedPool, Reply)
+/// A step, after so many keys were written.
+pub fn make(pool: ManagedPool, asked: (OwnerStep, usize)) -> (ManagedPool, Reply)
     requires { InBlock pool.at }
-    ensures step { ResizesRaw pool.state.pool resized.0 resized.1 result.1 result.0.state.pool }
+    ensures step { MakesForOwnerRaw
+        pool.state.pool (Some asked.0) asked.1 result.1 result.0.state.pool }
     ensures made { InBlock result.0.at }
 {
-    let (limit, count) = resized;
+    let (step, count) = asked;
     let mut state = pool.into_state();
-    let reply = state.pool.resize(limit);
-    (ManagedPool::of(state), managed_reply::resize(reply, count))
+    let reply = state.pool.make_for_owner(&step);
+    (
+        ManagedPool::of(state),
+        managed_reply::for_owner(&reply, count),
+    )
 }
 
 pub fn retain(
@@ -41,46 +46,6 @@ pub fn retain(
     let mut choice = choice;
     let mut state = pool.into_state();
     let reply = state.pool.retain(&mut choice);
-    (ManagedPool::of(state), reply)
-}
-
-pub fn close(pool: ManagedPool, _unit: ()) -> (ManagedPool, ())
-    requires { InBlock pool.at }
-    ensures step { ClosesNoted pool.state.pool result.0.state.pool }
-    ensures made { InBlock result.0.at }
-{
-    let mut state = pool.into_state();
-    let reply = state.pool.close();
-    (ManagedPool::of(state), reply)
-}
-
-pub fn clone_handle(pool: ManagedPool, _unit: ()) -> (ManagedPool, Reply)
-    requires { InBlock pool.at }
-    ensures step { ClonesRaw pool.state.pool result.1 result.0.state.pool }
-    ensures made { InBlock result.0.at }
-{
-    let mut state = pool.into_state();
-    let reply = state.pool.clone_handle();
-    (ManagedPool::of(state), reply::handle(reply))
-}
-
-pub fn drop_handle(pool: ManagedPool, _unit: ()) -> (ManagedPool, Reply)
-    requires { InBlock pool.at }
-    ensures step { DropsHandleRaw pool.state.pool result.1 result.0.state.pool }
-    ensures made { InBlock result.0.at }
-{
-    let mut state = pool.into_state();
-    let reply = state.pool.drop_handle();
-    (ManagedPool::of(state), reply::handle(reply))
-}
-
-pub fn upgrade(pool: ManagedPool, _unit: ()) -> (ManagedPool, bool)
-    requires { InBlock pool.at }
-    ensures step { UpgradesNoted pool.state.pool result.1 result.0.state.pool }
-    ensures made { InBlock result.0.at }
-{
-    let mut state = pool.into_state();
-    let reply = state.pool.upgrade();
     (ManagedPool::of(state), reply)
 }
 

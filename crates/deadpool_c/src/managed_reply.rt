@@ -1,13 +1,12 @@
 //! Replies of a managed pool's steps as plain numbers. What a kind says is said at its constant in `reply.rt`.
 ghost use Rattle.std.specs.Prelude.{◌≡◌};
-ghost use Rattle.deadpool_c.specs.ManagedReplies.{raw_made, raw_in_hand, raw_resize};
+ghost use Rattle.deadpool_c.specs.ManagedReplies.{raw_made, raw_in_hand, raw_for_owner};
 
 use crate::reply::{
-    CLOSED, CREATE, CREATED, DETACH, DONE, DROPPED, EXHAUSTED, EXPIRED, FULL, GOING, KEPT, OBJECT,
-    OUT_OF_MEMORY, Reply, TAKEN, UNKNOWN, WAITING, keyed, numbered, plain,
+    CLOSED, CREATE, CREATED, DETACH, DONE, DROPPED, EXHAUSTED, EXPIRED, FULL, GOING, KEPT,
+    NO_HANDLE, OBJECT, OUT_OF_MEMORY, Reply, TAKEN, UNKNOWN, WAITING, keyed, numbered, plain,
 };
-use deadpool_desk::{Reply as DeskReply, Slot};
-use std::alloc::AllocError;
+use deadpool_desk::{OwnerReply, Reply as DeskReply, Slot};
 
 /// A reply with the number and the key of an object that is in the hand after it. Both are 0 if there is none.
 pub fn made(reply: &DeskReply, number: usize, key: u64) -> Reply
@@ -49,11 +48,13 @@ pub fn in_hand(reply: &DeskReply, hand: &Option<Slot<u64>>) -> Reply
     }
 }
 
-pub fn resize(reply: Result<(), AllocError>, count: usize) -> Reply
-    ensures { result ≡ raw_resize count reply }
+/// The reply to a step of the owner, with how many keys were written.
+pub fn for_owner(reply: &OwnerReply, count: usize) -> Reply
+    ensures { result ≡ raw_for_owner reply.now count }
 {
     match reply {
-        Ok(()) => numbered(DONE, count),
-        Err(_) => plain(OUT_OF_MEMORY),
+        OwnerReply::Stands(_) | OwnerReply::Done => numbered(DONE, count),
+        OwnerReply::OutOfMemory => plain(OUT_OF_MEMORY),
+        OwnerReply::NoHandle => plain(NO_HANDLE),
     }
 }

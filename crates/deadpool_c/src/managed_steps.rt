@@ -4,7 +4,6 @@ ghost use Rattle.std.specs.Prelude.{◌≡◌, [], IfOk};
 ghost use denote.RawPtr.{InBlock};
 ghost use Rattle.deadpool_desk.specs.DeskState.{new_core};
 ghost use Rattle.deadpool_desk.specs.Replies.{Brings};
-ghost use Rattle.deadpool_desk.specs.declared.metrics.Metrics.{Metrics};
 ghost use Rattle.deadpool_journal.specs.LogState.{no_entries};
 ghost use Rattle.deadpool_c.specs.ManagedReplies.{MakesRaw, StandsRaw, TellsRaw, mode_of};
 ghost use Rattle.deadpool_c.specs.ManagedSteps.{brought, step_of};
@@ -13,7 +12,7 @@ use crate::managed_block::ManagedPool;
 use crate::managed_state::ManagedState;
 use crate::reply::{self, Reply, Standing, UNKNOWN, plain};
 use crate::{managed_reply, step};
-use deadpool_desk::{Desk, Metrics, Moment, OwnerDesk, QueueMode, Slot, Step};
+use deadpool_desk::{Desk, OwnerDesk, OwnerReply, OwnerStep, QueueMode, Slot, Step};
 use deadpool_journal::Journaled;
 use std::alloc::{AllocError, Global};
 
@@ -64,14 +63,10 @@ pub fn open(alloc: Global, opening: Opening) -> Result<ManagedPool, AllocError>
 // What is in the hand before a step: an object that comes back, under this number and key.
 fn brought(step: &Step, number: usize, key: u64) -> Option<Slot<u64>>
     ensures brings { Brings step.now result }
-    ensures object { (past : Metrics) × (result ≡ brought step.now number key past) }
+    ensures object { result ≡ brought step.now number key }
 {
     match step {
-        Step::Back => Some(Slot {
-            number,
-            value: key,
-            metrics: Metrics::new(Moment(0)),
-        }),
+        Step::Back => Some(Slot { number, value: key }),
         _ => None,
     }
 }
@@ -107,8 +102,10 @@ pub fn status(pool: ManagedPool, _unit: ()) -> (ManagedPool, Standing)
     ensures made { InBlock result.0.at }
 {
     let mut state = pool.into_state();
-    let reply = state.pool.status();
-    (ManagedPool::of(state), reply::stood(reply))
+    match state.pool.make_for_owner(&OwnerStep::Status) {
+        OwnerReply::Stands(status) => (ManagedPool::of(state), reply::stood(status)),
+        _ => unreachable!(),
+    }
 }
 
 pub fn take_wake(pool: ManagedPool, _unit: ()) -> (ManagedPool, Reply)

@@ -1,9 +1,9 @@
 //! Replies as plain numbers.
 ghost use Rattle.std.specs.Prelude.{◌≡◌};
-ghost use Rattle.deadpool_c.specs.Replies.{plain, numbered, keyed, raw_step, raw_handle, raw_wake, raw_standing};
+ghost use Rattle.deadpool_c.specs.Replies.{plain, numbered, keyed, raw_handle, raw_wake, raw_standing};
 
 use deadpool_gate::gate::Ticket;
-use deadpool_parts::{HandleReply, Status, StepReply};
+use deadpool_parts::{HandleReply, Status};
 
 /// A reply: its kind, and what comes with it, else 0.
 #[repr(C)]
@@ -58,8 +58,7 @@ pub const CLOSED: u64 = 6;
 /// Nothing is free, and the get or the add does not wait. With it comes the key that an add brought.
 pub const FULL: u64 = 7;
 
-/// The get or the add is in the queue. With it comes its ticket, if it has joined it or the pool is managed, and the
-/// key that an add brought.
+/// The get or the add is in the queue. With it comes its ticket, and the key that an add brought.
 pub const WAITING: u64 = 8;
 
 /// There was no memory, and nothing has changed. With it comes the key that an add brought.
@@ -112,16 +111,6 @@ pub fn keyed(kind: u64, number: usize, key: u64) -> Reply
         number,
         key,
         left: 0,
-    }
-}
-
-/// The reply to a step that is made or not.
-pub fn step(reply: StepReply) -> Reply
-    ensures { result ≡ raw_step reply }
-{
-    match reply {
-        StepReply::Done => plain(DONE),
-        StepReply::Unknown => plain(UNKNOWN),
     }
 }
 

@@ -1,11 +1,10 @@
-//! Steps of a managed pool as plain numbers: those of a get or an object, which are asked for by them, and those of the owner,
-//! which only a journal has so.
+//! Steps of a managed pool as plain numbers: those of a get or an object, and those of the owner.
 ghost use Rattle.std.specs.Prelude.{◌≡◌};
 ghost use Rattle.deadpool_desk.specs.declared.step.Step.TheVariants.{Again};
-ghost use Rattle.deadpool_c.specs.ManagedSteps.{allowance_of, step_of};
+ghost use Rattle.deadpool_c.specs.ManagedSteps.{allowance_of, owner_step_of, step_of};
 
 use deadpool_desk::gate::Ticket;
-use deadpool_desk::{Held, Step};
+use deadpool_desk::{Held, OwnerStep, Step};
 
 /// No step: there is no entry at this position.
 pub const NO_ENTRY: u64 = 0;
@@ -18,8 +17,8 @@ pub const ENTER: u64 = 1;
 /// The reply is `OBJECT`, `CREATE`, `EXHAUSTED`, `CLOSED`, `EXPIRED`, `WAITING` or `UNKNOWN`.
 pub const ASK: u64 = 2;
 
-/// A get that holds a place goes on. It may take `number` idle objects, or as many as are idle if `is_set` is false. The
-/// reply is `OBJECT`, `CREATE`, `GOING`, `EXHAUSTED` or `UNKNOWN`.
+/// A get that holds a place goes on. It may take `number` idle objects, or as many as are idle if `is_set` is false.
+/// The reply is `OBJECT`, `CREATE`, `GOING`, `EXHAUSTED` or `UNKNOWN`.
 pub const AGAIN: u64 = 3;
 
 /// A get gives up an object that was idle, and keeps its place: `DONE` or `UNKNOWN`.
@@ -52,25 +51,26 @@ pub const CANCEL_OBJECT: u64 = 12;
 /// An object that is out leaves the pool for good, and its place is free: `DETACH`, `TAKEN` or `UNKNOWN`.
 pub const TAKE: u64 = 13;
 
-/// The pool was asked how it stands.
+/// The owner asks how the pool stands. It is made by `deadpool_managed_status`.
 pub const STATUS: u64 = 14;
 
-/// The pool was given another limit.
+/// The pool gets another limit, which is `number`, and the idle objects above it go, but for those that are to stay:
+/// `DONE` or `OUT_OF_MEMORY`.
 pub const RESIZE: u64 = 15;
 
-/// Each idle object was asked about.
+/// Each idle object is asked about. It is made by `deadpool_managed_retain`.
 pub const RETAIN: u64 = 16;
 
-/// The pool has closed.
+/// The pool closes for good, and all that is idle goes: `DONE`.
 pub const CLOSE: u64 = 17;
 
-/// A handle was to be counted.
+/// There is one handle more: `DONE` or `NO_HANDLE`.
 pub const CLONE_HANDLE: u64 = 18;
 
-/// A handle was given back.
+/// There is one handle less, and the last one takes all that is idle with it: `DONE` or `NO_HANDLE`.
 pub const DROP_HANDLE: u64 = 19;
 
-/// An owner that has none asked for one handle more.
+/// There is one handle more, for an owner that has none: `DONE`, or `NO_HANDLE` if none is left.
 pub const UPGRADE: u64 = 20;
 
 /// The step of a get or an object that is asked for by these numbers, if there is one.
@@ -96,6 +96,20 @@ pub fn asked(step: u64, is_set: bool, number: usize) -> Option<Step>
         CANCEL_CREATION => Some(Step::Cancel(Held::Creation)),
         CANCEL_OBJECT => Some(Step::Cancel(Held::Object)),
         TAKE => Some(Step::Take),
+        _ => None,
+    }
+}
+
+/// The step of the owner that is asked for by these numbers, if there is one.
+pub fn asked_by_owner(step: u64, number: usize) -> Option<OwnerStep>
+    ensures { result ≡ owner_step_of step number }
+{
+    match step {
+        RESIZE => Some(OwnerStep::Resize { limit: number }),
+        CLOSE => Some(OwnerStep::Close),
+        CLONE_HANDLE => Some(OwnerStep::CloneHandle),
+        DROP_HANDLE => Some(OwnerStep::DropHandle),
+        UPGRADE => Some(OwnerStep::Upgrade),
         _ => None,
     }
 }

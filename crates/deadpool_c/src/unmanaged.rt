@@ -6,8 +6,11 @@ ghost use Rattle.deadpool_unmanaged.specs.State.{opened, status_of};
 ghost use Rattle.deadpool_unmanaged.specs.StateSteps.{Upgrades, closed_pool};
 ghost use Rattle.deadpool_c.specs.Keys.{Writes, written_count, last_unmanaged_keys};
 ghost use Rattle.deadpool_c.specs.Replies.{raw_standing};
-ghost use Rattle.deadpool_c.specs.UnmanagedReplies.{GetEntersRaw, GetAsksRaw, GetCancelsRaw, AddEntersRaw, AddAsksRaw, AddCancelsRaw, TakesBackRaw, TakesRaw, ClonesRaw, DropsHandleRaw, TakesGetWakeRaw, TakesAddWakeRaw};
+ghost use Rattle.deadpool_c.specs.UnmanagedReplies.{MakesRaw, ClonesRaw, DropsHandleRaw, TakesGetWakeRaw};
+ghost use Rattle.deadpool_c.specs.UnmanagedReplies.{TakesAddWakeRaw};
+ghost use Rattle.deadpool_c.specs.UnmanagedSteps.{step_of};
 
+use crate::managed_steps::Asked;
 use crate::reply::{Reply, Standing};
 use crate::unmanaged_block::UnmanagedPool;
 use crate::unmanaged_steps::{self, key_at};
@@ -60,100 +63,29 @@ fn write_keys(pool: &mut UnmanagedPool, keys: &mut [u64]) -> usize
     room
 }
 
-/// A new get asks for an object, and joins the queue if none is free and `wait` says so: `OBJECT` with its key,
-/// `CLOSED`, `FULL`, `WAITING` with a ticket, or `OUT_OF_MEMORY`.
+/// Makes a step of a get, an add or an object: `step` is one of the eight constants from `GET_ENTER` on. Each of them
+/// says what `is_set`, `number` and `key` are to it, and which replies it has; what it does not name is not looked at.
+/// Another `step` is none: the reply is `UNKNOWN`, and nothing has changed.
 #[unsafe(no_mangle)]
-pub extern "C" fn deadpool_unmanaged_get_enter(pool: &mut UnmanagedPool, wait: bool) -> Reply
-    requires { InBlock pool.old.at }
-    ensures step { GetEntersRaw pool.old.state.pool.pool wait result pool.new.state.pool.pool }
-    ensures made { InBlock pool.new.at }
-{
-    replace_with(pool, wait, unmanaged_steps::get_enter)
-}
-
-/// A get in the queue asks for its object. `expired` says that it has waited long enough. `OBJECT`, `CLOSED`,
-/// `EXPIRED`, `WAITING` or `UNKNOWN`.
-#[unsafe(no_mangle)]
-pub extern "C" fn deadpool_unmanaged_get_ask(
+pub extern "C" fn deadpool_unmanaged_make(
     pool: &mut UnmanagedPool,
-    ticket: usize,
-    expired: bool,
-) -> Reply
-    requires { InBlock pool.old.at }
-    ensures step { GetAsksRaw pool.old.state.pool.pool
-        ticket expired result pool.new.state.pool.pool }
-    ensures made { InBlock pool.new.at }
-{
-    replace_with(pool, (ticket, expired), unmanaged_steps::get_ask)
-}
-
-/// A get leaves the queue, and what it was granted is free again: `DONE`, `UNKNOWN`.
-#[unsafe(no_mangle)]
-pub extern "C" fn deadpool_unmanaged_get_cancel(pool: &mut UnmanagedPool, ticket: usize) -> Reply
-    requires { InBlock pool.old.at }
-    ensures step { GetCancelsRaw pool.old.state.pool.pool ticket result pool.new.state.pool.pool }
-    ensures made { InBlock pool.new.at }
-{
-    replace_with(pool, ticket, unmanaged_steps::get_cancel)
-}
-
-/// A new add brings an object by its key, and joins the queue if there is no room and `wait` says so: `STORED`, or
-/// with the key `CLOSED`, `FULL`, `WAITING` with a ticket, or `OUT_OF_MEMORY`.
-#[unsafe(no_mangle)]
-pub extern "C" fn deadpool_unmanaged_add_enter(
-    pool: &mut UnmanagedPool,
-    key: u64,
-    wait: bool,
-) -> Reply
-    requires { InBlock pool.old.at }
-    ensures step { AddEntersRaw pool.old.state.pool.pool key wait result pool.new.state.pool.pool }
-    ensures made { InBlock pool.new.at }
-{
-    replace_with(pool, (key, wait), unmanaged_steps::add_enter)
-}
-
-/// An add in the queue asks for its room: `STORED`, or with the key `CLOSED`, `WAITING` or `UNKNOWN`.
-#[unsafe(no_mangle)]
-pub extern "C" fn deadpool_unmanaged_add_ask(
-    pool: &mut UnmanagedPool,
-    ticket: usize,
+    step: u64,
+    is_set: bool,
+    number: usize,
     key: u64,
 ) -> Reply
     requires { InBlock pool.old.at }
-    ensures step { AddAsksRaw pool.old.state.pool.pool ticket key result pool.new.state.pool.pool }
+    ensures step { MakesRaw pool.old.state.pool.pool
+        (step_of step is_set number) key result pool.new.state.pool.pool }
     ensures made { InBlock pool.new.at }
 {
-    replace_with(pool, (ticket, key), unmanaged_steps::add_ask)
-}
-
-/// An add leaves the queue, and the room that it was granted is free again: `DONE`, `UNKNOWN`.
-#[unsafe(no_mangle)]
-pub extern "C" fn deadpool_unmanaged_add_cancel(pool: &mut UnmanagedPool, ticket: usize) -> Reply
-    requires { InBlock pool.old.at }
-    ensures step { AddCancelsRaw pool.old.state.pool.pool ticket result pool.new.state.pool.pool }
-    ensures made { InBlock pool.new.at }
-{
-    replace_with(pool, ticket, unmanaged_steps::add_cancel)
-}
-
-/// An object comes back: `KEPT`, or with its key `DROPPED` or `UNKNOWN`.
-#[unsafe(no_mangle)]
-pub extern "C" fn deadpool_unmanaged_back(pool: &mut UnmanagedPool, key: u64) -> Reply
-    requires { InBlock pool.old.at }
-    ensures step { TakesBackRaw pool.old.state.pool.pool key result pool.new.state.pool.pool }
-    ensures made { InBlock pool.new.at }
-{
-    replace_with(pool, key, unmanaged_steps::back)
-}
-
-/// An object that is out leaves the pool for good, and its room is free: `TAKEN`, `UNKNOWN`.
-#[unsafe(no_mangle)]
-pub extern "C" fn deadpool_unmanaged_take(pool: &mut UnmanagedPool) -> Reply
-    requires { InBlock pool.old.at }
-    ensures step { TakesRaw pool.old.state.pool.pool result pool.new.state.pool.pool }
-    ensures made { InBlock pool.new.at }
-{
-    replace_with(pool, (), unmanaged_steps::take)
+    let asked = Asked {
+        step,
+        is_set,
+        number,
+        key,
+    };
+    replace_with(pool, asked, unmanaged_steps::make)
 }
 
 /// The pool closes for good, and all that is idle goes. Gives how many keys were written.

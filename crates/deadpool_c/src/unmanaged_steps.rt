@@ -1,18 +1,21 @@
-//! The steps of an unmanaged pool, each on a pool that is taken and given back, and what is read without a step. What each
-//! does is said at its export in `unmanaged.rt`.
+//! The steps of an unmanaged pool, each on a pool that is taken and given back, and what is read without a step. What
+//! each does is said at its export in `unmanaged.rt`.
 ghost use Rattle.std.specs.Prelude.{◌≡◌, ◌==◌, [], not, slice_get, IfOk};
 ghost use denote.RawPtr.{InBlock};
+ghost use Rattle.deadpool_unmanaged.specs.Replies.{Brings};
 ghost use Rattle.deadpool_unmanaged.specs.State.{opened, status_of};
 ghost use Rattle.deadpool_unmanaged.specs.StateSteps.{Upgrades, closed_pool};
 ghost use Rattle.deadpool_c.specs.Replies.{raw_standing};
-ghost use Rattle.deadpool_c.specs.UnmanagedReplies.{GetEntersRaw, GetAsksRaw, GetCancelsRaw, AddEntersRaw, AddAsksRaw, AddCancelsRaw, TakesBackRaw, TakesRaw, ClonesRaw, DropsHandleRaw, TakesGetWakeRaw, TakesAddWakeRaw};
+ghost use Rattle.deadpool_c.specs.UnmanagedReplies.{MakesRaw, ClonesRaw, DropsHandleRaw, TakesGetWakeRaw};
+ghost use Rattle.deadpool_c.specs.UnmanagedReplies.{TakesAddWakeRaw};
+ghost use Rattle.deadpool_c.specs.UnmanagedSteps.{brought, step_of};
 
-use crate::reply::{self, Reply, Standing};
+use crate::managed_steps::Asked;
+use crate::reply::{self, Reply, Standing, UNKNOWN, plain};
 use crate::unmanaged_block::UnmanagedPool;
-use crate::unmanaged_reply;
 use crate::unmanaged_state::UnmanagedState;
-use deadpool_gate::gate::Ticket;
-use deadpool_unmanaged::Core;
+use crate::{unmanaged_reply, unmanaged_step};
+use deadpool_unmanaged::{Core, Step};
 use std::alloc::{AllocError, Global};
 
 pub fn open(alloc: Global, limit: usize) -> Result<UnmanagedPool, AllocError>
@@ -24,90 +27,41 @@ pub fn open(alloc: Global, limit: usize) -> Result<UnmanagedPool, AllocError>
     Ok(UnmanagedPool::of(state))
 }
 
-pub fn get_enter(pool: UnmanagedPool, wait: bool) -> (UnmanagedPool, Reply)
-    requires { InBlock pool.at }
-    ensures step { GetEntersRaw pool.state.pool.pool wait result.1 result.0.state.pool.pool }
-    ensures made { InBlock result.0.at }
+// What is in the hand before a step: an object that is added or comes back, by this key.
+fn brought(step: &Step, key: u64) -> Option<u64>
+    ensures brings { Brings step.now result }
+    ensures object { result ≡ brought step.now key }
 {
-    let mut state = pool.into_state();
-    let reply = state.pool.get_enter(wait);
-    (UnmanagedPool::of(state), unmanaged_reply::get_enter(reply))
+    match step {
+        Step::AddEnter { .. } | Step::AddAsk { .. } | Step::Back => Some(key),
+        Step::GetEnter { .. } | Step::GetAsk { .. } | Step::GetCancel { .. } => None,
+        Step::AddCancel { .. } | Step::Take => None,
+    }
 }
 
-pub fn get_ask(pool: UnmanagedPool, asked: (usize, bool)) -> (UnmanagedPool, Reply)
+pub fn make(pool: UnmanagedPool, asked: Asked) -> (UnmanagedPool, Reply)
     requires { InBlock pool.at }
-    ensures step { GetAsksRaw pool.state.pool.pool
-        asked.0 asked.1 result.1 result.0.state.pool.pool }
+    ensures step { MakesRaw pool.state.pool.pool
+        (step_of asked.step asked.is_set asked.number) asked.key
+        result.1 result.0.state.pool.pool }
     ensures made { InBlock result.0.at }
 {
-    let (number, expired) = asked;
+    let Asked {
+        step,
+        is_set,
+        number,
+        key,
+    } = asked;
+    let Some(step) = unmanaged_step::asked(step, is_set, number) else {
+        return (pool, plain(UNKNOWN));
+    };
+    let mut hand = brought(&step, key);
     let mut state = pool.into_state();
-    let reply = state.pool.get_ask(Ticket::from_number(number), expired);
-    (UnmanagedPool::of(state), unmanaged_reply::get_ask(reply))
-}
-
-pub fn get_cancel(pool: UnmanagedPool, number: usize) -> (UnmanagedPool, Reply)
-    requires { InBlock pool.at }
-    ensures step { GetCancelsRaw pool.state.pool.pool number result.1 result.0.state.pool.pool }
-    ensures made { InBlock result.0.at }
-{
-    let mut state = pool.into_state();
-    let reply = state.pool.get_cancel(Ticket::from_number(number));
-    (UnmanagedPool::of(state), reply::step(reply))
-}
-
-pub fn add_enter(pool: UnmanagedPool, added: (u64, bool)) -> (UnmanagedPool, Reply)
-    requires { InBlock pool.at }
-    ensures step { AddEntersRaw pool.state.pool.pool
-        added.0 added.1 result.1 result.0.state.pool.pool }
-    ensures made { InBlock result.0.at }
-{
-    let (key, wait) = added;
-    let mut state = pool.into_state();
-    let reply = state.pool.add_enter(key, wait);
-    (UnmanagedPool::of(state), unmanaged_reply::add_enter(reply))
-}
-
-pub fn add_ask(pool: UnmanagedPool, asked: (usize, u64)) -> (UnmanagedPool, Reply)
-    requires { InBlock pool.at }
-    ensures step { AddAsksRaw pool.state.pool.pool
-        asked.0 asked.1 result.1 result.0.state.pool.pool }
-    ensures made { InBlock result.0.at }
-{
-    let (number, key) = asked;
-    let mut state = pool.into_state();
-    let reply = state.pool.add_ask(Ticket::from_number(number), key);
-    (UnmanagedPool::of(state), unmanaged_reply::add_ask(reply))
-}
-
-pub fn add_cancel(pool: UnmanagedPool, number: usize) -> (UnmanagedPool, Reply)
-    requires { InBlock pool.at }
-    ensures step { AddCancelsRaw pool.state.pool.pool number result.1 result.0.state.pool.pool }
-    ensures made { InBlock result.0.at }
-{
-    let mut state = pool.into_state();
-    let reply = state.pool.add_cancel(Ticket::from_number(number));
-    (UnmanagedPool::of(state), reply::step(reply))
-}
-
-pub fn back(pool: UnmanagedPool, key: u64) -> (UnmanagedPool, Reply)
-    requires { InBlock pool.at }
-    ensures step { TakesBackRaw pool.state.pool.pool key result.1 result.0.state.pool.pool }
-    ensures made { InBlock result.0.at }
-{
-    let mut state = pool.into_state();
-    let reply = state.pool.back(key);
-    (UnmanagedPool::of(state), unmanaged_reply::back(reply))
-}
-
-pub fn take(pool: UnmanagedPool, _unit: ()) -> (UnmanagedPool, Reply)
-    requires { InBlock pool.at }
-    ensures step { TakesRaw pool.state.pool.pool result.1 result.0.state.pool.pool }
-    ensures made { InBlock result.0.at }
-{
-    let mut state = pool.into_state();
-    let reply = state.pool.take();
-    (UnmanagedPool::of(state), unmanaged_reply::take(reply))
+    let reply = state.pool.make(&step, &mut hand);
+    (
+        UnmanagedPool::of(state),
+        unmanaged_reply::in_hand(&reply, hand),
+    )
 }
 
 pub fn close(pool: UnmanagedPool, _unit: ()) -> (UnmanagedPool, ())

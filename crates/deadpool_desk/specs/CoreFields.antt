@@ -33,8 +33,8 @@ module _ {T : Type 0} where
     next_ticket = c.gate.next_ticket;
   }
 
-  -- No count can wrap: each place that is held has room in the ring, and each creation under way has a number. The state is
-  -- settled.
+  -- No count can wrap: each place that is held has room in the ring, and each creation under way has a number. The
+  -- state is settled.
   pub record IsSound (c : Inside T) : Type 0 where
     pub within : c.places.limit ≤ c.ring.capacity
     pub small : c.ring.capacity < 2 ^ 63

@@ -1,17 +1,17 @@
--- The steps of a core. What a step makes of the desk is the desk machine's. Beside it stands what becomes of those in the queue
--- that were not told that their wait has ended: who comes is the last of them, who leaves is none of them, and none of the
--- steps tells anybody.
-use Rattle.std.specs.Prelude.{◌≡◌, ◌≤◌, ℕ, ◌+◌, ⊤, Bool, List, [], ◌∷◌, ◌++◌, length, Option, Result}
+-- The steps of a core. What a step makes of the desk is the desk machine's. Beside it stands what becomes of those in
+-- the queue that were not told that their wait has ended: who comes is the last of them, who leaves is none of them,
+-- and none of the steps tells anybody.
+use Rattle.std.specs.Prelude.{◌≡◌, ◌≤◌, ℕ, ◌+◌, ⊤, List, [], ◌∷◌, ◌++◌, length, Option, Result}
 use Rattle.std.specs.Option.{option_or}
 use Rattle.std.specs.declared.alloc.AllocError.{AllocError}
 use Rattle.deadpool_gate.specs.Numbers.{without_number}
 use Rattle.deadpool_gate.specs.Waking.{next_due, still_untold}
-use Rattle.deadpool_parts.specs.declared.status.Status.{Status}
-use Rattle.deadpool_parts.specs.declared.replies.HandleReply.{HandleReply}
 use Rattle.deadpool_desk.specs.CoreState.{CoreState}
 use Rattle.deadpool_desk.specs.DeskSteps as desk
 use Rattle.deadpool_desk.specs.Retains as desk_retains
 use Rattle.deadpool_desk.specs.Retained.{Retained}
+use Rattle.deadpool_desk.specs.declared.owner_step.OwnerReply.{OwnerReply}
+use Rattle.deadpool_desk.specs.declared.owner_step.OwnerStep.{OwnerStep}
 use Rattle.deadpool_desk.specs.declared.retain.Removal.{Removal}
 use Rattle.deadpool_desk.specs.declared.retain.Retainer.{Ghosts as RetainerOf}
 use Rattle.deadpool_desk.specs.declared.slot.Slot.{Slot}
@@ -45,29 +45,18 @@ module _ {T : Type 0} where
   abbrev pub Makes : CoreState T → Step → Option (Slot T) → Reply → Option (Slot T) → CoreState T → Type 0
   Makes c step was reply hand c' = Steps c step (option_or was hand) reply c'
 
-  abbrev pub Stands : CoreState T → Status → CoreState T → Type 0
-  Stands c status c' = desk.Stands c.desk status c'.desk × (c'.untold ≡ c.untold)
+  -- a step of the owner
+  abbrev pub MakesForOwner : CoreState T → OwnerStep → OwnerReply → CoreState T → Type 0
+  MakesForOwner c step reply c' = desk.DoesForOwner c.desk step reply c'.desk × (c'.untold ≡ c.untold)
 
-  abbrev pub Resizes : CoreState T → ℕ → Result (Unit {0}) AllocError → CoreState T → Type 0
-  Resizes c limit result c' = desk.Resizes c.desk limit result c'.desk × (c'.untold ≡ c.untold)
-
-  abbrev pub Retains : {R : Type 0} → RetainerOf R T → CoreState T → R → Result (Retained T) AllocError → CoreState T → R → Type 0
+  abbrev pub Retains : {R L : Type 0} → RetainerOf R T L → CoreState T → R → Result (Retained L) AllocError
+      → CoreState T → R → Type 0
   Retains asks c r result c' r' = desk_retains.Retains asks c.desk r result c'.desk r' × (c'.untold ≡ c.untold)
 
-  abbrev pub RetainsNoting : {R : Type 0} → RetainerOf R T → CoreState T → R → Result (Retained T × List Removal) AllocError → CoreState T → R → Type 0
-  RetainsNoting asks c r result c' r' = desk_retains.RetainsNoting asks c.desk r result c'.desk r' × (c'.untold ≡ c.untold)
-
-  abbrev pub Closes : CoreState T → CoreState T → Type 0
-  Closes c c' = desk.Closes c.desk c'.desk × (c'.untold ≡ c.untold)
-
-  abbrev pub Clones : CoreState T → HandleReply → CoreState T → Type 0
-  Clones c reply c' = desk.Clones c.desk reply c'.desk × (c'.untold ≡ c.untold)
-
-  abbrev pub DropsHandle : CoreState T → HandleReply → CoreState T → Type 0
-  DropsHandle c reply c' = desk.DropsHandle c.desk reply c'.desk × (c'.untold ≡ c.untold)
-
-  abbrev pub Upgrades : CoreState T → Bool → CoreState T → Type 0
-  Upgrades c is_left c' = desk.Upgrades c.desk is_left c'.desk × (c'.untold ≡ c.untold)
+  abbrev pub RetainsNoting : {R L : Type 0} → RetainerOf R T L → CoreState T → R
+      → Result (Retained L × List Removal) AllocError → CoreState T → R → Type 0
+  RetainsNoting asks c r result c' r' =
+      desk_retains.RetainsNoting asks c.desk r result c'.desk r' × (c'.untold ≡ c.untold)
 
   -- the ticket of the get that is to be woken next
   abbrev pub due_now : CoreState T → Option ℕ

@@ -1,7 +1,5 @@
 -- The managed pool's state on one thread. In the order in which it can be read.
 
--- What is known of an object's past.
-pub mod Metrics
 -- The replies to each step, and what is in the hand then.
 pub mod Replies
 -- The desk machine: the pool's state by tickets and counts, and its steps by their replies.
@@ -15,8 +13,8 @@ pub mod CoreSteps
 pub mod Settled
 -- What a pool counts.
 pub mod Counts
--- The places by queue and counts, how the fields of a core are seen as its state, and the machine as a desk. No contract
--- of a user cites them.
+-- The places by queue and counts, how the fields of a core are seen as its state, and the machine as a desk. No
+-- contract of a user cites them.
 pub mod Places
 pub mod CoreFields
 pub mod CoreDesk

@@ -9,4 +9,5 @@ held_at line p = length (granted_tickets line.waiters) + p.going + p.creations +
 
 -- how many of those that wait are granted a place: as many as are free
 abbrev pub grants_at : Line → Places → ℕ
-grants_at line p = if not line.is_closed then min (length (waiting_tickets line.waiters)) (p.limit - held_at line p) else 0
+grants_at line p = if not line.is_closed then min (length (waiting_tickets line.waiters))
+    (p.limit - held_at line p) else 0

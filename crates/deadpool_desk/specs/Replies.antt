@@ -1,15 +1,23 @@
 -- Which replies a step may have, what is in the hand then, and what the get holds.
 use Rattle.std.specs.Prelude.{◌≡◌, ◌+◌, ⊤, Option, Some, None, IsSome}
+use Rattle.deadpool_desk.specs.declared.owner_step.OwnerReply.{OwnerReply}
+use Rattle.deadpool_desk.specs.declared.owner_step.OwnerReply.TheVariants as owner_reply
+use Rattle.deadpool_desk.specs.declared.owner_step.OwnerStep.{OwnerStep}
+use Rattle.deadpool_desk.specs.declared.owner_step.OwnerStep.TheVariants as owner
 use Rattle.deadpool_desk.specs.declared.step.Held.{Held}
 use Rattle.deadpool_desk.specs.declared.step.Held.TheVariants as held
 use Rattle.deadpool_desk.specs.declared.step.Holding.{Holding}
 use Rattle.deadpool_desk.specs.declared.step.Holding.TheVariants as holding
 use Rattle.deadpool_desk.specs.declared.step.Reply.{Reply}
-use Rattle.deadpool_desk.specs.declared.step.Reply.TheVariants.{Object, Create, Going, Exhausted, Closed, Full, Waiting, OutOfMemory, Expired, Done, Number, Kept, Detach, Dropped, Taken, Unknown}
+use Rattle.deadpool_desk.specs.declared.step.Reply.TheVariants.{Object, Create, Going, Exhausted, Closed, Full, Waiting}
+use Rattle.deadpool_desk.specs.declared.step.Reply.TheVariants.{OutOfMemory, Expired, Done, Number, Kept, Detach}
+use Rattle.deadpool_desk.specs.declared.step.Reply.TheVariants.{Dropped, Taken, Unknown}
 use Rattle.deadpool_desk.specs.declared.step.Step.{Step}
-use Rattle.deadpool_desk.specs.declared.step.Step.TheVariants.{Enter, Ask, Again, Discard, Created, Failed, Refused, Back, Withdraw, Cancel, Take}
+use Rattle.deadpool_desk.specs.declared.step.Step.TheVariants.{Enter, Ask, Again, Discard, Created, Failed, Refused}
+use Rattle.deadpool_desk.specs.declared.step.Step.TheVariants.{Back, Withdraw, Cancel, Take}
 
--- The replies to each step. A get that goes on takes an object only within an allowance that is set, which is then one less.
+-- The replies to each step. A get that goes on takes an object only within an allowance that is set, which is then one
+-- less.
 abbrev pub IsReplyTo : Step → Reply → Type 0
 IsReplyTo (Enter wait) (Object left) = ⊤
 IsReplyTo (Enter wait) Create = ⊤
@@ -52,6 +60,20 @@ IsReplyTo (Withdraw ticket) Unknown = ⊤
 IsReplyTo (Cancel what) Done = ⊤
 IsReplyTo (Cancel what) Unknown = ⊤
 IsReplyTo _ _ = ⊥
+
+-- the replies to each step of the owner
+abbrev pub IsOwnerReplyTo : OwnerStep → OwnerReply → Type 0
+IsOwnerReplyTo owner.Status (owner_reply.Stands status) = ⊤
+IsOwnerReplyTo (owner.Resize limit) owner_reply.Done = ⊤
+IsOwnerReplyTo (owner.Resize limit) owner_reply.OutOfMemory = ⊤
+IsOwnerReplyTo owner.Close owner_reply.Done = ⊤
+IsOwnerReplyTo owner.CloneHandle owner_reply.Done = ⊤
+IsOwnerReplyTo owner.CloneHandle owner_reply.NoHandle = ⊤
+IsOwnerReplyTo owner.DropHandle owner_reply.Done = ⊤
+IsOwnerReplyTo owner.DropHandle owner_reply.NoHandle = ⊤
+IsOwnerReplyTo owner.Upgrade owner_reply.Done = ⊤
+IsOwnerReplyTo owner.Upgrade owner_reply.NoHandle = ⊤
+IsOwnerReplyTo _ _ = ⊥
 
 module _ {O : Type 0} where
   -- only an object that comes back is in the hand at the start

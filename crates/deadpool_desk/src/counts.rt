@@ -7,8 +7,8 @@ pub struct Counts {
     pub limit: usize,
     /// How many there are: idle, under preparation, or out.
     pub size: usize,
-    /// How many places are held: granted, by gets that hold one and no object, by creations under way, and by objects that
-    /// are not idle.
+    /// How many places are held: granted, by gets that hold one and no object, by creations under way, and by objects
+    /// that are not idle.
     pub places: usize,
     /// The size if each place that was given leads to an object.
     pub reach: usize,

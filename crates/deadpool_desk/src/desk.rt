@@ -1,7 +1,7 @@
 //! What gets ask of a pool, and objects that go back: one step at a time, each with its reply.
 //!
-//! What a step does is said as `Core` does it, by its relation. Another desk has a relation of its own, and owes nothing
-//! beyond it but that the reply is one of those of the step, and that it says what its get holds.
+//! What a step does is said as `Core` does it, by its relation. Another desk has a relation of its own, and owes
+//! nothing beyond it but that the reply is one of those of the step, and that it says what its get holds.
 ghost use Rattle.std.specs.Prelude.{⊤, Option};
 ghost use Rattle.deadpool_desk.specs.Replies.{Brings, IsReplyTo, Leaves, needed, left_by};
 ghost use Rattle.deadpool_desk.specs.declared.slot.Slot.{Slot};

@@ -1,34 +1,35 @@
 //! What a retain asks, and what it gives.
 ghost use Rattle.std.specs.Prelude.{◌≡◌, [], ⊤, ℕ, Bool, IfOk};
-ghost use Rattle.deadpool_desk.specs.declared.metrics.Metrics.{Metrics};
 
-use crate::Metrics;
 use std::alloc::{AllocError, Global};
 use std::marker::Model;
 
-/// Says which idle objects a retain keeps, and is told of each of the others. It may change with each call.
+/// Says which idle objects a retain keeps, and takes the value of each that is given up. It may change with each call.
 ///
 /// An implementation states by its relations which answers its calls may give. By default every answer is allowed.
 pub trait Retainer<T> {
+    /// What it leaves of a value.
+    type Left: Drop;
+
     // Holds of the retainers that may be called, and again of what each call leaves.
     ghost can_call: { Self → Type 0 } = { λ _. ⊤ };
 
-    // Holds of each answer about an object's number, value and past, with the retainer that it leaves.
-    ghost may_keep: { Self → ℕ → T → Metrics → Bool → Self → Type 0 } = { λ _ _ _ _ _ _. ⊤ };
+    // Holds of each answer about an object's number and value, with the retainer that it leaves.
+    ghost may_keep: { Self → ℕ → T → Bool → Self → Type 0 } = { λ _ _ _ _ _. ⊤ };
 
-    // Holds of each value that `detach` may leave, with the retainer that it leaves.
-    ghost may_detach: { Self → T → T → Self → Type 0 } = { λ _ _ _ _. ⊤ };
+    // Holds of all that `detach` may leave of a value, with the retainer that it leaves.
+    ghost may_detach: { Self → T → Self.Left → Self → Type 0 } = { λ _ _ _ _. ⊤ };
 
     /// Says whether an idle object is kept.
-    fn keeps(&mut self, number: usize, value: &T, metrics: &Metrics) -> bool
+    fn keeps(&mut self, number: usize, value: &T) -> bool
         requires { can_call self.old }
-        ensures answer { may_keep self.old number value.now metrics.now result self.new }
+        ensures answer { may_keep self.old number value.now result self.new }
         ensures can_call { can_call self.new };
 
-    /// Is told of the value of an object that is not kept.
-    fn detach(&mut self, value: &mut T)
+    /// Takes the value of an object that is given up, and gives what is left of it.
+    fn detach(&mut self, value: T) -> Self::Left
         requires { can_call self.old }
-        ensures answer { may_detach self.old value.old value.new self.new }
+        ensures answer { may_detach self.old value result self.new }
         ensures can_call { can_call self.new };
 }
 
@@ -97,7 +98,7 @@ impl Removals {
 pub struct RetainResult<T> {
     /// How many stay.
     pub retained: usize,
-    /// The values of the others, in order, as `detach` left them.
+    /// What `detach` left of the others, in order.
     pub removed: Vec<T>,
 }
 

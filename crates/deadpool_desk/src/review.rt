@@ -7,40 +7,36 @@ use circular_buffer::HeapCircularBuffer;
 use deadpool_parts::tables::append;
 use std::alloc::AllocError;
 
-// Asks about one object of so many that are idle, and gives back the object if it stays, else what `detach` left of its value.
+// Asks about one object of so many that are idle, and gives back the object if it stays, else what `detach` left of its
+// value.
 fn ask_about<T, R: Retainer<T>>(
     slot: Slot<T>,
     least: usize,
     idle: usize,
     retainer: &mut R,
-) -> Result<Slot<T>, T>
+) -> Result<Slot<T>, R::Left>
     requires { R.can_call retainer.old }
     ensures answer { MatchResult result
         (λ kept. (kept ≡ slot) × Stays R.Retainer least idle slot retainer.old retainer.new)
         (λ left. Goes R.Retainer least idle slot retainer.old left retainer.new) }
     ensures can_call { R.can_call retainer.new }
 {
-    let is_kept = retainer.keeps(slot.number, &slot.value, &slot.metrics);
+    let is_kept = retainer.keeps(slot.number, &slot.value);
     if is_kept || idle <= least {
         return Ok(slot);
     }
-    let Slot {
-        number: _,
-        mut value,
-        metrics: _,
-    } = slot;
-    retainer.detach(&mut value);
-    Err(value)
+    let Slot { number: _, value } = slot;
+    Err(retainer.detach(value))
 }
 
-// Asks about each object in the ring, front to back, and gives what is left of the values of those that go, and notes of
-// them. None goes while no more than the least number are in the ring. The others go round to the back, one by one, so that
-// they stand in their order at the end.
+// Asks about each object in the ring, front to back, and gives what is left of the values of those that go, and notes
+// of them. None goes while no more than the least number are in the ring. The others go round to the back, one by one,
+// so that they stand in their order at the end.
 pub(crate) fn review<T: Drop, R: Retainer<T>>(
     ring: &mut HeapCircularBuffer<Slot<T>>,
     least: usize,
     retainer: &mut R,
-) -> Result<(Vec<T>, Vec<Removal>), AllocError>
+) -> Result<(Vec<R::Left>, Vec<Removal>), AllocError>
     requires { R.can_call retainer.old }
     ensures reviewed { IfOk result (λ given. ReviewsFrom R.Retainer least (length ring.old.items)
         0 ring.old.items retainer.old ring.new.items given.0.items given.1.items retainer.new) }

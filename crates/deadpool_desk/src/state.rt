@@ -95,8 +95,8 @@ impl<T: Drop> Core<T> {
         let _ = &self.gate;
     }
 
-    /// The next get in the queue that is due to be woken, as it was granted a place or the pool has closed, and that was
-    /// not named before. It stays in the queue until it asks or is cancelled. This is no step of the pool.
+    /// The next get in the queue that is due to be woken, as it was granted a place or the pool has closed, and that
+    /// was not named before. It stays in the queue until it asks or is cancelled. This is no step of the pool.
     pub fn take_wake(&mut self) -> Option<Ticket>
         ensures { Tells self.old result self.new }
     {
@@ -142,7 +142,8 @@ impl<T: Drop> Core<T> {
         }
     }
 
-    // It is served, joins the queue, or is refused. The place that it is given is one of those going until it is served.
+    // It is served, joins the queue, or is refused. The place that it is given is one of those going until it is
+    // served.
     #[inline(always)]
     fn enter(&mut self, wait: bool, hand: &mut Option<Slot<T>>) -> Reply
         requires { hand.old ≡ None }
@@ -166,7 +167,8 @@ impl<T: Drop> Core<T> {
         }
     }
 
-    // It is served, stays, or leaves the queue. If it was granted a place, that is one of those going until it is served.
+    // It is served, stays, or leaves the queue. If it was granted a place, that is one of those going until it is
+    // served.
     fn ask(&mut self, ticket: Ticket, expired: bool, hand: &mut Option<Slot<T>>) -> Reply
         requires { hand.old ≡ None }
         ensures made { Steps self.old (Step.Ask ticket expired) hand.new result self.new }

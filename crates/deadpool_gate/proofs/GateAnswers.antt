@@ -1,21 +1,25 @@
 -- What a gate's answers say of its two lists of tickets, those with a place and those that wait for one.
-use Rattle.std.proofs.Common.{◌≡◌, ◌≢◌, ℕ, Bool, true, false, not, ◌||◌, cond, nat_lt, min, List, [], ◌∷◌, ◌++◌, length, Option, Some, None, refl, ap, inl, inr, arith}
+use Rattle.std.proofs.Common.{◌≡◌, ◌≢◌, ℕ, Bool, true, false, not, ◌||◌, cond, nat_lt, min, List, [], ◌∷◌, ◌++◌, length}
+use Rattle.std.proofs.Common.{Option, Some, None, refl, ap, inl, inr, arith}
 use Rattle.std.specs.Prelude.{IfSome, IfNone, ◌==◌}
 use Rattle.std.proofs.lemmas.Bool.{cases_Bool, ltb-false, or_left, or_right}
 use Rattle.deadpool_gate.specs.declared.gate.Ask.TheVariants as ask
 use Rattle.deadpool_gate.specs.declared.gate.Entry.TheVariants as entry
 use Rattle.deadpool_gate.specs.declared.gate.Withdrawn.TheVariants as withdrawn
-use Rattle.deadpool_gate.specs.Gate.{Waiter, arrived, find_waiter, without_waiter, granted_tickets, waiting_tickets, grant_count, entry_at_once, Joins, answer_of, asked, withdrawn_as, IsLine}
+use Rattle.deadpool_gate.specs.Gate.{Waiter, arrived, find_waiter, without_waiter, granted_tickets, waiting_tickets}
+use Rattle.deadpool_gate.specs.Gate.{grant_count, entry_at_once, Joins, answer_of, asked, withdrawn_as, IsLine}
 use Rattle.deadpool_gate.specs.Numbers.{has_number}
 use Rattle.deadpool_gate.proofs.GateListed.{find_none-head, find_none-tail}
-use Rattle.deadpool_gate.proofs.GateTickets.{has_number_unlisted, has_number_granted, has_number_waiting, waiting_count-length}
+use Rattle.deadpool_gate.proofs.GateTickets.{has_number_unlisted, has_number_granted, has_number_waiting}
+use Rattle.deadpool_gate.proofs.GateTickets.{waiting_count-length}
 
 -- whether a ticket is in one of the two lists
 abbrev pub has_ticket : ℕ → List Waiter → Bool
 has_ticket t ws = has_number t (granted_tickets ws) || has_number t (waiting_tickets ws)
 
 -- a closed gate grants nothing, and an open one as many as wait and find room
-pub grant_count-length : (is_closed : Bool) (room : ℕ) (ws : List Waiter) → grant_count is_closed room ws ≡ cond (not is_closed) (min (length (waiting_tickets ws)) room) 0
+pub grant_count-length : (is_closed : Bool) (room : ℕ) (ws : List Waiter)
+    → grant_count is_closed room ws ≡ cond (not is_closed) (min (length (waiting_tickets ws)) room) 0
 grant_count-length true room ws = refl
 grant_count-length false room ws = rw (← waiting_count-length ws) (omega arith)
 
@@ -31,12 +35,14 @@ without_waiter-none t (w ∷ ws) none =
     rw other (ap (λ vs. w ∷ vs) (without_waiter-none t ws (find_none-tail (λ v. v.ticket == t) w ws none)))
 
 -- what one that is found is told, by whether the gate is closed and whether it has a place
-told_granted : (c granted : Bool) → ask.Granted ≡ cond c ask.Closed (cond granted ask.Granted ask.Waiting) → (c ≡ false) × (granted ≡ true)
+told_granted : (c granted : Bool) → ask.Granted ≡ cond c ask.Closed (cond granted ask.Granted ask.Waiting)
+    → (c ≡ false) × (granted ≡ true)
 told_granted true granted answer = cc
 told_granted false true answer = (refl, refl)
 told_granted false false answer = cc
 
-told_waiting : (c granted : Bool) → ask.Waiting ≡ cond c ask.Closed (cond granted ask.Granted ask.Waiting) → (c ≡ false) × (granted ≡ false)
+told_waiting : (c granted : Bool) → ask.Waiting ≡ cond c ask.Closed (cond granted ask.Granted ask.Waiting)
+    → (c ≡ false) × (granted ≡ false)
 told_waiting true granted answer = cc
 told_waiting false true answer = cc
 told_waiting false false answer = (refl, refl)
@@ -65,20 +71,24 @@ module _ (c : Bool) (t : ℕ) (ws : List Waiter) (line : IsLine c ws) where
       ]
 
   -- one that is told of its place had one, and leaves
-  pub asked-granted : ask.Granted ≡ answer_of c (find_waiter t ws) → (c ≡ false) × (has_number t (granted_tickets ws) ≡ true) × (asked c t ws ≡ without_waiter t ws)
+  pub asked-granted : ask.Granted ≡ answer_of c (find_waiter t ws)
+      → (c ≡ false) × (has_number t (granted_tickets ws) ≡ true) × (asked c t ws ≡ without_waiter t ws)
   asked-granted answer = by_cases (find_waiter t ws) refl
     where
-      by_cases : (o : Option Waiter) → find_waiter t ws ≡ o → (c ≡ false) × (has_number t (granted_tickets ws) ≡ true) × (asked c t ws ≡ without_waiter t ws)
+      by_cases : (o : Option Waiter) → find_waiter t ws ≡ o
+          → (c ≡ false) × (has_number t (granted_tickets ws) ≡ true) × (asked c t ws ≡ without_waiter t ws)
       by_cases None is = absurd (let told : ask.Granted ≡ ask.Unknown = rw is at answer in cc)
       by_cases (Some w) is =
           let was = told_granted c w.granted (rw is at answer) in
           (was.0, (has_number_granted t ws w line.apart is was.1).0, rw (is, was.1) refl)
 
   -- one that is told to wait has no place, and stays
-  pub asked-waiting : ask.Waiting ≡ answer_of c (find_waiter t ws) → (c ≡ false) × (has_number t (granted_tickets ws) ≡ false) × (has_number t (waiting_tickets ws) ≡ true) × (asked c t ws ≡ ws)
+  pub asked-waiting : ask.Waiting ≡ answer_of c (find_waiter t ws) → (c ≡ false)
+      × (has_number t (granted_tickets ws) ≡ false) × (has_number t (waiting_tickets ws) ≡ true) × (asked c t ws ≡ ws)
   asked-waiting answer = by_cases (find_waiter t ws) refl
     where
-      by_cases : (o : Option Waiter) → find_waiter t ws ≡ o → (c ≡ false) × (has_number t (granted_tickets ws) ≡ false) × (has_number t (waiting_tickets ws) ≡ true) × (asked c t ws ≡ ws)
+      by_cases : (o : Option Waiter) → find_waiter t ws ≡ o → (c ≡ false) × (has_number t (granted_tickets ws) ≡ false)
+          × (has_number t (waiting_tickets ws) ≡ true) × (asked c t ws ≡ ws)
       by_cases None is = absurd (let told : ask.Waiting ≡ ask.Unknown = rw is at answer in cc)
       by_cases (Some w) is =
           let was = told_waiting c w.granted (rw is at answer) in
@@ -86,10 +96,12 @@ module _ (c : Bool) (t : ℕ) (ws : List Waiter) (line : IsLine c ws) where
           (was.0, has.0, has.1, rw (is, was.1, was.0) refl)
 
   -- one that hears that the gate is closed leaves
-  pub asked-closed : ask.Closed ≡ answer_of c (find_waiter t ws) → (c ≡ true) × (has_ticket t ws ≡ true) × (asked c t ws ≡ without_waiter t ws)
+  pub asked-closed : ask.Closed ≡ answer_of c (find_waiter t ws)
+      → (c ≡ true) × (has_ticket t ws ≡ true) × (asked c t ws ≡ without_waiter t ws)
   asked-closed answer = by_cases (find_waiter t ws) refl
     where
-      by_cases : (o : Option Waiter) → find_waiter t ws ≡ o → (c ≡ true) × (has_ticket t ws ≡ true) × (asked c t ws ≡ without_waiter t ws)
+      by_cases : (o : Option Waiter) → find_waiter t ws ≡ o
+          → (c ≡ true) × (has_ticket t ws ≡ true) × (asked c t ws ≡ without_waiter t ws)
       by_cases None is = absurd (let told : ask.Closed ≡ ask.Unknown = rw is at answer in cc)
       by_cases (Some w) is =
           let was = told_closed c w.granted (rw is at answer) in
@@ -104,7 +116,8 @@ module _ (c : Bool) (t : ℕ) (ws : List Waiter) (line : IsLine c ws) where
       by_cases (Some w) is = absurd (told_something c w.granted (rw is at answer))
 
   -- one that withdraws and is unknown is in no list, and nothing changes
-  pub withdrawn-unknown : withdrawn.Unknown ≡ withdrawn_as (find_waiter t ws) → (has_ticket t ws ≡ false) × (without_waiter t ws ≡ ws)
+  pub withdrawn-unknown : withdrawn.Unknown ≡ withdrawn_as (find_waiter t ws)
+      → (has_ticket t ws ≡ false) × (without_waiter t ws ≡ ws)
   withdrawn-unknown answer = by_cases (find_waiter t ws) refl
     where
       by_cases : (o : Option Waiter) → find_waiter t ws ≡ o → (has_ticket t ws ≡ false) × (without_waiter t ws ≡ ws)
@@ -121,17 +134,23 @@ module _ (c : Bool) (t : ℕ) (ws : List Waiter) (line : IsLine c ws) where
 
 -- what an entry that has to wait rules out
 joins_last : (c some_room wait : Bool) (t : ℕ) (before after : List Waiter)
-    → IfSome (cond c (Some entry.Closed) (cond some_room (Some entry.Granted) (cond wait None (Some entry.Full)))) (λ answer. entry.Waiting t ≡ answer)
-    → IfNone (cond c (Some entry.Closed) (cond some_room (Some entry.Granted) (cond wait None (Some entry.Full)))) (Joins before (entry.Waiting t) after)
-    → (c ≡ false) × (some_room ≡ false) × (wait ≡ true) × (find_waiter t before ≡ None) × (after ≡ before ++ arrived t ∷ [])
+    → IfSome (cond c (Some entry.Closed) (cond some_room (Some entry.Granted) (cond wait None (Some entry.Full))))
+    (λ answer. entry.Waiting t ≡ answer)
+    → IfNone (cond c (Some entry.Closed) (cond some_room (Some entry.Granted) (cond wait None (Some entry.Full))))
+    (Joins before (entry.Waiting t) after)
+    → (c ≡ false) × (some_room ≡ false) × (wait ≡ true) × (find_waiter t before ≡ None)
+    × (after ≡ before ++ arrived t ∷ [])
 joins_last true b wait t before after at_once joins = absurd (let told : entry.Waiting t ≡ entry.Closed = at_once in cc)
-joins_last false true wait t before after at_once joins = absurd (let told : entry.Waiting t ≡ entry.Granted = at_once in cc)
+joins_last false true wait t before after at_once joins =
+    absurd (let told : entry.Waiting t ≡ entry.Granted = at_once in cc)
 joins_last false false true t before after at_once joins = (refl, refl, refl, joins.0, joins.1)
-joins_last false false false t before after at_once joins = absurd (let told : entry.Waiting t ≡ entry.Full = at_once in cc)
+joins_last false false false t before after at_once joins =
+    absurd (let told : entry.Waiting t ≡ entry.Full = at_once in cc)
 
 -- one that joins the line found an open gate and no room, and is willing to wait
 pub entered-waiting : (c : Bool) (room : ℕ) (wait : Bool) (t : ℕ) (before after : List Waiter)
-    → IfSome (entry_at_once c room wait) (λ answer. entry.Waiting t ≡ answer) → IfNone (entry_at_once c room wait) (Joins before (entry.Waiting t) after)
+    → IfSome (entry_at_once c room wait) (λ answer. entry.Waiting t ≡ answer)
+    → IfNone (entry_at_once c room wait) (Joins before (entry.Waiting t) after)
     → (c ≡ false) × (room ≡ 0) × (wait ≡ true) × (find_waiter t before ≡ None) × (after ≡ before ++ arrived t ∷ [])
 entered-waiting c room wait t before after at_once joins =
     let was = joins_last c (nat_lt 0 room) wait t before after at_once joins in
@@ -139,16 +158,21 @@ entered-waiting c room wait t before after at_once joins =
 
 -- nor does one that found no memory, and the line is as it was
 joins_none : (c some_room wait : Bool) (before after : List Waiter)
-    → IfSome (cond c (Some entry.Closed) (cond some_room (Some entry.Granted) (cond wait None (Some entry.Full)))) (λ answer. entry.OutOfMemory ≡ answer)
-    → IfNone (cond c (Some entry.Closed) (cond some_room (Some entry.Granted) (cond wait None (Some entry.Full)))) (Joins before entry.OutOfMemory after)
+    → IfSome (cond c (Some entry.Closed) (cond some_room (Some entry.Granted) (cond wait None (Some entry.Full))))
+    (λ answer. entry.OutOfMemory ≡ answer)
+    → IfNone (cond c (Some entry.Closed) (cond some_room (Some entry.Granted) (cond wait None (Some entry.Full))))
+    (Joins before entry.OutOfMemory after)
     → (c ≡ false) × (some_room ≡ false) × (wait ≡ true) × (after ≡ before)
 joins_none true b wait before after at_once joins = absurd (let told : entry.OutOfMemory ≡ entry.Closed = at_once in cc)
-joins_none false true wait before after at_once joins = absurd (let told : entry.OutOfMemory ≡ entry.Granted = at_once in cc)
+joins_none false true wait before after at_once joins =
+    absurd (let told : entry.OutOfMemory ≡ entry.Granted = at_once in cc)
 joins_none false false true before after at_once joins = (refl, refl, refl, joins)
-joins_none false false false before after at_once joins = absurd (let told : entry.OutOfMemory ≡ entry.Full = at_once in cc)
+joins_none false false false before after at_once joins =
+    absurd (let told : entry.OutOfMemory ≡ entry.Full = at_once in cc)
 
 pub entered-without_memory : (c : Bool) (room : ℕ) (wait : Bool) (before after : List Waiter)
-    → IfSome (entry_at_once c room wait) (λ answer. entry.OutOfMemory ≡ answer) → IfNone (entry_at_once c room wait) (Joins before entry.OutOfMemory after)
+    → IfSome (entry_at_once c room wait) (λ answer. entry.OutOfMemory ≡ answer)
+    → IfNone (entry_at_once c room wait) (Joins before entry.OutOfMemory after)
     → (c ≡ false) × (room ≡ 0) × (wait ≡ true) × (after ≡ before)
 entered-without_memory c room wait before after at_once joins =
     let was = joins_none c (nat_lt 0 room) wait before after at_once joins in

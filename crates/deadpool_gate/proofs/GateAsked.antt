@@ -5,7 +5,9 @@ use Rattle.deadpool_gate.specs.Gate.{Waiter, find_waiter, without_waiter, asked}
 use Rattle.deadpool_gate.proofs.GateListed.{remove_first_none}
 
 -- nobody does if nobody is listed
-pub without_waiter_unlisted : (is_closed : Bool) (key : ℕ) (ws : List Waiter) → None ≡ option_map (λ (w : Waiter). w.granted) (find_waiter key ws) → without_waiter key ws ≡ asked is_closed key ws
+pub without_waiter_unlisted : (is_closed : Bool) (key : ℕ) (ws : List Waiter)
+    → None ≡ option_map (λ (w : Waiter). w.granted) (find_waiter key ws)
+    → without_waiter key ws ≡ asked is_closed key ws
 without_waiter_unlisted c key ws none = by_cases (find_waiter key ws) refl
   where
     by_cases : (o : Option Waiter) → find_waiter key ws ≡ o → without_waiter key ws ≡ asked c key ws

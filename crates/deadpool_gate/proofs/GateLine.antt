@@ -1,15 +1,20 @@
 -- What every step of a gate keeps of its line: each kind of step is a waiter that leaves, one that is changed in its
 -- place, or one that comes last.
-use Rattle.std.proofs.Common.{◌≡◌, ℕ, Bool, true, false, not, ◌||◌, eqb, List, [], ◌∷◌, ◌++◌, None, refl, sym, ◌∙◌, inl, inr}
+use Rattle.std.proofs.Common.{◌≡◌, ℕ, Bool, true, false, not, ◌||◌, eqb, List, [], ◌∷◌, ◌++◌, None, refl, sym, ◌∙◌, inl}
+use Rattle.std.proofs.Common.{inr}
 use Rattle.std.specs.List.{find}
-use Rattle.std.proofs.lemmas.Bool.{cases_Bool, both_ways, ne_eqb, eqb-false, not_from_false, and_cases, and_parts, or_parts}
-use Rattle.deadpool_gate.specs.Gate.{Waiter, arrived, find_waiter, remove_first, change_first, without_waiter, with_place, with_word, grant_next, is_due, tell_next, IsApart, NonePass, IsFront, ToldAreDone, IsLine}
+use Rattle.std.proofs.lemmas.Bool.{cases_Bool, both_ways, ne_eqb, eqb-false, not_from_false, and_cases, and_parts}
+use Rattle.std.proofs.lemmas.Bool.{or_parts}
+use Rattle.deadpool_gate.specs.Gate.{Waiter, arrived, find_waiter, remove_first, change_first, without_waiter}
+use Rattle.deadpool_gate.specs.Gate.{with_place, with_word, grant_next, is_due, tell_next, IsApart, NonePass, IsFront}
+use Rattle.deadpool_gate.specs.Gate.{ToldAreDone, IsLine}
 use Rattle.deadpool_gate.proofs.GateListed.{find_none-head, find_none-tail, find_none-none_pass, change_first_none}
 
 module _ (test : Waiter → Bool) where
   -- a waiter leaves
 
-  find_none-remove_first : (p : Waiter → Bool) (ws : List Waiter) → find p ws ≡ None → find p (remove_first test ws) ≡ None
+  find_none-remove_first : (p : Waiter → Bool) (ws : List Waiter) → find p ws ≡ None
+      → find p (remove_first test ws) ≡ None
   find_none-remove_first p [] none = refl
   find_none-remove_first p (w ∷ ws) none =
       let rest = find_none-tail p w ws none in
@@ -23,7 +28,10 @@ module _ (test : Waiter → Bool) where
   IsApart-remove_first (w ∷ ws) apart =
       elim (cases_Bool (test w)) [
         | inl here ↦ rw here apart.1
-        | inr later ↦ rw later (find_none-remove_first (λ v. eqb v.ticket w.ticket) ws apart.0, IsApart-remove_first ws apart.1)
+        | inr later ↦ rw later (
+          find_none-remove_first (λ v. eqb v.ticket w.ticket) ws apart.0,
+          IsApart-remove_first ws apart.1,
+        )
       ]
 
   NonePass-remove_first : (p : Waiter → Bool) (ws : List Waiter) → NonePass p ws → NonePass p (remove_first test ws)
@@ -42,7 +50,8 @@ module _ (test : Waiter → Bool) where
         | inr later ↦ rw later (λ fails. NonePass-remove_first p ws (front.0 fails), IsFront-remove_first p ws front.1)
       ]
 
-  ToldAreDone-remove_first : (is_closed : Bool) (ws : List Waiter) → ToldAreDone is_closed ws → ToldAreDone is_closed (remove_first test ws)
+  ToldAreDone-remove_first : (is_closed : Bool) (ws : List Waiter) → ToldAreDone is_closed ws
+      → ToldAreDone is_closed (remove_first test ws)
   ToldAreDone-remove_first c [] done = tt
   ToldAreDone-remove_first c (w ∷ ws) done =
       elim (cases_Bool (test w)) [
@@ -53,7 +62,8 @@ module _ (test : Waiter → Bool) where
   -- a waiter is changed in its place in the line, and keeps its ticket
 
   module _ (change : Waiter → Waiter) (same : (w : Waiter) → (change w).ticket ≡ w.ticket) where
-    find_none-changed : (key : ℕ) (ws : List Waiter) → find_waiter key ws ≡ None → find_waiter key (change_first test change ws) ≡ None
+    find_none-changed : (key : ℕ) (ws : List Waiter) → find_waiter key ws ≡ None
+        → find_waiter key (change_first test change ws) ≡ None
     find_none-changed key [] none = refl
     find_none-changed key (w ∷ ws) none =
         let fails = find_none-head (λ v. eqb v.ticket key) w ws none in
@@ -90,7 +100,9 @@ module _ (test : Waiter → Bool) where
         ]
 
   -- who is told of what has happened is done; so is who was told and gets a place
-  ToldAreDone-changed : (is_closed : Bool) (change : Waiter → Waiter) → ((w : Waiter) → test w ≡ true → ((change w).granted || is_closed) ≡ true) → (ws : List Waiter) → ToldAreDone is_closed ws → ToldAreDone is_closed (change_first test change ws)
+  ToldAreDone-changed : (is_closed : Bool) (change : Waiter → Waiter)
+      → ((w : Waiter) → test w ≡ true → ((change w).granted || is_closed) ≡ true) → (ws : List Waiter)
+      → ToldAreDone is_closed ws → ToldAreDone is_closed (change_first test change ws)
   ToldAreDone-changed c change ends [] done = tt
   ToldAreDone-changed c change ends (w ∷ ws) done =
       elim (cases_Bool (test w)) [
@@ -99,7 +111,8 @@ module _ (test : Waiter → Bool) where
       ]
 
 -- the first without a place gets one, so those with a place are still the front
-pub granted_front-grant_next : (ws : List Waiter) → IsFront (λ w. w.granted) ws → IsFront (λ w. w.granted) (grant_next ws)
+pub granted_front-grant_next : (ws : List Waiter) → IsFront (λ w. w.granted) ws
+    → IsFront (λ w. w.granted) (grant_next ws)
 granted_front-grant_next [] front = tt
 granted_front-grant_next (w ∷ ws) front =
     elim (cases_Bool w.granted) [
@@ -108,7 +121,8 @@ granted_front-grant_next (w ∷ ws) front =
     ]
 
 -- who was not told and is not due has no place, in an open line
-waits : (is_closed : Bool) (w : Waiter) → is_due is_closed w ≡ false → w.told ≡ false → (w.granted ≡ false) × (is_closed ≡ false)
+waits : (is_closed : Bool) (w : Waiter) → is_due is_closed w ≡ false → w.told ≡ false
+    → (w.granted ≡ false) × (is_closed ≡ false)
 waits c w later fails =
     elim (and_cases (w.granted || c) (not w.told) later) [
       | inl lacks ↦ or_parts w.granted c lacks
@@ -124,11 +138,13 @@ is_due-granted : (w : Waiter) → is_due false w ≡ true → w.granted ≡ true
 is_due-granted w due = has_place w.granted (and_parts (w.granted || false) (not w.told) due).0
 
 -- if nobody has a place in an open line, nobody is due
-pub none_due-open : (is_closed : Bool) (ws : List Waiter) → is_closed ≡ false → NonePass (λ w. w.granted) ws → find (is_due is_closed) ws ≡ None
+pub none_due-open : (is_closed : Bool) (ws : List Waiter) → is_closed ≡ false → NonePass (λ w. w.granted) ws
+    → find (is_due is_closed) ws ≡ None
 none_due-open c ws is none = rw is (find_none-none_pass (is_due false) (λ w. w.granted) is_due-granted ws none)
 
 -- so the earliest that is due is the earliest that was not told, and those that were told are still the front
-told_front-tell_next : (is_closed : Bool) (ws : List Waiter) → IsFront (λ w. w.granted) ws → IsFront (λ w. w.told) ws → IsFront (λ w. w.told) (tell_next is_closed ws)
+told_front-tell_next : (is_closed : Bool) (ws : List Waiter) → IsFront (λ w. w.granted) ws → IsFront (λ w. w.told) ws
+    → IsFront (λ w. w.told) (tell_next is_closed ws)
 told_front-tell_next c [] granted told = tt
 told_front-tell_next c (w ∷ ws) granted told =
     elim (cases_Bool (is_due c w)) [
@@ -137,7 +153,8 @@ told_front-tell_next c (w ∷ ws) granted told =
           rw later (
             λ fails.
                 let lacks = waits c w later fails in
-                rw (change_first_none (is_due c) with_word ws (none_due-open c ws lacks.1 (granted.0 lacks.0))) (told.0 fails),
+                rw (change_first_none (is_due c) with_word ws (none_due-open c ws lacks.1 (granted.0 lacks.0)))
+                (told.0 fails),
             told_front-tell_next c ws granted.1 told.1,
           )
     ]
@@ -148,10 +165,12 @@ is_due-done c w due = (and_parts (w.granted || c) (not w.told) due).0
 module _ (key : ℕ) where
   -- a waiter comes last
 
-  find_none-arrived : (other : ℕ) (ws : List Waiter) → eqb key other ≡ false → find_waiter other ws ≡ None → find_waiter other (ws ++ arrived key ∷ []) ≡ None
+  find_none-arrived : (other : ℕ) (ws : List Waiter) → eqb key other ≡ false → find_waiter other ws ≡ None
+      → find_waiter other (ws ++ arrived key ∷ []) ≡ None
   find_none-arrived other [] differs none = rw differs refl
   find_none-arrived other (w ∷ ws) differs none =
-      rw (find_none-head (λ v. eqb v.ticket other) w ws none) (find_none-arrived other ws differs (find_none-tail (λ v. eqb v.ticket other) w ws none))
+      rw (find_none-head (λ v. eqb v.ticket other) w ws none)
+      (find_none-arrived other ws differs (find_none-tail (λ v. eqb v.ticket other) w ws none))
 
   IsApart-arrived : (ws : List Waiter) → find_waiter key ws ≡ None → IsApart ws → IsApart (ws ++ arrived key ∷ [])
   IsApart-arrived [] fresh apart = (refl, tt)
@@ -161,15 +180,19 @@ module _ (key : ℕ) where
         IsApart-arrived ws (find_none-tail (λ v. eqb v.ticket key) w ws fresh) apart.1,
       )
 
-  NonePass-arrived : (p : Waiter → Bool) (ws : List Waiter) → p (arrived key) ≡ false → NonePass p ws → NonePass p (ws ++ arrived key ∷ [])
+  NonePass-arrived : (p : Waiter → Bool) (ws : List Waiter) → p (arrived key) ≡ false → NonePass p ws
+      → NonePass p (ws ++ arrived key ∷ [])
   NonePass-arrived p [] fails none = (fails, tt)
   NonePass-arrived p (w ∷ ws) fails none = (none.0, NonePass-arrived p ws fails none.1)
 
-  IsFront-arrived : (p : Waiter → Bool) (ws : List Waiter) → p (arrived key) ≡ false → IsFront p ws → IsFront p (ws ++ arrived key ∷ [])
+  IsFront-arrived : (p : Waiter → Bool) (ws : List Waiter) → p (arrived key) ≡ false → IsFront p ws
+      → IsFront p (ws ++ arrived key ∷ [])
   IsFront-arrived p [] fails front = (λ _. tt, tt)
-  IsFront-arrived p (w ∷ ws) fails front = (λ here. NonePass-arrived p ws fails (front.0 here), IsFront-arrived p ws fails front.1)
+  IsFront-arrived p (w ∷ ws) fails front =
+      (λ here. NonePass-arrived p ws fails (front.0 here), IsFront-arrived p ws fails front.1)
 
-  ToldAreDone-arrived : (is_closed : Bool) (ws : List Waiter) → ToldAreDone is_closed ws → ToldAreDone is_closed (ws ++ arrived key ∷ [])
+  ToldAreDone-arrived : (is_closed : Bool) (ws : List Waiter) → ToldAreDone is_closed ws
+      → ToldAreDone is_closed (ws ++ arrived key ∷ [])
   ToldAreDone-arrived c [] done = (λ told. absurd (both_ways _ refl told), tt)
   ToldAreDone-arrived c (w ∷ ws) done = (done.0, ToldAreDone-arrived c ws done.1)
 
@@ -181,7 +204,8 @@ done-closed : (is_closed : Bool) (ws : List Waiter) → ToldAreDone is_closed ws
 done-closed c [] done = tt
 done-closed c (w ∷ ws) done = (λ _. or_true w.granted, done-closed c ws done.1)
 
-pub IsLine-without_waiter : (is_closed : Bool) (key : ℕ) (ws : List Waiter) → IsLine is_closed ws → IsLine is_closed (without_waiter key ws)
+pub IsLine-without_waiter : (is_closed : Bool) (key : ℕ) (ws : List Waiter) → IsLine is_closed ws
+    → IsLine is_closed (without_waiter key ws)
 IsLine-without_waiter c key ws line =
     record {
       apart = IsApart-remove_first (λ v. eqb v.ticket key) ws line.apart;
@@ -199,7 +223,8 @@ IsLine-grant_next c ws line =
       told_done = ToldAreDone-changed (λ v. not v.granted) c with_place (λ _ _. refl) ws line.told_done;
     }
 
-pub IsLine-tell_next : (is_closed : Bool) (ws : List Waiter) → IsLine is_closed ws → IsLine is_closed (tell_next is_closed ws)
+pub IsLine-tell_next : (is_closed : Bool) (ws : List Waiter) → IsLine is_closed ws
+    → IsLine is_closed (tell_next is_closed ws)
 IsLine-tell_next c ws line =
     record {
       apart = IsApart-changed (is_due c) with_word (λ _. refl) ws line.apart;
@@ -208,7 +233,8 @@ IsLine-tell_next c ws line =
       told_done = ToldAreDone-changed (is_due c) c with_word (is_due-done c) ws line.told_done;
     }
 
-pub IsLine-arrived : (is_closed : Bool) (key : ℕ) (ws : List Waiter) → find_waiter key ws ≡ None → IsLine is_closed ws → IsLine is_closed (ws ++ arrived key ∷ [])
+pub IsLine-arrived : (is_closed : Bool) (key : ℕ) (ws : List Waiter) → find_waiter key ws ≡ None → IsLine is_closed ws
+    → IsLine is_closed (ws ++ arrived key ∷ [])
 IsLine-arrived c key ws fresh line =
     record {
       apart = IsApart-arrived key ws fresh line.apart;

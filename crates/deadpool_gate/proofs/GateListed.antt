@@ -12,7 +12,8 @@ find_none-head test x xs none =
       | inr fails ↦ fails
     ]
 
-pub find_none-tail : (test : Waiter → Bool) (x : Waiter) (xs : List Waiter) → find test (x ∷ xs) ≡ None → find test xs ≡ None
+pub find_none-tail : (test : Waiter → Bool) (x : Waiter) (xs : List Waiter) → find test (x ∷ xs) ≡ None
+    → find test xs ≡ None
 find_none-tail test x xs none = let fails = find_none-head test x xs none in rw fails at none
 
 -- a waiter that is found, between those before it, none of which passes, and those behind it
@@ -33,7 +34,13 @@ module _ (test : Waiter → Bool) where
             record { front = []; back = xs; is = ap (λ v. v ∷ xs) same; passes = rw (← same) passes; before = refl }
         | inr fails ↦
             let rest : FoundBetween test xs w = found_between xs w (rw fails at found) in
-            record { front = x ∷ rest.front; back = rest.back; is = ap (λ ys. x ∷ ys) rest.is; passes = rest.passes; before = rw fails rest.before }
+            record {
+              front = x ∷ rest.front;
+              back = rest.back;
+              is = ap (λ ys. x ∷ ys) rest.is;
+              passes = rest.passes;
+              before = rw fails rest.before;
+            }
       ]
 
   -- a search of two lists, one after the other
@@ -53,12 +60,14 @@ module _ (test : Waiter → Bool) where
 
   -- what is done to the waiter that is found is done to the one between
 
-  pub change_first-between : (change : Waiter → Waiter) (xs : List Waiter) (w : Waiter) (ys : List Waiter) → find test xs ≡ None → test w ≡ true → change_first test change (xs ++ w ∷ ys) ≡ xs ++ change w ∷ ys
+  pub change_first-between : (change : Waiter → Waiter) (xs : List Waiter) (w : Waiter) (ys : List Waiter)
+      → find test xs ≡ None → test w ≡ true → change_first test change (xs ++ w ∷ ys) ≡ xs ++ change w ∷ ys
   change_first-between change [] w ys none passes = rw passes
   change_first-between change (x ∷ xs) w ys none passes =
       rw (find_none-head test x xs none, change_first-between change xs w ys (find_none-tail test x xs none) passes)
 
-  pub remove_first-between : (xs : List Waiter) (w : Waiter) (ys : List Waiter) → find test xs ≡ None → test w ≡ true → remove_first test (xs ++ w ∷ ys) ≡ xs ++ ys
+  pub remove_first-between : (xs : List Waiter) (w : Waiter) (ys : List Waiter) → find test xs ≡ None → test w ≡ true
+      → remove_first test (xs ++ w ∷ ys) ≡ xs ++ ys
   remove_first-between [] w ys none passes = rw passes
   remove_first-between (x ∷ xs) w ys none passes =
       rw (find_none-head test x xs none, remove_first-between xs w ys (find_none-tail test x xs none) passes)
@@ -69,7 +78,8 @@ module _ (test : Waiter → Bool) where
       let fails = find_none-head test w ws none in
       rw fails (ap (λ vs. w ∷ vs) (remove_first_none ws (find_none-tail test w ws none)))
 
-  pub change_first_none : (change : Waiter → Waiter) (ws : List Waiter) → find test ws ≡ None → change_first test change ws ≡ ws
+  pub change_first_none : (change : Waiter → Waiter) (ws : List Waiter) → find test ws ≡ None
+      → change_first test change ws ≡ ws
   change_first_none change [] none = refl
   change_first_none change (w ∷ ws) none =
       let fails = find_none-head test w ws none in
@@ -94,6 +104,7 @@ module _ (test : Waiter → Bool) where
         ]
 
   -- behind one that fails nobody passes, if those that pass are the front
-  pub none_pass-behind : (xs : List Waiter) (w : Waiter) (ys : List Waiter) → test w ≡ false → IsFront test (xs ++ w ∷ ys) → NonePass test ys
+  pub none_pass-behind : (xs : List Waiter) (w : Waiter) (ys : List Waiter) → test w ≡ false
+      → IsFront test (xs ++ w ∷ ys) → NonePass test ys
   none_pass-behind [] w ys fails front = front.0 fails
   none_pass-behind (x ∷ xs) w ys fails front = none_pass-behind xs w ys fails front.1

@@ -19,7 +19,8 @@ waiting_tickets-grant_next (w ∷ ws) =
     ]
 
 -- and puts it behind those with a place, since they are the front
-granted_tickets-grant_next : (ws : List Waiter) → IsFront (λ w. w.granted) ws → granted_tickets (grant_next ws) ≡ granted_tickets ws ++ take 1 (waiting_tickets ws)
+granted_tickets-grant_next : (ws : List Waiter) → IsFront (λ w. w.granted) ws
+    → granted_tickets (grant_next ws) ≡ granted_tickets ws ++ take 1 (waiting_tickets ws)
 granted_tickets-grant_next [] front = refl
 granted_tickets-grant_next (w ∷ ws) front =
     elim (cases_Bool w.granted) [
@@ -44,13 +45,16 @@ granted_front-grant (suc n) ws front = granted_front-grant_next (grant n ws) (gr
 pub waiting_tickets-grant : (n : ℕ) (ws : List Waiter) → waiting_tickets (grant n ws) ≡ drop n (waiting_tickets ws)
 waiting_tickets-grant zero ws = refl
 waiting_tickets-grant (suc n) ws =
-    waiting_tickets-grant_next (grant n ws) ∙ ap (drop 1) (waiting_tickets-grant n ws) ∙ drop_one_more n (waiting_tickets ws)
+    waiting_tickets-grant_next (grant n ws) ∙ ap (drop 1) (waiting_tickets-grant n ws)
+    ∙ drop_one_more n (waiting_tickets ws)
 
-pub granted_tickets-grant : (n : ℕ) (ws : List Waiter) → IsFront (λ w. w.granted) ws → granted_tickets (grant n ws) ≡ granted_tickets ws ++ take n (waiting_tickets ws)
+pub granted_tickets-grant : (n : ℕ) (ws : List Waiter) → IsFront (λ w. w.granted) ws
+    → granted_tickets (grant n ws) ≡ granted_tickets ws ++ take n (waiting_tickets ws)
 granted_tickets-grant zero ws front = sym (append-nil _)
 granted_tickets-grant (suc n) ws front =
     let had = granted_tickets ws in
     let waited = waiting_tickets ws in
     granted_tickets-grant_next (grant n ws) (granted_front-grant n ws front)
-    ∙ rw (granted_tickets-grant n ws front, waiting_tickets-grant n ws) (append_assoc had (take n waited) (take 1 (drop n waited)))
+    ∙ rw (granted_tickets-grant n ws front, waiting_tickets-grant n ws)
+    (append_assoc had (take n waited) (take 1 (drop n waited)))
     ∙ ap (λ ts. had ++ ts) (take_one_more n waited)

@@ -1,5 +1,6 @@
 -- What the callers of a gate need of its two lists of tickets, those with a place and those that wait for one.
-use Rattle.std.proofs.Common.{◌≡◌, ℕ, zero, suc, ◌+◌, Bool, true, false, not, eqb, List, [], ◌∷◌, ◌++◌, length, map, Option, Some, None, refl, sym, ap, ◌∙◌, inl, inr, arith}
+use Rattle.std.proofs.Common.{◌≡◌, ℕ, zero, suc, ◌+◌, Bool, true, false, not, eqb, List, [], ◌∷◌, ◌++◌, length, map}
+use Rattle.std.proofs.Common.{Option, Some, None, refl, sym, ap, ◌∙◌, inl, inr, arith}
 use Rattle.std.specs.List.{filter}
 use Rattle.std.specs.Option.{option_map_or}
 use Rattle.std.proofs.lemmas.Bool.{cases_Bool, eqb-true, not_from_true, not_from_false}
@@ -7,7 +8,9 @@ use Rattle.std.proofs.lemmas.List.{map-append, append-nil, length-map}
 use Rattle.std.proofs.lemmas.List.Elements.{filter-append}
 use Rattle.std.proofs.lemmas.List.Sums.{length-filter}
 use Rattle.std.proofs.lemmas.List.Filters.{length-filter_both}
-use Rattle.deadpool_gate.specs.Gate.{Waiter, change_first, with_place, with_word, arrived, find_waiter, without_waiter, grant_next, grant, granted_count, waiting_count, granted_tickets, waiting_tickets, untold_tickets, IsApart}
+use Rattle.deadpool_gate.specs.Gate.{Waiter, change_first, with_place, with_word, arrived, find_waiter, without_waiter}
+use Rattle.deadpool_gate.specs.Gate.{grant_next, grant, granted_count, waiting_count, granted_tickets, waiting_tickets}
+use Rattle.deadpool_gate.specs.Gate.{untold_tickets, IsApart}
 use Rattle.deadpool_gate.specs.Numbers.{without_number, has_number}
 use Rattle.deadpool_gate.proofs.GateListed.{find_none-head, find_none-tail}
 
@@ -26,7 +29,8 @@ module _ (test : Waiter → Bool) where
         | inr fails ↦ rw fails rest
       ]
 
-  without_number_none : (t : ℕ) (ws : List Waiter) → find_waiter t ws ≡ None → without_number t (tickets ws) ≡ tickets ws
+  without_number_none : (t : ℕ) (ws : List Waiter) → find_waiter t ws ≡ None
+      → without_number t (tickets ws) ≡ tickets ws
   without_number_none t [] none = refl
   without_number_none t (w ∷ ws) none =
       let other = find_none-head (λ v. eqb v.ticket t) w ws none in
@@ -36,7 +40,8 @@ module _ (test : Waiter → Bool) where
         | inr fails ↦ rw fails rest
       ]
 
-  tickets-without_waiter : (t : ℕ) (ws : List Waiter) → IsApart ws → tickets (without_waiter t ws) ≡ without_number t (tickets ws)
+  tickets-without_waiter : (t : ℕ) (ws : List Waiter) → IsApart ws
+      → tickets (without_waiter t ws) ≡ without_number t (tickets ws)
   tickets-without_waiter t [] apart = refl
   tickets-without_waiter t (w ∷ ws) apart =
       elim (cases_Bool (eqb w.ticket t)) [
@@ -55,7 +60,8 @@ module _ (test : Waiter → Bool) where
             ]
       ]
 
-  has_number_passes : (t : ℕ) (ws : List Waiter) (w : Waiter) → find_waiter t ws ≡ Some w → test w ≡ true → has_number t (tickets ws) ≡ true
+  has_number_passes : (t : ℕ) (ws : List Waiter) (w : Waiter) → find_waiter t ws ≡ Some w → test w ≡ true
+      → has_number t (tickets ws) ≡ true
   has_number_passes t [] w found passes = cc
   has_number_passes t (v ∷ ws) w found passes =
       elim (cases_Bool (eqb v.ticket t)) [
@@ -71,7 +77,8 @@ module _ (test : Waiter → Bool) where
             ]
       ]
 
-  has_number_fails : (t : ℕ) (ws : List Waiter) (w : Waiter) → IsApart ws → find_waiter t ws ≡ Some w → test w ≡ false → has_number t (tickets ws) ≡ false
+  has_number_fails : (t : ℕ) (ws : List Waiter) (w : Waiter) → IsApart ws → find_waiter t ws ≡ Some w → test w ≡ false
+      → has_number t (tickets ws) ≡ false
   has_number_fails t [] w apart found fails = refl
   has_number_fails t (v ∷ ws) w apart found fails =
       elim (cases_Bool (eqb v.ticket t)) [
@@ -94,38 +101,46 @@ pub granted_tickets-arrived : (t : ℕ) (ws : List Waiter) → granted_tickets (
 granted_tickets-arrived t ws =
     ap (map (λ (w : Waiter). w.ticket)) (filter-append (λ (w : Waiter). w.granted) ws (arrived t ∷ []) ∙ append-nil _)
 
-pub waiting_tickets-arrived : (t : ℕ) (ws : List Waiter) → waiting_tickets (ws ++ arrived t ∷ []) ≡ waiting_tickets ws ++ t ∷ []
+pub waiting_tickets-arrived : (t : ℕ) (ws : List Waiter)
+    → waiting_tickets (ws ++ arrived t ∷ []) ≡ waiting_tickets ws ++ t ∷ []
 waiting_tickets-arrived t ws =
     ap (map (λ (w : Waiter). w.ticket)) (filter-append (λ (w : Waiter). not w.granted) ws (arrived t ∷ []))
     ∙ map-append (λ (w : Waiter). w.ticket) (filter (λ (w : Waiter). not w.granted) ws) (arrived t ∷ [])
 
 -- a waiter that leaves takes its ticket out of whichever list had it
 
-pub granted_tickets-without_waiter : (t : ℕ) (ws : List Waiter) → IsApart ws → granted_tickets (without_waiter t ws) ≡ without_number t (granted_tickets ws)
+pub granted_tickets-without_waiter : (t : ℕ) (ws : List Waiter) → IsApart ws
+    → granted_tickets (without_waiter t ws) ≡ without_number t (granted_tickets ws)
 granted_tickets-without_waiter t ws apart = tickets-without_waiter (λ w. w.granted) t ws apart
 
-pub waiting_tickets-without_waiter : (t : ℕ) (ws : List Waiter) → IsApart ws → waiting_tickets (without_waiter t ws) ≡ without_number t (waiting_tickets ws)
+pub waiting_tickets-without_waiter : (t : ℕ) (ws : List Waiter) → IsApart ws
+    → waiting_tickets (without_waiter t ws) ≡ without_number t (waiting_tickets ws)
 waiting_tickets-without_waiter t ws apart = tickets-without_waiter (λ w. not w.granted) t ws apart
 
 -- which of the lists has the ticket
 
-pub has_number_unlisted : (t : ℕ) (ws : List Waiter) → find_waiter t ws ≡ None → (has_number t (granted_tickets ws) ≡ false) × (has_number t (waiting_tickets ws) ≡ false)
-has_number_unlisted t ws none = (has_number_none (λ w. w.granted) t ws none, has_number_none (λ w. not w.granted) t ws none)
+pub has_number_unlisted : (t : ℕ) (ws : List Waiter) → find_waiter t ws ≡ None
+    → (has_number t (granted_tickets ws) ≡ false) × (has_number t (waiting_tickets ws) ≡ false)
+has_number_unlisted t ws none =
+    (has_number_none (λ w. w.granted) t ws none, has_number_none (λ w. not w.granted) t ws none)
 
-pub has_number_granted : (t : ℕ) (ws : List Waiter) (w : Waiter) → IsApart ws → find_waiter t ws ≡ Some w → w.granted ≡ true → (has_number t (granted_tickets ws) ≡ true) × (has_number t (waiting_tickets ws) ≡ false)
+pub has_number_granted : (t : ℕ) (ws : List Waiter) (w : Waiter) → IsApart ws → find_waiter t ws ≡ Some w
+    → w.granted ≡ true → (has_number t (granted_tickets ws) ≡ true) × (has_number t (waiting_tickets ws) ≡ false)
 has_number_granted t ws w apart found has = (
   has_number_passes (λ v. v.granted) t ws w found has,
   has_number_fails (λ v. not v.granted) t ws w apart found (not_from_true w.granted has),
 )
 
-pub has_number_waiting : (t : ℕ) (ws : List Waiter) (w : Waiter) → IsApart ws → find_waiter t ws ≡ Some w → w.granted ≡ false → (has_number t (granted_tickets ws) ≡ false) × (has_number t (waiting_tickets ws) ≡ true)
+pub has_number_waiting : (t : ℕ) (ws : List Waiter) (w : Waiter) → IsApart ws → find_waiter t ws ≡ Some w
+    → w.granted ≡ false → (has_number t (granted_tickets ws) ≡ false) × (has_number t (waiting_tickets ws) ≡ true)
 has_number_waiting t ws w apart found lacks = (
   has_number_fails (λ v. v.granted) t ws w apart found lacks,
   has_number_passes (λ v. not v.granted) t ws w found (not_from_false w.granted lacks),
 )
 
 -- the list of those with a place has a ticket if what is found under it has one
-pub has_number_found : (t : ℕ) (ws : List Waiter) (found : Option Waiter) → IsApart ws → find_waiter t ws ≡ found → has_number t (granted_tickets ws) ≡ option_map_or (λ w. w.granted) found false
+pub has_number_found : (t : ℕ) (ws : List Waiter) (found : Option Waiter) → IsApart ws → find_waiter t ws ≡ found
+    → has_number t (granted_tickets ws) ≡ option_map_or (λ w. w.granted) found false
 has_number_found t ws None apart is = (has_number_unlisted t ws is).0
 has_number_found t ws (Some w) apart is =
     elim (cases_Bool w.granted) [
@@ -158,7 +173,8 @@ length-both_tickets ws =
 
 -- the tickets of two lines with heads that are alike
 alike : (P : Waiter → Bool) (x y : Waiter) (xs ys : List Waiter) → P x ≡ P y → x.ticket ≡ y.ticket
-    → map (λ w. w.ticket) (filter P xs) ≡ map (λ w. w.ticket) (filter P ys) → map (λ w. w.ticket) (filter P (x ∷ xs)) ≡ map (λ w. w.ticket) (filter P (y ∷ ys))
+    → map (λ w. w.ticket) (filter P xs) ≡ map (λ w. w.ticket) (filter P ys)
+    → map (λ w. w.ticket) (filter P (x ∷ xs)) ≡ map (λ w. w.ticket) (filter P (y ∷ ys))
 alike P x y xs ys same ticket rest =
     elim (cases_Bool (P y)) [
       | inl has ↦ let had = same ∙ has in rw (had, has) cc
@@ -166,34 +182,43 @@ alike P x y xs ys same ticket rest =
     ]
 
 -- a waiter is changed in its place, and keeps its ticket and what the test sees of it
-tickets-changed : (P : Waiter → Bool) (change : Waiter → Waiter) → ((w : Waiter) → P (change w) ≡ P w) → ((w : Waiter) → (change w).ticket ≡ w.ticket) → (test : Waiter → Bool) (ws : List Waiter)
+tickets-changed : (P : Waiter → Bool) (change : Waiter → Waiter) → ((w : Waiter) → P (change w) ≡ P w)
+    → ((w : Waiter) → (change w).ticket ≡ w.ticket) → (test : Waiter → Bool) (ws : List Waiter)
     → map (λ w. w.ticket) (filter P (change_first test change ws)) ≡ map (λ w. w.ticket) (filter P ws)
 tickets-changed P change blind same test [] = refl
 tickets-changed P change blind same test (w ∷ ws) =
     elim (cases_Bool (test w)) [
       | inl here ↦ rw here (alike P (change w) w ws ws (blind w) (same w) refl)
-      | inr later ↦ rw later (alike P w w (change_first test change ws) ws refl refl (tickets-changed P change blind same test ws))
+      | inr later ↦
+          rw later
+          (alike P w w (change_first test change ws) ws refl refl (tickets-changed P change blind same test ws))
     ]
 
 -- who was told makes no difference to both lists
 
-pub granted_tickets-told : (test : Waiter → Bool) (ws : List Waiter) → granted_tickets (change_first test with_word ws) ≡ granted_tickets ws
+pub granted_tickets-told : (test : Waiter → Bool) (ws : List Waiter)
+    → granted_tickets (change_first test with_word ws) ≡ granted_tickets ws
 granted_tickets-told = tickets-changed (λ w. w.granted) with_word (λ w. refl) (λ w. refl)
 
-pub waiting_tickets-told : (test : Waiter → Bool) (ws : List Waiter) → waiting_tickets (change_first test with_word ws) ≡ waiting_tickets ws
+pub waiting_tickets-told : (test : Waiter → Bool) (ws : List Waiter)
+    → waiting_tickets (change_first test with_word ws) ≡ waiting_tickets ws
 waiting_tickets-told = tickets-changed (λ w. not w.granted) with_word (λ w. refl) (λ w. refl)
 
--- those that were not told: one that comes is the last of them, one that leaves is none of them, and a place changes nothing
+-- those that were not told: one that comes is the last of them, one that leaves is none of them, and a place changes
+-- nothing
 
-pub untold_tickets-arrived : (t : ℕ) (ws : List Waiter) → untold_tickets (ws ++ arrived t ∷ []) ≡ untold_tickets ws ++ t ∷ []
+pub untold_tickets-arrived : (t : ℕ) (ws : List Waiter)
+    → untold_tickets (ws ++ arrived t ∷ []) ≡ untold_tickets ws ++ t ∷ []
 untold_tickets-arrived t ws =
     ap (map (λ (w : Waiter). w.ticket)) (filter-append (λ (w : Waiter). not w.told) ws (arrived t ∷ []))
     ∙ map-append (λ (w : Waiter). w.ticket) (filter (λ (w : Waiter). not w.told) ws) (arrived t ∷ [])
 
-pub untold_tickets-without_waiter : (t : ℕ) (ws : List Waiter) → IsApart ws → untold_tickets (without_waiter t ws) ≡ without_number t (untold_tickets ws)
+pub untold_tickets-without_waiter : (t : ℕ) (ws : List Waiter) → IsApart ws
+    → untold_tickets (without_waiter t ws) ≡ without_number t (untold_tickets ws)
 untold_tickets-without_waiter t ws apart = tickets-without_waiter (λ w. not w.told) t ws apart
 
-pub untold_tickets-unlisted : (t : ℕ) (ws : List Waiter) → find_waiter t ws ≡ None → without_number t (untold_tickets ws) ≡ untold_tickets ws
+pub untold_tickets-unlisted : (t : ℕ) (ws : List Waiter) → find_waiter t ws ≡ None
+    → without_number t (untold_tickets ws) ≡ untold_tickets ws
 untold_tickets-unlisted t ws none = without_number_none (λ w. not w.told) t ws none
 
 untold_tickets-grant_next : (ws : List Waiter) → untold_tickets (grant_next ws) ≡ untold_tickets ws

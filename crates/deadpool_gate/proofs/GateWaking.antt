@@ -1,9 +1,11 @@
 -- Who is due to be told, by the tickets alone.
-use Rattle.std.proofs.Common.{◌≡◌, ◌≢◌, ℕ, Bool, true, false, not, ◌||◌, eqb, List, [], ◌∷◌, Option, Some, None, refl, sym, ap, subst, ◌∙◌, inl, inr}
+use Rattle.std.proofs.Common.{◌≡◌, ◌≢◌, ℕ, Bool, true, false, not, ◌||◌, eqb, List, [], ◌∷◌, Option, Some, None, refl}
+use Rattle.std.proofs.Common.{sym, ap, subst, ◌∙◌, inl, inr}
 use Rattle.std.specs.Prelude.{slice_get}
 use Rattle.std.specs.List.{find}
 use Rattle.std.proofs.lemmas.Bool.{cases_Bool, eq-eqb, ne_eqb, and_parts, not-true}
-use Rattle.deadpool_gate.specs.Gate.{Waiter, find_waiter, granted_tickets, untold_tickets, is_due, tell_next, due_ticket, IsApart}
+use Rattle.deadpool_gate.specs.Gate.{Waiter, find_waiter, granted_tickets, untold_tickets, is_due, tell_next}
+use Rattle.deadpool_gate.specs.Gate.{due_ticket, IsApart}
 use Rattle.deadpool_gate.specs.Numbers.{has_number, without_number}
 use Rattle.deadpool_gate.specs.Waking.{next_due, still_untold}
 use Rattle.deadpool_gate.proofs.GateListed.{find_none-head}
@@ -16,7 +18,8 @@ abbrev Marks : List ℕ → List Waiter → Type 0
 Marks granted [] = Unit {0}
 Marks granted (w ∷ ws) = (has_number w.ticket granted ≡ w.granted) × Marks granted ws
 
-Marks-more : (t : ℕ) (granted : List ℕ) (ws : List Waiter) → find_waiter t ws ≡ None → Marks granted ws → Marks (t ∷ granted) ws
+Marks-more : (t : ℕ) (granted : List ℕ) (ws : List Waiter) → find_waiter t ws ≡ None → Marks granted ws
+    → Marks (t ∷ granted) ws
 Marks-more t granted [] none marks = tt
 Marks-more t granted (w ∷ ws) none marks =
     let other : eqb t w.ticket ≡ false = differs_sym w.ticket t (find_none-head (λ v. eqb v.ticket t) w ws none) in
@@ -29,17 +32,23 @@ granted_tickets-mark (w ∷ ws) apart =
     elim (cases_Bool w.granted) [
       | inl has ↦
           let longer : granted_tickets (w ∷ ws) ≡ w.ticket ∷ granted_tickets ws = rw has refl in
-          let here : has_number w.ticket (w.ticket ∷ granted_tickets ws) ≡ w.granted = rw (has, eq-eqb w.ticket w.ticket refl) refl in
-          subst (λ (ts : List ℕ). Marks ts (w ∷ ws)) (sym longer) (here, Marks-more w.ticket (granted_tickets ws) ws apart.0 rest)
+          let here : has_number w.ticket (w.ticket ∷ granted_tickets ws) ≡ w.granted =
+          rw (has, eq-eqb w.ticket w.ticket refl) refl in
+          subst (λ (ts : List ℕ). Marks ts (w ∷ ws)) (sym longer) (
+            here,
+            Marks-more w.ticket (granted_tickets ws) ws apart.0 rest,
+          )
       | inr lacks ↦
           let same : granted_tickets (w ∷ ws) ≡ granted_tickets ws = rw lacks refl in
-          let here : has_number w.ticket (granted_tickets ws) ≡ w.granted = (has_number_unlisted w.ticket ws apart.0).0 ∙ sym lacks in
+          let here : has_number w.ticket (granted_tickets ws) ≡ w.granted =
+          (has_number_unlisted w.ticket ws apart.0).0 ∙ sym lacks in
           subst (λ (ts : List ℕ). Marks ts (w ∷ ws)) (sym same) (here, rest)
     ]
 
 -- in an open line those with a place are due, and in a closed one all are
 
-due_ticket-open : (granted : List ℕ) (ws : List Waiter) → Marks granted ws → due_ticket false ws ≡ find (λ t. has_number t granted) (untold_tickets ws)
+due_ticket-open : (granted : List ℕ) (ws : List Waiter) → Marks granted ws
+    → due_ticket false ws ≡ find (λ t. has_number t granted) (untold_tickets ws)
 due_ticket-open granted [] marks = refl
 due_ticket-open granted (w ∷ ws) marks =
     let rest = due_ticket-open granted ws marks.1 in
@@ -47,8 +56,10 @@ due_ticket-open granted (w ∷ ws) marks =
       | inl told ↦ elim (cases_Bool w.granted) [ inl has ↦ rw (has, told) rest | inr lacks ↦ rw (lacks, told) rest ]
       | inr untold ↦
           elim (cases_Bool w.granted) [
-            | inl has ↦ let marked : has_number w.ticket granted ≡ true = rw has at marks.0 in rw (has, untold, marked) refl
-            | inr lacks ↦ let unmarked : has_number w.ticket granted ≡ false = rw lacks at marks.0 in rw (lacks, untold, unmarked) rest
+            | inl has ↦ let marked : has_number w.ticket granted ≡ true = rw has at marks.0 in
+                rw (has, untold, marked) refl
+            | inr lacks ↦ let unmarked : has_number w.ticket granted ≡ false = rw lacks at marks.0 in
+                rw (lacks, untold, unmarked) rest
           ]
     ]
 
@@ -58,25 +69,32 @@ due_ticket-closed (w ∷ ws) =
     let rest = due_ticket-closed ws in
     elim (cases_Bool w.told) [
       | inl told ↦ elim (cases_Bool w.granted) [ inl has ↦ rw (has, told) rest | inr lacks ↦ rw (lacks, told) rest ]
-      | inr untold ↦ elim (cases_Bool w.granted) [ inl has ↦ rw (has, untold) refl | inr lacks ↦ rw (lacks, untold) refl ]
+      | inr untold ↦ elim (cases_Bool w.granted) [
+        | inl has ↦ rw (has, untold) refl
+        | inr lacks ↦ rw (lacks, untold) refl
+      ]
     ]
 
 -- so who is due is the first of the tickets that is
-pub due_ticket-next_due : (is_closed : Bool) (ws : List Waiter) → IsApart ws → due_ticket is_closed ws ≡ next_due (not is_closed) (granted_tickets ws) (untold_tickets ws)
+pub due_ticket-next_due : (is_closed : Bool) (ws : List Waiter) → IsApart ws
+    → due_ticket is_closed ws ≡ next_due (not is_closed) (granted_tickets ws) (untold_tickets ws)
 due_ticket-next_due true ws apart = due_ticket-closed ws
 due_ticket-next_due false ws apart = due_ticket-open (granted_tickets ws) ws (granted_tickets-mark ws apart)
 
 -- who is due is listed
-due_ticket-listed : (is_closed : Bool) (key : ℕ) (ws : List Waiter) → find_waiter key ws ≡ None → due_ticket is_closed ws ≢ Some key
+due_ticket-listed : (is_closed : Bool) (key : ℕ) (ws : List Waiter) → find_waiter key ws ≡ None
+    → due_ticket is_closed ws ≢ Some key
 due_ticket-listed c key [] none is = cc
 due_ticket-listed c key (w ∷ ws) none is =
     elim (cases_Bool (is_due c w)) [
-      | inl due ↦ let there : Some w.ticket ≡ Some key = rw due at is in let same : w.ticket ≡ key = cc in other_ticket key w ws none same
+      | inl due ↦ let there : Some w.ticket ≡ Some key = rw due at is in let same : w.ticket ≡ key = cc in
+          other_ticket key w ws none same
       | inr later ↦ due_ticket-listed c key ws (unlisted-tail key w ws none) (rw later at is)
     ]
 
 -- and once told it is untold no more
-pub untold_tickets-tell_next : (is_closed : Bool) (ws : List Waiter) → IsApart ws → untold_tickets (tell_next is_closed ws) ≡ still_untold (due_ticket is_closed ws) (untold_tickets ws)
+pub untold_tickets-tell_next : (is_closed : Bool) (ws : List Waiter) → IsApart ws
+    → untold_tickets (tell_next is_closed ws) ≡ still_untold (due_ticket is_closed ws) (untold_tickets ws)
 untold_tickets-tell_next c [] apart = refl
 untold_tickets-tell_next c (w ∷ ws) apart =
     let rest = untold_tickets-tell_next c ws apart.1 in
@@ -91,11 +109,14 @@ untold_tickets-tell_next c (w ∷ ws) apart =
           ]
     ]
   where
-    untold_sym : (t : ℕ) (vs : List Waiter) → find_waiter t vs ≡ None → untold_tickets vs ≡ without_number t (untold_tickets vs)
+    untold_sym : (t : ℕ) (vs : List Waiter) → find_waiter t vs ≡ None
+        → untold_tickets vs ≡ without_number t (untold_tickets vs)
     untold_sym t vs none = sym (untold_tickets-unlisted t vs none)
 
-    behind : (o : Option ℕ) → due_ticket c ws ≡ o → untold_tickets (tell_next c ws) ≡ still_untold o (untold_tickets ws) → w.ticket ∷ untold_tickets (tell_next c ws) ≡ still_untold o (w.ticket ∷ untold_tickets ws)
+    behind : (o : Option ℕ) → due_ticket c ws ≡ o → untold_tickets (tell_next c ws) ≡ still_untold o (untold_tickets ws)
+        → w.ticket ∷ untold_tickets (tell_next c ws) ≡ still_untold o (w.ticket ∷ untold_tickets ws)
     behind None is rest = ap (λ ts. w.ticket ∷ ts) rest
     behind (Some t) is rest =
-        let differs : eqb w.ticket t ≡ false = ne_eqb w.ticket t (λ same. due_ticket-listed c w.ticket ws apart.0 (is ∙ ap Some (sym same))) in
+        let differs : eqb w.ticket t ≡ false =
+        ne_eqb w.ticket t (λ same. due_ticket-listed c w.ticket ws apart.0 (is ∙ ap Some (sym same))) in
         rw differs (ap (λ ts. w.ticket ∷ ts) rest)

@@ -8,6 +8,7 @@ pub mod GateLinks
 pub mod GateListed
 pub mod GatePlaces
 pub mod GateTickets
+pub mod GateTurns
 pub mod GateWaking
 pub mod Lists
 pub mod Numbers

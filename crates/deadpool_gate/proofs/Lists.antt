@@ -1,5 +1,6 @@
 -- What setting or adding one element changes in a list, and a list that is gone through.
-use Rattle.std.proofs.Common.{◌≡◌, ◌≢◌, ℕ, ◌+◌, zero, suc, List, [], ◌∷◌, ◌++◌, length, set, refl, sym, ap, arith, inl, inr, Some, ◌⊎◌}
+use Rattle.std.proofs.Common.{◌≡◌, ◌≢◌, ℕ, ◌+◌, zero, suc, List, [], ◌∷◌, ◌++◌, length, set, refl, sym, ap, arith, inl}
+use Rattle.std.proofs.Common.{inr, Some, ◌⊎◌}
 use Rattle.std.specs.List.{slice_get}
 
 module _ {X : Type 0} where
@@ -10,7 +11,8 @@ module _ {X : Type 0} where
   set-same (y ∷ xs) (suc n) x h = ap (λ zs. y ∷ zs) (set-same xs n x h)
 
   -- the element that was set is there
-  pub get-set_same : (xs : List X) (n : ℕ) (old new : X) → slice_get xs n ≡ Some old → slice_get (set xs n new) n ≡ Some new
+  pub get-set_same : (xs : List X) (n : ℕ) (old new : X) → slice_get xs n ≡ Some old
+      → slice_get (set xs n new) n ≡ Some new
   get-set_same [] n old new h = cc
   get-set_same (x ∷ xs) zero old new h = refl
   get-set_same (x ∷ xs) (suc n) old new h = get-set_same xs n old new h
@@ -30,7 +32,8 @@ module _ {X : Type 0} where
   get-append (y ∷ xs) ys (suc n) x h = get-append xs ys n x h
 
   -- when one is added, any other is that one
-  pub get-pushed : (xs : List X) (y : X) (n : ℕ) (x : X) → slice_get (xs ++ y ∷ []) n ≡ Some x → (slice_get xs n ≡ Some x) ⊎ (x ≡ y)
+  pub get-pushed : (xs : List X) (y : X) (n : ℕ) (x : X) → slice_get (xs ++ y ∷ []) n ≡ Some x
+      → (slice_get xs n ≡ Some x) ⊎ (x ≡ y)
   get-pushed [] y zero x h = inr (let same : x ≡ y = cc in same)
   get-pushed [] y (suc n) x h = cc
   get-pushed (z ∷ xs) y zero x h = inl h
@@ -43,4 +46,5 @@ module _ {X : Type 0} where
 
   -- and else one less is left
   pub one_less : (ys xs : List X) (x : X) (n k : ℕ) → n ≡ length ys → ys ≡ x ∷ xs → k + 1 ≡ n → k ≡ length xs
-  one_less ys xs x n k e is less = let longer : length ys ≡ length (x ∷ xs) = ap length is in omega (arith, longer, e, less)
+  one_less ys xs x n k e is less = let longer : length ys ≡ length (x ∷ xs) = ap length is in
+      omega (arith, longer, e, less)

@@ -1,5 +1,7 @@
 -- Who in a table has the tickets of a queue, as one of them changes, leaves the queue or joins it.
-use Rattle.std.proofs.Common.{◌≡◌, ◌≢◌, ℕ, ◌+◌, ◌<◌, zero, suc, List, [], ◌∷◌, ◌++◌, Bool, true, false, cond, not, ◌||◌, ◌&&◌, eqb, length, set, map, refl, sym, ap, ◌∙◌, subst, arith, inl, inr, Some, eq-eqb, eqb-true}
+use Rattle.std.proofs.Common.{◌≡◌, ◌≢◌, ℕ, ◌+◌, ◌<◌, zero, suc, List, [], ◌∷◌, ◌++◌, Bool, true, false, cond, not, ◌||◌}
+use Rattle.std.proofs.Common.{◌&&◌, eqb, length, set, map, refl, sym, ap, ◌∙◌, subst, arith, inl, inr, Some, eq-eqb}
+use Rattle.std.proofs.Common.{eqb-true}
 use Rattle.std.specs.List.{slice_get}
 use Rattle.std.proofs.lemmas.Bool.{cases_Bool, and_parts, not-true, or_cases, or_left, or_right}
 use Rattle.std.proofs.lemmas.Bool.Decides.{eqb_tells}
@@ -8,7 +10,9 @@ use Rattle.std.proofs.lemmas.Option.{slice_get_within}
 use Rattle.deadpool_gate.specs.Numbers.{has_number, without_number}
 use Rattle.deadpool_gate.specs.Queue.{Queue, is_listed, joined, without, renamed, granting}
 use Rattle.deadpool_gate.specs.Owners.{owner, IsOwned}
-use Rattle.deadpool_gate.proofs.Numbers.{differs_sym, has_number-without, has_number-moved, has_number-joined, has_number-parted, without_number-same, map_same, Tells, has_number-map, without-map, absent-map}
+use Rattle.deadpool_gate.proofs.Numbers.{differs_sym, has_number-without, has_number-moved, has_number-joined}
+use Rattle.deadpool_gate.proofs.Numbers.{has_number-parted, without_number-same, map_same, Tells, has_number-map}
+use Rattle.deadpool_gate.proofs.Numbers.{without-map, absent-map}
 use Rattle.deadpool_gate.proofs.Lists.{get-set_same, get-set_other, get-append, get-pushed}
 
 -- who is listed after one joins, leaves, or some are granted what they ask for
@@ -41,7 +45,8 @@ module _ {X : Type 0} (has : ℕ → X → Bool) where
   OneTicket t x = (u : ℕ) → has u x ≡ eqb t u
 
   -- an entry changes, and the ticket has the same owner
-  owner-set : (xs : List X) (n : ℕ) (old new : X) (u : ℕ) → slice_get xs n ≡ Some old → has u old ≡ has u new → owner has (set xs n new) u ≡ owner has xs u
+  owner-set : (xs : List X) (n : ℕ) (old new : X) (u : ℕ) → slice_get xs n ≡ Some old → has u old ≡ has u new
+      → owner has (set xs n new) u ≡ owner has xs u
   owner-set [] n old new u h e = refl
   owner-set (x ∷ xs) zero old new u h e =
       let same : x ≡ old = cc in
@@ -63,7 +68,8 @@ module _ {X : Type 0} (has : ℕ → X → Bool) where
   owner-push (x ∷ xs) y u within =
       elim (cases_Bool (has u x)) [
         | inl here ↦ rw here refl
-        | inr later ↦ let rest : owner has xs u < length xs = let w = rw later at within in omega (arith, w) in rw (later, owner-push xs y u rest) refl
+        | inr later ↦ let rest : owner has xs u < length xs = let w = rw later at within in omega (arith, w) in
+            rw (later, owner-push xs y u rest) refl
       ]
 
 module _ {X : Type 0} (has : ℕ → X → Bool) (q : Queue) (xs : List X) (o : IsOwned has q xs) where
@@ -79,7 +85,8 @@ module _ {X : Type 0} (has : ℕ → X → Bool) (q : Queue) (xs : List X) (o : 
   owned-granting k = owned-like (granting k q) (λ u. is_listed-granting u k q)
 
   -- an entry without a ticket owns none
-  not_owner : (n : ℕ) (old : X) (t : ℕ) → slice_get xs n ≡ Some old → has t old ≡ false → is_listed t q ≡ true → owner has xs t ≢ n
+  not_owner : (n : ℕ) (old : X) (t : ℕ) → slice_get xs n ≡ Some old → has t old ≡ false → is_listed t q ≡ true
+      → owner has xs t ≢ n
   not_owner n old t h none k e =
       let w = o.owned t k in
       let there : slice_get xs n ≡ Some w.0 = subst (λ (i : ℕ). slice_get xs i ≡ Some w.0) e w.1.0 in
@@ -100,8 +107,14 @@ module _ {X : Type 0} (has : ℕ → X → Bool) (q : Queue) (xs : List X) (o : 
   owned-push new none =
       record {
         owned = λ u k.
-            let w = o.owned u k in
-            (w.0, (rw (owner-push has xs new u (slice_get_within xs (owner has xs u) w.0 w.1.0)) (get-append xs (new ∷ []) (owner has xs u) w.0 w.1.0), w.1.1));
+            let w = o.owned u k in (
+              w.0,
+              (
+                rw (owner-push has xs new u (slice_get_within xs (owner has xs u) w.0 w.1.0))
+                    (get-append xs (new ∷ []) (owner has xs u) w.0 w.1.0),
+                w.1.1,
+              ),
+            );
         listed = λ n u x there holds.
             elim (get-pushed xs new n x there) [
               | inl old ↦
@@ -122,7 +135,8 @@ module _ {X : Type 0} (has : ℕ → X → Bool) (q : Queue) (xs : List X) (o : 
     -- what stands at n afterwards
     here_new : (x : X) (m : ℕ) → m ≡ n → slice_get (set xs n new) m ≡ Some x → new ≡ x
     here_new x m e there =
-        let at_n : slice_get (set xs n new) n ≡ Some x = subst (λ (i : ℕ). slice_get (set xs n new) i ≡ Some x) e there in
+        let at_n : slice_get (set xs n new) n ≡ Some x =
+        subst (λ (i : ℕ). slice_get (set xs n new) i ≡ Some x) e there in
         let is : slice_get (set xs n new) n ≡ Some new = get-set_same xs n old new h in cc
 
     -- and it has no ticket that the new entry lacks
@@ -135,52 +149,74 @@ module _ {X : Type 0} (has : ℕ → X → Bool) (q : Queue) (xs : List X) (o : 
 
     pub owned-set : NoTicket has old → NoTicket has new → IsOwned has q (set xs n new)
     owned-set none no_new =
-        let same : (u : ℕ) → owner has (set xs n new) u ≡ owner has xs u = λ u. owner-set has xs n old new u h (none u ∙ sym (no_new u)) in
+        let same : (u : ℕ) → owner has (set xs n new) u ≡ owner has xs u =
+        λ u. owner-set has xs n old new u h (none u ∙ sym (no_new u)) in
         record {
-          owned = λ u k. let w = o.owned u k in (w.0, (rw (same u, get-set_other xs n (owner has xs u) new (not_owner n old u h (none u) k)) w.1.0, w.1.1));
+          owned = λ u k. let w = o.owned u k in (
+            w.0,
+            (rw (same u, get-set_other xs n (owner has xs u) new (not_owner n old u h (none u) k)) w.1.0, w.1.1),
+          );
           listed = λ m u x there holds.
               elim (eqb_tells m n) [
                 | inl y ↦ absurd (here_none x m u y.1 there holds (no_new u))
-                | inr other ↦ let l = o.listed m u x (sym (get-set_other xs n m new other.1) ∙ there) holds in (l.0, same u ∙ l.1)
+                | inr other ↦ let l = o.listed m u x (sym (get-set_other xs n m new other.1) ∙ there) holds in
+                    (l.0, same u ∙ l.1)
               ];
         }
 
-    pub renamed-set : NoTicket has old → NoTicket has new → renamed (owner has (set xs n new)) q ≡ renamed (owner has xs) q
+    pub renamed-set : NoTicket has old → NoTicket has new
+        → renamed (owner has (set xs n new)) q ≡ renamed (owner has xs) q
     renamed-set none no_new =
-        renamed-same (owner has (set xs n new)) (owner has xs) q (λ u k. owner-set has xs n old new u h (none u ∙ sym (no_new u)))
+        renamed-same (owner has (set xs n new)) (owner has xs) q
+        (λ u k. owner-set has xs n old new u h (none u ∙ sym (no_new u)))
 
     -- it is not in the queue
     pub absent : NoTicket has old → without n (renamed (owner has xs) q) ≡ renamed (owner has xs) q
     absent none =
-        let granted = without_number-same n (map (owner has xs) q.granted) (absent-map (owner has xs) n q.granted (λ u k. not_owner n old u h (none u) (or_left _ _ k))) in
-        let waiting = without_number-same n (map (owner has xs) q.waiting) (absent-map (owner has xs) n q.waiting (λ u k. not_owner n old u h (none u) (or_right _ _ k))) in
+        let granted = without_number-same n (map (owner has xs) q.granted)
+        (absent-map (owner has xs) n q.granted (λ u k. not_owner n old u h (none u) (or_left _ _ k))) in
+        let waiting = without_number-same n (map (owner has xs) q.waiting)
+        (absent-map (owner has xs) n q.waiting (λ u k. not_owner n old u h (none u) (or_right _ _ k))) in
         rw (granted, waiting) refl
 
     -- ---- an entry with a ticket leaves the queue
 
-    pub owned-leaves : (t : ℕ) → owner has xs t ≡ n → OneTicket has t old → NoTicket has new → IsOwned has (without t q) (set xs n new)
+    pub owned-leaves : (t : ℕ) → owner has xs t ≡ n → OneTicket has t old → NoTicket has new
+        → IsOwned has (without t q) (set xs n new)
     owned-leaves t mine one no_new =
-        let same : (u : ℕ) → eqb t u ≡ false → owner has (set xs n new) u ≡ owner has xs u = λ u differs. owner-set has xs n old new u h (one u ∙ differs ∙ sym (no_new u)) in
+        let same : (u : ℕ) → eqb t u ≡ false → owner has (set xs n new) u ≡ owner has xs u =
+        λ u differs. owner-set has xs n old new u h (one u ∙ differs ∙ sym (no_new u)) in
         record {
           owned = λ u k.
               let both : (is_listed u q && not (eqb u t)) ≡ true = sym (is_listed-without u t q) ∙ k in
               let was : is_listed u q ≡ true = (and_parts (is_listed u q) (not (eqb u t)) both).0 in
-              let other : eqb t u ≡ false = differs_sym u t (not-true (eqb u t) (and_parts (is_listed u q) (not (eqb u t)) both).1) in
-              let w = o.owned u was in
-              (w.0, (rw (same u other, get-set_other xs n (owner has xs u) new (not_owner n old u h (one u ∙ other) was)) w.1.0, w.1.1));
+              let other : eqb t u ≡ false =
+              differs_sym u t (not-true (eqb u t) (and_parts (is_listed u q) (not (eqb u t)) both).1) in
+              let w = o.owned u was in (
+                w.0,
+                (
+                  rw (same u other, get-set_other xs n (owner has xs u) new (not_owner n old u h (one u ∙ other) was))
+                      w.1.0,
+                  w.1.1,
+                ),
+              );
           listed = λ m u x there holds.
               elim (eqb_tells m n) [
                 | inl y ↦ absurd (here_none x m u y.1 there holds (no_new u))
                 | inr away ↦
                     let l = o.listed m u x (sym (get-set_other xs n m new away.1) ∙ there) holds in
                     let other : eqb u t ≡ false =
-                    elim (eqb_tells u t) [ inl y ↦ absurd (away.1 (sym l.1 ∙ ap (owner has xs) y.1 ∙ mine)) | inr r ↦ r.0 ] in
+                    elim (eqb_tells u t) [
+                      | inl y ↦ absurd (away.1 (sym l.1 ∙ ap (owner has xs) y.1 ∙ mine))
+                      | inr r ↦ r.0
+                    ] in
                     (is_listed-without u t q ∙ (rw (l.0, other) refl), same u (differs_sym u t other) ∙ l.1)
               ];
         }
 
     -- its ticket is told from the others by its owner
-    tells : (t : ℕ) → owner has xs t ≡ n → OneTicket has t old → (ns : List ℕ) → ((u : ℕ) → has_number u ns ≡ true → is_listed u q ≡ true) → Tells (owner has xs) n t ns
+    tells : (t : ℕ) → owner has xs t ≡ n → OneTicket has t old → (ns : List ℕ)
+        → ((u : ℕ) → has_number u ns ≡ true → is_listed u q ≡ true) → Tells (owner has xs) n t ns
     tells t mine one ns listed u k =
         elim (eqb_tells u t) [
           | inl y ↦ eq-eqb (owner has xs u) n (ap (owner has xs) y.1 ∙ mine) ∙ sym y.0
@@ -192,19 +228,25 @@ module _ {X : Type 0} (has : ℕ → X → Bool) (q : Queue) (xs : List X) (o : 
         ]
 
     -- it is among the granted by its number exactly if its ticket is
-    pub granted-renamed : (t : ℕ) → owner has xs t ≡ n → OneTicket has t old → has_number n (map (owner has xs) q.granted) ≡ has_number t q.granted
-    granted-renamed t mine one = has_number-map (owner has xs) n t q.granted (tells t mine one q.granted (λ u k. or_left _ _ k))
+    pub granted-renamed : (t : ℕ) → owner has xs t ≡ n → OneTicket has t old
+        → has_number n (map (owner has xs) q.granted) ≡ has_number t q.granted
+    granted-renamed t mine one =
+        has_number-map (owner has xs) n t q.granted (tells t mine one q.granted (λ u k. or_left _ _ k))
 
     -- one list without it
-    list-leaves : (t : ℕ) → owner has xs t ≡ n → OneTicket has t old → NoTicket has new → (ns : List ℕ) → ((u : ℕ) → has_number u ns ≡ true → is_listed u q ≡ true)
+    list-leaves : (t : ℕ) → owner has xs t ≡ n → OneTicket has t old → NoTicket has new → (ns : List ℕ)
+        → ((u : ℕ) → has_number u ns ≡ true → is_listed u q ≡ true)
         → map (owner has (set xs n new)) (without_number t ns) ≡ without_number n (map (owner has xs) ns)
     list-leaves t mine one no_new ns listed =
         map_same (owner has (set xs n new)) (owner has xs) (without_number t ns)
         (λ u k. owner-set has xs n old new u h
-        (one u ∙ differs_sym u t (not-true (eqb u t) (and_parts (has_number u ns) (not (eqb u t)) (sym (has_number-without u t ns) ∙ k)).1) ∙ sym (no_new u)))
+        (one u ∙ differs_sym u t
+        (not-true (eqb u t) (and_parts (has_number u ns) (not (eqb u t)) (sym (has_number-without u t ns) ∙ k)).1)
+        ∙ sym (no_new u)))
         ∙ sym (without-map (owner has xs) n t ns (tells t mine one ns listed))
 
-    pub renamed-leaves : (t : ℕ) → owner has xs t ≡ n → OneTicket has t old → NoTicket has new → renamed (owner has (set xs n new)) (without t q) ≡ without n (renamed (owner has xs) q)
+    pub renamed-leaves : (t : ℕ) → owner has xs t ≡ n → OneTicket has t old → NoTicket has new
+        → renamed (owner has (set xs n new)) (without t q) ≡ without n (renamed (owner has xs) q)
     renamed-leaves t mine one no_new =
         let granted = list-leaves t mine one no_new q.granted (λ u k. or_left _ _ k) in
         let waiting = list-leaves t mine one no_new q.waiting (λ u k. or_right _ _ k) in
@@ -218,37 +260,65 @@ module _ {X : Type 0} (has : ℕ → X → Bool) (q : Queue) (xs : List X) (o : 
     listed_differs : (t u : ℕ) → is_listed t q ≡ false → is_listed u q ≡ true → eqb t u ≡ false
     listed_differs t u fresh k =
         elim (eqb_tells t u) [
-          | inl y ↦ let clash : is_listed u q ≡ false = subst (λ (v : ℕ). is_listed v q ≡ false) y.1 fresh in let differ : true ≡ false = sym k ∙ clash in cc
+          | inl y ↦ let clash : is_listed u q ≡ false = subst (λ (v : ℕ). is_listed v q ≡ false) y.1 fresh in
+              let differ : true ≡ false = sym k ∙ clash in cc
           | inr r ↦ r.0
         ]
 
-    pub owned-joins : (t : ℕ) → is_listed t q ≡ false → NoTicket has old → OneTicket has t new → IsOwned has (joined t q) (set xs n new)
+    pub owned-joins : (t : ℕ) → is_listed t q ≡ false → NoTicket has old → OneTicket has t new
+        → IsOwned has (joined t q) (set xs n new)
     owned-joins t fresh none one =
         let mine : owner has (set xs n new) t ≡ n = owner-joined t fresh one in
-        let same : (u : ℕ) → eqb t u ≡ false → owner has (set xs n new) u ≡ owner has xs u = λ u differs. owner-set has xs n old new u h (none u ∙ sym (one u ∙ differs)) in
+        let same : (u : ℕ) → eqb t u ≡ false → owner has (set xs n new) u ≡ owner has xs u =
+        λ u differs. owner-set has xs n old new u h (none u ∙ sym (one u ∙ differs)) in
         record {
           owned = λ u k.
               elim (eqb_tells t u) [
-                | inl y ↦ (new, (ap (slice_get (set xs n new)) (ap (owner has (set xs n new)) (sym y.1) ∙ mine) ∙ get-set_same xs n old new h, one u ∙ y.0))
+                | inl y ↦ (
+                  new,
+                  (
+                    ap (slice_get (set xs n new)) (ap (owner has (set xs n new)) (sym y.1) ∙ mine)
+                        ∙ get-set_same xs n old new h,
+                    one u ∙ y.0,
+                  ),
+                )
                 | inr differs ↦
                     let was : is_listed u q ≡ true =
-                    elim (or_cases (is_listed u q) (eqb t u) (sym (is_listed-joined u t q) ∙ k)) [ inl y ↦ y | inr y ↦ let differ : true ≡ false = sym y ∙ differs.0 in cc ] in
-                    let w = o.owned u was in
-                    (w.0, (rw (same u differs.0, get-set_other xs n (owner has xs u) new (not_owner n old u h (none u) was)) w.1.0, w.1.1))
+                    elim (or_cases (is_listed u q) (eqb t u) (sym (is_listed-joined u t q) ∙ k)) [
+                      | inl y ↦ y
+                      | inr y ↦ let differ : true ≡ false = sym y ∙ differs.0 in cc
+                    ] in
+                    let w = o.owned u was in (
+                      w.0,
+                      (
+                        rw (
+                          same u differs.0,
+                          get-set_other xs n (owner has xs u) new (not_owner n old u h (none u) was),
+                        ) w.1.0,
+                        w.1.1,
+                      ),
+                    )
               ];
           listed = λ m u x there holds.
               elim (eqb_tells m n) [
                 | inl y ↦
                     let holds_new : has u new ≡ true = ap (has u) (here_new x m y.1 there) ∙ holds in
-                    let is : eqb t u ≡ true = sym (one u) ∙ holds_new in
-                    (is_listed-joined u t q ∙ or_right (is_listed u q) (eqb t u) is, ap (owner has (set xs n new)) (sym (eqb-true t u is)) ∙ mine ∙ sym y.1)
+                    let is : eqb t u ≡ true = sym (one u) ∙ holds_new in (
+                      is_listed-joined u t q ∙ or_right (is_listed u q) (eqb t u) is,
+                      ap (owner has (set xs n new)) (sym (eqb-true t u is)) ∙ mine ∙ sym y.1,
+                    )
                 | inr away ↦
-                    let l = o.listed m u x (sym (get-set_other xs n m new away.1) ∙ there) holds in
-                    (is_listed-joined u t q ∙ or_left (is_listed u q) (eqb t u) l.0, same u (listed_differs t u fresh l.0) ∙ l.1)
+                    let l = o.listed m u x (sym (get-set_other xs n m new away.1) ∙ there) holds in (
+                      is_listed-joined u t q ∙ or_left (is_listed u q) (eqb t u) l.0,
+                      same u (listed_differs t u fresh l.0) ∙ l.1,
+                    )
               ];
         }
 
-    pub renamed-joins : (t : ℕ) → is_listed t q ≡ false → NoTicket has old → OneTicket has t new → renamed (owner has (set xs n new)) (joined t q) ≡ joined n (renamed (owner has xs) q)
+    pub renamed-joins : (t : ℕ) → is_listed t q ≡ false → NoTicket has old → OneTicket has t new
+        → renamed (owner has (set xs n new)) (joined t q) ≡ joined n (renamed (owner has xs) q)
     renamed-joins t fresh none one =
-        let same = renamed-same (owner has (set xs n new)) (owner has xs) q (λ u k. owner-set has xs n old new u h (none u ∙ sym (one u ∙ listed_differs t u fresh k))) in
-        renamed-joined (owner has (set xs n new)) t q ∙ ap (joined (owner has (set xs n new) t)) same ∙ ap (λ m. joined m (renamed (owner has xs) q)) (owner-joined t fresh one)
+        let same = renamed-same (owner has (set xs n new)) (owner has xs) q
+        (λ u k. owner-set has xs n old new u h (none u ∙ sym (one u ∙ listed_differs t u fresh k))) in
+        renamed-joined (owner has (set xs n new)) t q ∙ ap (joined (owner has (set xs n new) t)) same
+        ∙ ap (λ m. joined m (renamed (owner has xs) q)) (owner-joined t fresh one)

@@ -1,5 +1,6 @@
 -- A `Gate` as its callers see it: one list of waiters, the earliest first, and whether it is closed.
-use Rattle.std.specs.Prelude.{◌≡◌, ℕ, zero, suc, Bool, true, false, not, ◌==◌, ◌||◌, ◌&&◌, ◌+◌, ◌-◌, ◌≤◌, List, [], ◌∷◌, ◌++◌, Option, Some, None, if◌then◌else◌, nat_lt, min, count_by, map, filter}
+use Rattle.std.specs.Prelude.{◌≡◌, ℕ, zero, suc, Bool, true, false, not, ◌==◌, ◌||◌, ◌&&◌, ◌+◌, ◌-◌, ◌≤◌, List, [], ◌∷◌}
+use Rattle.std.specs.Prelude.{◌++◌, Option, Some, None, if◌then◌else◌, nat_lt, min, count_by, map, filter}
 use Rattle.std.specs.List.{find}
 use Rattle.std.specs.Option.{option_map, option_map_or}
 use Rattle.deadpool_gate.specs.declared.gate.Ask.{Ask}
@@ -82,7 +83,8 @@ grant_count is_closed room ws = if is_closed then 0 else min room (waiting_count
 -- the answer to an entry that does not have to join the list
 abbrev pub entry_at_once : Bool → ℕ → Bool → Option Entry
 entry_at_once is_closed room wait =
-    if is_closed then Some entry.Closed else (if nat_lt 0 room then Some entry.Granted else (if wait then None else Some entry.Full))
+    if is_closed then Some entry.Closed else
+    (if nat_lt 0 room then Some entry.Granted else (if wait then None else Some entry.Full))
 
 -- an entry that joins stands last, under a ticket of its own; without memory for it nothing changes
 abbrev pub Joins : List Waiter → Entry → List Waiter → Type 0

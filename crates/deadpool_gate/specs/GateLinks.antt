@@ -1,5 +1,6 @@
 -- How nodes that name each other by key are a line of waiters.
-use Rattle.std.specs.Prelude.{◌≡◌, ℕ, zero, suc, Bool, not, ◌==◌, List, [], ◌∷◌, length, Option, Some, None, if◌then◌else◌}
+use Rattle.std.specs.Prelude.{◌≡◌, ℕ, zero, suc, Bool, not, ◌==◌, List, [], ◌∷◌, length, Option, Some, None}
+use Rattle.std.specs.Prelude.{if◌then◌else◌}
 use Rattle.std.specs.List.{find}
 use Rattle.std.specs.Option.{option_map, option_map_or}
 use Rattle.slab.specs.Slab.{Slab, get, slab_len, Updates, SameValues}
@@ -18,7 +19,8 @@ node_between before behind w = record { previous = before; next = behind; grante
 abbrev pub follow : ℕ → Slab Node → Option ℕ → List Waiter
 follow zero nodes from = []
 follow (suc n) nodes None = []
-follow (suc n) nodes (Some key) = option_map_or (λ node. waiter_at key node ∷ follow n nodes node.next) (get nodes key) []
+follow (suc n) nodes (Some key) =
+    option_map_or (λ node. waiter_at key node ∷ follow n nodes node.next) (get nodes key) []
 
 -- the ticket of the first waiter; of nobody, the key behind
 abbrev pub first_ticket : List Waiter → Option ℕ → Option ℕ
@@ -34,11 +36,13 @@ last_ticket (w ∷ ws) before = last_ticket ws (Some w.ticket)
 abbrev pub first_failing : (Waiter → Bool) → List Waiter → Option ℕ
 first_failing test ws = option_map (λ w. w.ticket) (find (λ w. not (test w)) ws)
 
--- each of these waiters has a node under its ticket, which names its neighbours; before and behind them stand these keys
+-- each of these waiters has a node under its ticket, which names its neighbours; before and behind them stand these
+-- keys
 abbrev pub AreLinked : Slab Node → Option ℕ → List Waiter → Option ℕ → Type 0
 AreLinked nodes before [] behind = Unit {0}
 AreLinked nodes before (w ∷ ws) behind =
-    (get nodes w.ticket ≡ Some (node_between before (first_ticket ws behind) w)) × AreLinked nodes (Some w.ticket) ws behind
+    (get nodes w.ticket ≡ Some (node_between before (first_ticket ws behind) w))
+    × AreLinked nodes (Some w.ticket) ws behind
 
 -- these waiters have their nodes, and there are no others
 pub record Stores (nodes : Slab Node) (ws : List Waiter) : Type 0 where

@@ -12,4 +12,5 @@ module _ {X : Type 0} (has : ℕ → X → Bool) where
   -- the tickets of the queue are those of the table, one each
   pub record IsOwned (q : Queue) (xs : List X) : Type 0 where
     pub owned : (t : ℕ) → is_listed t q ≡ true → (x : X) × ((slice_get xs (owner xs t) ≡ Some x) × (has t x ≡ true))
-    pub listed : (n t : ℕ) (x : X) → slice_get xs n ≡ Some x → has t x ≡ true → (is_listed t q ≡ true) × (owner xs t ≡ n)
+    pub listed : (n t : ℕ) (x : X) → slice_get xs n ≡ Some x → has t x ≡ true
+        → (is_listed t q ≡ true) × (owner xs t ≡ n)

@@ -1,8 +1,12 @@
 //! The line at a pool: those that found no place, in order of arrival, and what each of them was answered.
 
-ghost use Rattle.std.specs.Prelude.{◌≡◌, ℕ, ◌<◌, ◌≤◌, ◌^◌, ◌*◌, ◌++◌, [], true, false, not, IfSome, IfNone, is_some, length, take, drop};
+ghost use Rattle.std.specs.Prelude.{◌≡◌, ℕ, ◌<◌, ◌≤◌, ◌^◌, ◌*◌, ◌++◌, [], true, false, not, IfSome, IfNone, is_some};
+ghost use Rattle.std.specs.Prelude.{length, take, drop};
 ghost use Rattle.std.specs.Option.{option_map};
-ghost use Rattle.deadpool_gate.specs.Gate.{find_waiter, without_waiter, grant_next, grant, granted_count, waiting_count, granted_tickets, waiting_tickets, untold_tickets, grant_count, entry_at_once, Joins, answer_of, asked, withdrawn_as, tell_next, due_ticket, RisesAtMost, touched, IsLine};
+ghost use Rattle.deadpool_gate.specs.Gate.{find_waiter, without_waiter, grant_next, grant, granted_count};
+ghost use Rattle.deadpool_gate.specs.Gate.{waiting_count, granted_tickets, waiting_tickets, untold_tickets};
+ghost use Rattle.deadpool_gate.specs.Gate.{grant_count, entry_at_once, Joins, answer_of, asked, withdrawn_as};
+ghost use Rattle.deadpool_gate.specs.Gate.{tell_next, due_ticket, RisesAtMost, touched, IsLine};
 ghost use Rattle.deadpool_gate.specs.GateLinks.{moved_on, ChangesAt};
 ghost use Rattle.deadpool_gate.specs.GateNodes.{changed};
 ghost use Rattle.deadpool_gate.specs.Numbers.{has_number};
@@ -334,8 +338,8 @@ impl Gate {
         }
     }
 
-    /// Takes a waiter out of the list, be the gate open or closed, and says what it was. The others keep their order, and
-    /// a place that it had is free. `Unknown` changes nothing.
+    /// Takes a waiter out of the list, be the gate open or closed, and says what it was. The others keep their order,
+    /// and a place that it had is free. `Unknown` changes nothing.
     pub fn withdraw(&mut self, ticket: Ticket) -> Withdrawn
         ensures answer { result ≡ withdrawn_as (find_waiter ticket self.old.waiters) }
         ensures waiters { self.new.waiters ≡ without_waiter ticket self.old.waiters }
@@ -364,8 +368,8 @@ impl Gate {
         self.is_closed = true;
     }
 
-    /// The earliest listed waiter whose wait has ended, by a place or by the closing, and who was not told so. With this
-    /// answer it counts as told. It stays in the list until it asks or withdraws.
+    /// The earliest listed waiter whose wait has ended, by a place or by the closing, and who was not told so. With
+    /// this answer it counts as told. It stays in the list until it asks or withdraws.
     pub fn take_wake(&mut self) -> Option<Ticket>
         ensures ticket { result ≡ due_ticket self.old.is_closed self.old.waiters }
         ensures waiters { self.new.waiters ≡ tell_next self.old.is_closed self.old.waiters }

@@ -1,24 +1,19 @@
 -- A journal, replayed: its entries as steps of the desk machine, whose objects are numbers.
 use Rattle.std.specs.Prelude.{◌≡◌, ◌≢◌, ℕ, ◌-◌, ◌≤◌, List, [], ◌∷◌, length, Ok, Err}
 use Rattle.deadpool_desk.specs.DeskState.{DeskState, least_idle}
-use Rattle.deadpool_desk.specs.DeskSteps.{Does, Stands, Resizes, Closes, Clones, DropsHandle, Upgrades}
+use Rattle.deadpool_desk.specs.DeskSteps.{Does, DoesForOwner}
 use Rattle.deadpool_journal.specs.Removals.{remaining, StandIn}
 use Rattle.deadpool_journal.specs.declared.entry.Entry.{Entry}
-use Rattle.deadpool_journal.specs.declared.entry.Entry.TheVariants.{Made, Status, Resize, Retain, Close, CloneHandle, DropHandle, Upgrade}
+use Rattle.deadpool_journal.specs.declared.entry.Entry.TheVariants.{Made, Owner, Retain}
 
 -- the entry is a step of the desk machine, with the reply that it has there
 abbrev pub IsStep : DeskState ℕ → Entry → DeskState ℕ → Type 0
 IsStep d (Made step object reply) d' = Does d step object reply d'
-IsStep d (Status status) d' = Stands d status d'
-IsStep d (Resize limit reply) d' = Resizes d limit reply d'
+IsStep d (Owner step reply) d' = DoesForOwner d step reply d'
 IsStep d (Retain (Ok removed)) d' =
     StandIn 0 removed d.idle × (length removed ≤ length d.idle - least_idle d.limit d)
     × (d' ≡ record d { idle = remaining 0 removed d.idle })
 IsStep d (Retain (Err refused)) d' = (d.idle ≢ []) × (d' ≡ d)
-IsStep d Close d' = Closes d d'
-IsStep d (CloneHandle reply) d' = Clones d reply d'
-IsStep d (DropHandle reply) d' = DropsHandle d reply d'
-IsStep d (Upgrade is_left) d' = Upgrades d is_left d'
 
 -- the entries are steps of the desk machine, one after the other, from one state to another
 abbrev pub Runs : DeskState ℕ → List Entry → DeskState ℕ → Type 0

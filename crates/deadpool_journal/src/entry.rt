@@ -1,7 +1,7 @@
 //! What a journal keeps of a step.
 ghost use Rattle.std.specs.Prelude.{◌≡◌, IfOk};
 
-use deadpool_desk::{HandleReply, Removals, Reply, Status, Step};
+use deadpool_desk::{OwnerReply, OwnerStep, Removals, Reply, Step};
 use std::alloc::AllocError;
 
 /// A step of a pool with its reply, objects by number. `docs/DEFINITIONS.md` has the text of each.
@@ -9,16 +9,10 @@ use std::alloc::AllocError;
 pub enum Entry {
     /// A step of a get or an object, the number of the object that it took or gave, and the reply.
     Made(Step, Option<usize>, Reply),
-    Status(Status),
-    /// The new limit.
-    Resize(usize, Result<(), AllocError>),
+    /// A step of the pool's owner, and the reply.
+    Owner(OwnerStep, OwnerReply),
     /// The objects that were removed, and where each of them stood among those that were idle.
     Retain(Result<Removals, AllocError>),
-    Close,
-    CloneHandle(HandleReply),
-    DropHandle(HandleReply),
-    /// Whether a handle was left.
-    Upgrade(bool),
 }
 
 impl Entry {
@@ -28,14 +22,9 @@ impl Entry {
     {
         match self {
             Entry::Made(step, number, reply) => Ok(Entry::Made(*step, *number, *reply)),
-            Entry::Status(status) => Ok(Entry::Status(*status)),
-            Entry::Resize(limit, reply) => Ok(Entry::Resize(*limit, *reply)),
+            Entry::Owner(step, reply) => Ok(Entry::Owner(*step, *reply)),
             Entry::Retain(Ok(noted)) => Ok(Entry::Retain(Ok(noted.copied()?))),
             Entry::Retain(Err(e)) => Ok(Entry::Retain(Err(*e))),
-            Entry::Close => Ok(Entry::Close),
-            Entry::CloneHandle(reply) => Ok(Entry::CloneHandle(*reply)),
-            Entry::DropHandle(reply) => Ok(Entry::DropHandle(*reply)),
-            Entry::Upgrade(is_left) => Ok(Entry::Upgrade(*is_left)),
         }
     }
 }

@@ -1,5 +1,6 @@
 //! A pool's state, beside the steps that led to it.
-ghost use Rattle.std.specs.Prelude.{◌≡◌, ◌≤◌, ◌&&◌, ◌==◌, ◌++◌, [], IfOk, is_some, length, nat_le, not, option_copied, slice_get};
+ghost use Rattle.std.specs.Prelude.{◌≡◌, ◌≤◌, ◌&&◌, ◌==◌, ◌++◌, [], IfOk, is_some, length, nat_le, not, option_copied};
+ghost use Rattle.std.specs.Prelude.{slice_get};
 ghost use Rattle.deadpool_gate.specs.Orders.{IsOnce};
 ghost use Rattle.deadpool_desk.specs.CoreSteps.{due_now};
 ghost use Rattle.deadpool_desk.specs.DeskState.{new_core, places};
@@ -8,13 +9,13 @@ ghost use Rattle.deadpool_desk.specs.Settled.{NobodyWaits};
 ghost use Rattle.deadpool_journal.specs.Copies.{HasSteps};
 ghost use Rattle.deadpool_journal.specs.Kept.{IsKept};
 ghost use Rattle.deadpool_journal.specs.LogState.{no_entries};
-ghost use Rattle.deadpool_journal.specs.Steps.{MakesNoted, StandsNoted, ResizesNoted, RetainsNoted, ClosesNoted, ClonesNoted, DropsHandleNoted, UpgradesNoted, TellsUnnoted};
+ghost use Rattle.deadpool_journal.specs.Steps.{MakesNoted, MakesForOwnerNoted, RetainsNoted, TellsUnnoted};
 
 use crate::log::{Log, number_in};
 use crate::{Entry, Journal};
 use deadpool_desk::gate::Ticket;
 use deadpool_desk::{
-    Core, Desk, HandleReply, OwnerDesk, QueueMode, Reply, RetainResult, Retainer, Slot, Status,
+    Core, Desk, OwnerDesk, OwnerReply, OwnerStep, QueueMode, Reply, RetainResult, Retainer, Slot,
     Step,
 };
 use std::alloc::{AllocError, Global};
@@ -49,8 +50,8 @@ impl<T> Model for Journaled<T> {
 }
 
 impl<T: Drop> Journaled<T> {
-    /// A pool with nothing idle and one handle, whose first object gets the number 0, and room for so many entries. With
-    /// none the journal takes no memory, and the first step sets the mark. `min_idle` is as in `Core::new`.
+    /// A pool with nothing idle and one handle, whose first object gets the number 0, and room for so many entries.
+    /// With none the journal takes no memory, and the first step sets the mark. `min_idle` is as in `Core::new`.
     pub fn new(
         alloc: Global,
         limit: usize,
@@ -190,33 +191,21 @@ impl<T: Drop> Desk<T> for Journaled<T> {
 }
 
 impl<T: Drop> OwnerDesk<T> for Journaled<T> {
-    ghost stands = { StandsNoted };
+    ghost makes = { MakesForOwnerNoted };
 
-    ghost resizes = { ResizesNoted };
+    ghost retains = { λ R L asks. RetainsNoted asks };
 
-    ghost retains = { λ R asks. RetainsNoted asks };
-
-    ghost closes = { ClosesNoted };
-
-    ghost clones = { ClonesNoted };
-
-    ghost drops_handle = { DropsHandleNoted };
-
-    ghost upgrades = { UpgradesNoted };
-
-    fn status(&mut self) -> Status {
-        let status = self.core.status();
-        self.log.add(Entry::Status(status));
-        status
-    }
-
-    fn resize(&mut self, limit: usize) -> Result<(), AllocError> {
-        let reply = self.core.resize(limit);
-        self.log.add(Entry::Resize(limit, reply));
+    #[inline(always)]
+    fn make_for_owner(&mut self, step: &OwnerStep) -> OwnerReply {
+        let reply = self.core.make_for_owner(step);
+        self.log.add_owner_step(step, &reply);
         reply
     }
 
-    fn retain<R: Retainer<T>>(&mut self, retainer: &mut R) -> Result<RetainResult<T>, AllocError> {
+    fn retain<R: Retainer<T>>(
+        &mut self,
+        retainer: &mut R,
+    ) -> Result<RetainResult<R::Left>, AllocError> {
         if !self.log.has_room() {
             self.log.mark_full();
             return self.core.retain(retainer);
@@ -231,28 +220,5 @@ impl<T: Drop> OwnerDesk<T> for Journaled<T> {
                 Err(e)
             }
         }
-    }
-
-    fn close(&mut self) {
-        self.core.close();
-        self.log.add(Entry::Close);
-    }
-
-    fn clone_handle(&mut self) -> HandleReply {
-        let reply = self.core.clone_handle();
-        self.log.add_clone_handle(reply);
-        reply
-    }
-
-    fn drop_handle(&mut self) -> HandleReply {
-        let reply = self.core.drop_handle();
-        self.log.add_drop_handle(reply);
-        reply
-    }
-
-    fn upgrade(&mut self) -> bool {
-        let is_left = self.core.upgrade();
-        self.log.add(Entry::Upgrade(is_left));
-        is_left
     }
 }

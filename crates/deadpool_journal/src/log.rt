@@ -1,7 +1,7 @@
 //! A list of entries with room for so many.
 //!
-//! Each get through a handle of its own enters, comes back, and counts a handle twice. So for these the mark is looked at first,
-//! and the entry is made in a function that stands apart: once the mark is set none is made.
+//! Each get through a handle of its own enters, comes back, and counts a handle twice. So for these the mark is looked
+//! at first: once it is set no entry is made.
 ghost use Rattle.std.specs.Prelude.{◌≡◌, ◌≤◌, IfOk, Option, length, nat_lt, true, option_copied, slice_get};
 ghost use Rattle.std.specs.Option.{option_or};
 ghost use Rattle.deadpool_journal.specs.ByNumber.{number_in};
@@ -9,12 +9,13 @@ ghost use Rattle.deadpool_journal.specs.LogState.{no_entries, noted};
 ghost use Rattle.deadpool_journal.specs.declared.entry.Entry.TheVariants as entry;
 
 use crate::Entry;
-use deadpool_desk::{HandleReply, Reply, Slot, Step};
+use deadpool_desk::{OwnerReply, OwnerStep, Reply, Slot, Step};
 use deadpool_parts::tables::append;
 use std::alloc::{AllocError, Global};
 use std::marker::Model;
 
-/// At most so many entries, and a mark that a further one found no room. The room for all of them is there from the start.
+/// At most so many entries, and a mark that a further one found no room. The room for all of them is there from the
+/// start.
 #[derive(Drop)]
 pub(crate) struct Log {
     entries: Vec<Entry>,
@@ -72,8 +73,8 @@ impl Log {
         append(&mut self.entries, entry);
     }
 
-    /// One entry more, of a step, with the number of the object that it took, or of what is in the hand after it. Nothing is
-    /// made of it if the mark is set.
+    /// One entry more, of a step, with the number of the object that it took, or of what is in the hand after it. The
+    /// step and the reply are copied only if the mark is not set, so that neither has to lie in memory otherwise.
     #[inline(always)]
     pub fn add_step<T>(
         &mut self,
@@ -88,59 +89,19 @@ impl Log {
         if self.is_full {
             return;
         }
-        self.note_step(step, taken, hand, reply);
-    }
-
-    #[cold]
-    #[inline(never)]
-    fn note_step<T>(
-        &mut self,
-        step: &Step,
-        taken: Option<usize>,
-        hand: &Option<Slot<T>>,
-        reply: &Reply,
-    )
-        ensures { self.new
-            ≡ noted (entry.Made step.now (option_or taken (number_in hand.now)) reply.now) self.old }
-    {
         let number = taken.or(number_in(hand));
-        self.add(Entry::Made(*step, number, *reply));
+        self.note(Entry::Made(*step, number, *reply));
     }
 
-    /// One entry more, of a handle that is counted.
-    pub fn add_clone_handle(&mut self, reply: HandleReply)
-        ensures { self.new ≡ noted (entry.CloneHandle reply) self.old }
+    /// One entry more, of a step of the owner. Nothing is made of it if the mark is set.
+    #[inline(always)]
+    pub fn add_owner_step(&mut self, step: &OwnerStep, reply: &OwnerReply)
+        ensures { self.new ≡ noted (entry.Owner step.now reply.now) self.old }
     {
         if self.is_full {
             return;
         }
-        self.note_clone_handle(reply);
-    }
-
-    #[cold]
-    #[inline(never)]
-    fn note_clone_handle(&mut self, reply: HandleReply)
-        ensures { self.new ≡ noted (entry.CloneHandle reply) self.old }
-    {
-        self.add(Entry::CloneHandle(reply));
-    }
-
-    /// One entry more, of a handle that is given back.
-    pub fn add_drop_handle(&mut self, reply: HandleReply)
-        ensures { self.new ≡ noted (entry.DropHandle reply) self.old }
-    {
-        if self.is_full {
-            return;
-        }
-        self.note_drop_handle(reply);
-    }
-
-    #[cold]
-    #[inline(never)]
-    fn note_drop_handle(&mut self, reply: HandleReply)
-        ensures { self.new ≡ noted (entry.DropHandle reply) self.old }
-    {
-        self.add(Entry::DropHandle(reply));
+        self.note(Entry::Owner(*step, *reply));
     }
 
     /// Whether there is room for one entry more.

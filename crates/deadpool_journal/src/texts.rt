@@ -1,6 +1,8 @@
 //! A journal as text: one entry a line.
 use crate::{Entry, Journal};
-use deadpool_desk::{HandleReply, Held, QueueMode, Removal, Removals, Reply, Status, Step};
+use deadpool_desk::{
+    Held, OwnerReply, OwnerStep, QueueMode, Removal, Removals, Reply, Status, Step,
+};
 use std::fmt;
 
 impl fmt::Display for Journal {
@@ -33,15 +35,17 @@ impl fmt::Display for Entry {
                     _ => write_reply(f, *number, reply),
                 }
             }
-            Entry::Status(status) => write_status(f, *status),
-            Entry::Resize(limit, Ok(())) => write!(f, "resize {limit} done"),
-            Entry::Resize(limit, Err(_)) => write!(f, "resize {limit} out_of_memory"),
+            Entry::Owner(step, reply) => {
+                write_owner_step(f, step)?;
+                match (step, reply) {
+                    // (an upgrade says whether a handle was left)
+                    (OwnerStep::Upgrade, OwnerReply::Done) => f.write_str("true"),
+                    (OwnerStep::Upgrade, OwnerReply::NoHandle) => f.write_str("false"),
+                    _ => write_owner_reply(f, reply),
+                }
+            }
             Entry::Retain(Ok(removals)) => write_removals(f, removals),
             Entry::Retain(Err(_)) => f.write_str("retain out_of_memory"),
-            Entry::Close => f.write_str("close done"),
-            Entry::CloneHandle(reply) => write!(f, "clone_handle {}", handle_word(*reply)),
-            Entry::DropHandle(reply) => write!(f, "drop_handle {}", handle_word(*reply)),
-            Entry::Upgrade(is_left) => write!(f, "upgrade {is_left}"),
         }
     }
 }
@@ -107,6 +111,26 @@ fn write_reply<W: fmt::Write>(
     }
 }
 
+fn write_owner_step<W: fmt::Write>(f: &mut fmt::Formatter<W>, step: &OwnerStep) -> fmt::Result {
+    match step {
+        OwnerStep::Status => f.write_str("status "),
+        OwnerStep::Resize { limit } => write!(f, "resize {limit} "),
+        OwnerStep::Close => f.write_str("close "),
+        OwnerStep::CloneHandle => f.write_str("clone_handle "),
+        OwnerStep::DropHandle => f.write_str("drop_handle "),
+        OwnerStep::Upgrade => f.write_str("upgrade "),
+    }
+}
+
+fn write_owner_reply<W: fmt::Write>(f: &mut fmt::Formatter<W>, reply: &OwnerReply) -> fmt::Result {
+    match reply {
+        OwnerReply::Stands(status) => write_status(f, *status),
+        OwnerReply::Done => f.write_str("done"),
+        OwnerReply::OutOfMemory => f.write_str("out_of_memory"),
+        OwnerReply::NoHandle => f.write_str("no_handle"),
+    }
+}
+
 fn write_status<W: fmt::Write>(f: &mut fmt::Formatter<W>, status: Status) -> fmt::Result {
     let Status {
         max_size,
@@ -114,7 +138,7 @@ fn write_status<W: fmt::Write>(f: &mut fmt::Formatter<W>, status: Status) -> fmt
         available,
         waiting,
     } = status;
-    write!(f, "status {max_size} {size} {available} {waiting}")
+    write!(f, "{max_size} {size} {available} {waiting}")
 }
 
 fn write_removals<W: fmt::Write>(f: &mut fmt::Formatter<W>, removals: &Removals) -> fmt::Result {
@@ -124,11 +148,4 @@ fn write_removals<W: fmt::Write>(f: &mut fmt::Formatter<W>, removals: &Removals)
         write!(f, " {number}@{position}")?;
     }
     Ok(())
-}
-
-fn handle_word(reply: HandleReply) -> &'static str {
-    match reply {
-        HandleReply::Done => "done",
-        HandleReply::NoHandle => "no_handle",
-    }
 }

@@ -1,5 +1,6 @@
 -- The wakers of those that wait, by number.
-use Rattle.std.specs.Prelude.{◌≡◌, ℕ, suc, ◌-◌, ◌++◌, List, length, replicate, slice_index_or, slice_set, nat_lt, Option, Some, None, if◌then◌else◌}
+use Rattle.std.specs.Prelude.{◌≡◌, ℕ, suc, ◌-◌, ◌++◌, List, length, replicate, slice_index_or, slice_set, nat_lt}
+use Rattle.std.specs.Prelude.{Option, Some, None, if◌then◌else◌}
 
 module _ {W : Type 0} where
   -- with a place for each number up to this one
@@ -10,7 +11,8 @@ module _ {W : Type 0} where
   abbrev pub waker_at : ℕ → List (Option W) → Option W
   waker_at number places = slice_index_or places number None
 
-  -- What a party that had a number and has another does to the places in one poll, with its waker, and which waker is let go.
+  -- What a party that had a number and has another does to the places in one poll, with its waker, and which waker is
+  -- let go.
   abbrev pub Follows : Option ℕ → Option ℕ → List (Option W) → Option W → Option W → List (Option W) → Option W → Type 0
   Follows before (Some number) places waker spare places' waker' =
       (places' ≡ slice_set places number waker)

@@ -7,7 +7,8 @@ IsOver (Some handle) request refusal = IsNone request
 IsOver None request refusal = IsNone refusal
 
 module _ {H Q R O : Type 0} where
-  -- With a handle it gives what its request may give, without one what says why it never began. One that is over gives nothing.
+  -- With a handle it gives what its request may give, without one what says why it never began. One that is over gives
+  -- nothing.
   abbrev pub FutureGives : (Q → O → Type 0) → (R → O → Type 0) → Option H → Option Q → Option R → O → Type 0
   FutureGives gives refuses (Some handle) request refusal output = IsSomeAnd request (λ asked. gives asked output)
   FutureGives gives refuses None request refusal output = IsSomeAnd refusal (λ refused. refuses refused output)

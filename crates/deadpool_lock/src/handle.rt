@@ -65,8 +65,8 @@ impl<S: Drop> Home<S> {
     }
 }
 
-/// A counted handle of what is shared. Dropping it gives it back, before it lets go of what is shared. Contracts see what is
-/// shared.
+/// A counted handle of what is shared. Dropping it gives it back, before it lets go of what is shared. Contracts see
+/// what is shared.
 pub struct Handle<S: Counted + Drop> {
     home: Home<S>,
 }

@@ -1,5 +1,5 @@
-//! What the shared pools need of a lock: the wakers of those that wait, a lock whose steps tell them, a counted handle of
-//! what is shared, and what a future hears by. It knows nothing of objects.
+//! What the shared pools need of a lock: the wakers of those that wait, a lock whose steps tell them, a counted handle
+//! of what is shared, and what a future hears by. It knows nothing of objects.
 #![tactic(auto)]
 
 mod handle;

@@ -23,8 +23,8 @@ impl Listener {
         }
     }
 
-    /// Registers the task that polls, before a step that may leave it waiting: with a source, or nowhere. Its waker is at hand
-    /// then. If none could be made, the task asks for another poll.
+    /// Registers the task that polls, before a step that may leave it waiting: with a source, or nowhere. Its waker is
+    /// at hand then. If none could be made, the task asks for another poll.
     pub fn listen(&mut self, source: Option<&Source>, cx: &mut Context<'_>)
         ensures armed { IsArmed cx.new }
         ensures heard { IfSome source.entry (λ s. Hears cx.new s.now.id) }

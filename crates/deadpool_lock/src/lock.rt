@@ -14,8 +14,8 @@ pub trait Wakes {
     fn take_wake(&mut self) -> Option<Waker>;
 }
 
-/// A lock with the handle that it is taken by. A step takes it by `begin` and gives it back by `end`, which calls the wakers
-/// of those that are due then.
+/// A lock with the handle that it is taken by. A step takes it by `begin` and gives it back by `end`, which calls the
+/// wakers of those that are due then.
 #[derive(Drop)]
 pub struct StepLock<L: Wakes, R: Wait> {
     kept: Mutex<L>,
@@ -24,8 +24,8 @@ pub struct StepLock<L: Wakes, R: Wait> {
     source: Source,
 }
 
-/// The lock of a step that is under way. It cannot be dropped: `StepLock::end` alone takes it, so that no step leaves out to
-/// tell those that are due.
+/// The lock of a step that is under way. It cannot be dropped: `StepLock::end` alone takes it, so that no step leaves
+/// out to tell those that are due.
 pub struct Step<'a, L: Wakes> {
     kept: MutexGuard<'a, L>,
 }
@@ -78,8 +78,8 @@ impl<L: Wakes, R: Wait> StepLock<L, R> {
         self.kept.lock(&self.rt)
     }
 
-    /// Gives the lock back after a step. If the step left a task due to be woken, the wakers of all that are due are called,
-    /// one at a time and none of them under the lock.
+    /// Gives the lock back after a step. If the step left a task due to be woken, the wakers of all that are due are
+    /// called, one at a time and none of them under the lock.
     #[inline]
     pub fn end(&self, step: Step<'_, L>) {
         let Step { kept } = step;

@@ -23,8 +23,8 @@ pub trait Request<S: Counted>: Drop {
     // Holds of each output that says why it never began.
     ghost refuses: { Self.Refusal → Self.Output → Type 0 } = { λ _ _. ⊤ };
 
-    /// One poll, in a task that has registered with what is shared before. It comes back if it is pending; otherwise there is
-    /// its output.
+    /// One poll, in a task that has registered with what is shared before. It comes back if it is pending; otherwise
+    /// there is its output.
     fn poll(
         self,
         shared: &S,
@@ -44,8 +44,8 @@ pub trait Request<S: Counted>: Drop {
         ensures { refuses refusal result };
 }
 
-/// A request as a future, with a handle of its own. It registers before each poll of the request. One that has ended stays
-/// pending. Dropping it gives up a request that has not ended, and then its handle.
+/// A request as a future, with a handle of its own. It registers before each poll of the request. One that has ended
+/// stays pending. Dropping it gives up a request that has not ended, and then its handle.
 pub struct RequestFuture<Q: Request<S>, S: Counted + Drop> {
     // None if no handle was counted.
     handle: Option<Handle<S>>,

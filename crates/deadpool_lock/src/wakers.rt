@@ -8,8 +8,8 @@ use std::alloc::{AllocError, Global};
 use std::marker::Model;
 use std::mem;
 
-/// The wakers of those that wait in a gate, each in the place of its ticket's number. A waker that is dropped wakes its task:
-/// what leaves here is the caller's, who lets go of it with the lock given back.
+/// The wakers of those that wait in a gate, each in the place of its ticket's number. A waker that is dropped wakes its
+/// task: what leaves here is the caller's, who lets go of it with the lock given back.
 #[derive(Drop)]
 pub struct Wakers {
     places: Vec<Option<Waker>>,
@@ -77,9 +77,9 @@ impl Wakers {
         waker
     }
 
-    /// Goes with one poll of a party, which had the ticket `before` and has the ticket `after`. If it waits, its waker is
-    /// kept, in exchange for the one that was; if it waits no longer, the answer is the waker that was kept for it. A waker
-    /// that finds no place is the answer too.
+    /// Goes with one poll of a party, which had the ticket `before` and has the ticket `after`. If it waits, its waker
+    /// is kept, in exchange for the one that was; if it waits no longer, the answer is the waker that was kept for it.
+    /// A waker that finds no place is the answer too.
     pub fn follow(
         &mut self,
         before: Option<Ticket>,

@@ -1,5 +1,5 @@
 -- What a get holds at its desk at each stage, and after each turn.
-use Rattle.std.specs.Prelude.{Bool, true, false, Ok}
+use Rattle.std.specs.Prelude.{Bool, true, false, Ok, Err}
 use Rattle.deadpool_managed.specs.Stages.{Stage, Unpolled, Queued, Going, Creating, Recycling, Checking, Finished}
 use Rattle.deadpool_managed.specs.declared.get.Turn.{Turn}
 use Rattle.deadpool_managed.specs.declared.get.Turn.TheVariants.{Done}
@@ -16,9 +16,10 @@ held_at (Recycling preparation allowance) = holding.Object
 held_at (Checking slot at) = holding.Object
 held_at Finished = holding.Nothing
 
--- what a get holds after a turn: an object that was given stands for itself
+-- what a get holds after a turn: an object that was given stands for itself, and a get that failed holds nothing
 abbrev pub held_after : {V E C R S : Type 0} → Stage V C R S → Turn V E → Holding
 held_after stage (Done (Ok slot)) = holding.Object
+held_after stage (Done (Err cause)) = holding.Nothing
 held_after stage _ = held_at stage
 
 abbrev pub is_going : {V C R S : Type 0} → Stage V C R S → Bool

@@ -4,6 +4,9 @@
 pub mod Answers
 pub mod Outside
 pub mod HookLists
+-- What is known of an object's past; an object.
+pub mod Metrics
+pub mod Slots
 -- How far a get is, and the object that it prepares.
 pub mod Stages
 -- What an object passes before it is handed out.

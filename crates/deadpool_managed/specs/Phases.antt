@@ -16,8 +16,9 @@ use Rattle.deadpool_managed.specs.declared.calls.Position.{Position}
 use Rattle.deadpool_managed.specs.declared.calls.Verdict.{Verdict}
 use Rattle.deadpool_desk.specs.declared.step.Reply.{Reply}
 use Rattle.deadpool_desk.specs.declared.step.Reply.TheVariants as reply
-use Rattle.deadpool_desk.specs.declared.slot.Slot.{Slot}
-use Rattle.deadpool_managed.specs.Stages.{Preparation, PreRecycle, Recycle, PostRecycle, Prepared, Accepted, GivenUp, Pending, Stage}
+use Rattle.deadpool_managed.specs.Slots.{Slot}
+use Rattle.deadpool_managed.specs.Stages.{Preparation, PreRecycle, Recycle, PostRecycle, Prepared, Accepted, GivenUp}
+use Rattle.deadpool_managed.specs.Stages.{Pending, Stage}
 use Rattle.deadpool_managed.specs.declared.prepare.Preparing.{Preparing}
 use Rattle.deadpool_managed.specs.declared.prepare.Preparing.TheVariants as preparing
 use Rattle.deadpool_managed.specs.declared.prepare.Outcome.{Outcome}
@@ -68,7 +69,7 @@ module _ {V C R S : Type 0} where
   IsPlaced P (phase.Recycling preparing) None = ⊥
   IsPlaced P (phase.Served left) (Some slot) = ⊤
   IsPlaced P (phase.Served left) None = ⊥
-  IsPlaced P (phase.Checking at) (Some slot) = P slot.value
+  IsPlaced P (phase.Checking at) (Some slot) = P slot.value.value
   IsPlaced P (phase.Checking at) None = ⊥
   IsPlaced P phase.Finished slot = ⊤
 
@@ -99,30 +100,34 @@ came_by cause _ = came.Failed Closed
 
 module _ {V E C R S F A : Type 0} (may : May V E C R S F A) where
   -- the object in its place is prepared further, and stays there
-  abbrev pub PreparesIn : Moment → Option Runtime → Option Duration → HookLists F A → Preparing R S → Option (Slot V) → Outcome R S → Option (Slot V) → Type 0
+  abbrev pub PreparesIn : Moment → Option Runtime → Option Duration → HookLists F A → Preparing R S → Option (Slot V)
+      → Outcome R S → Option (Slot V) → Type 0
   PreparesIn now runtime timeout hooks preparing (Some slot) outcome (Some left) =
       Gives may (prepare now runtime timeout hooks (preparation_of slot preparing)) (prepared_of left outcome)
   PreparesIn now runtime timeout hooks preparing _ outcome _ = ⊥
 
   abbrev pub ChecksIn : HookLists F A → Position S → Option (Slot V) → Verdict S E → Option (Slot V) → Type 0
-  ChecksIn hooks at (Some slot) verdict (Some left) = Gives {A = Verdict S E × V} may (post_create {E = E} {C = C} {R = R} hooks slot at) (verdict, left.value) × (left ≡ with_value left.value slot)
+  ChecksIn hooks at (Some slot) verdict (Some left) =
+      Gives {A = Verdict S E × V} may (post_create {E = E} {C = C} {R = R} hooks slot at) (verdict, left.value.value)
+      × (left ≡ with_value left.value.value slot)
   ChecksIn hooks at _ verdict _ = ⊥
 
   -- an object that was given up, if there was one
   abbrev pub GivesUpIn : Option (Slot V) → Reply → Type 0
-  GivesUpIn (Some slot) reply = GivesUp may slot.value reply
+  GivesUpIn (Some slot) reply = GivesUp may slot.value.value reply
   GivesUpIn None reply = ⊤
 
   abbrev pub DiscardsIn : Option (Slot V) → Option ℕ → Reply → Stage V C R S → Turn V E → Type 0
-  DiscardsIn (Some slot) allowance reply after came = AfterDiscard may slot.value allowance reply after came
+  DiscardsIn (Some slot) allowance reply after came = AfterDiscard may slot.value.value allowance reply after came
   DiscardsIn None allowance reply after came = ⊤
 
   abbrev pub RefusesIn : Option (Slot V) → HookError E → Reply → Stage V C R S → Turn V E → Type 0
-  RefusesIn (Some slot) cause reply after came = GivesUp may slot.value reply × (after ≡ Stage.Finished) × (came ≡ ended_by (PostCreateHook cause) reply)
+  RefusesIn (Some slot) cause reply after came =
+      GivesUp may slot.value.value reply × (after ≡ Stage.Finished) × (came ≡ ended_by (PostCreateHook cause) reply)
   RefusesIn None cause reply after came = ⊤
 
 abbrev pub IsReadyHeld : {V : Type 0} → (V → Type 0) → Option (Slot V) → Type 0
-IsReadyHeld P (Some slot) = P slot.value
+IsReadyHeld P (Some slot) = P slot.value.value
 IsReadyHeld P None = ⊥
 
 -- the outcome's object is in its place, and ready where it has to be

@@ -15,7 +15,7 @@ use crate::calls::Position;
 use crate::reporting::report;
 use crate::work::{Came, Phase, Work};
 use crate::{
-    AsyncHook, Environment, Manager, Metrics, Moment, PoolError, Slot, SyncHook, TimeoutType,
+    AsyncHook, Environment, Kept, Manager, Metrics, Moment, PoolError, Slot, SyncHook, TimeoutType,
     Timeouts,
 };
 use deadpool_desk::{Desk, Reply, Step};
@@ -24,7 +24,7 @@ use futures::task::{Context, Poll};
 
 impl<M: Manager, A: AsyncHook<M>> Work<M, A> {
     // A creation begins. A timeout without a runtime ends the get, and nothing is called.
-    pub(crate) fn begin_creation<F: SyncHook<M>, D: Desk<M::Type>>(
+    pub(crate) fn begin_creation<F: SyncHook<M>, D: Desk<Kept<M::Type>>>(
         &mut self,
         timeouts: &Timeouts,
         desk: &mut D,
@@ -57,7 +57,7 @@ impl<M: Manager, A: AsyncHook<M>> Work<M, A> {
     }
 
     // A creation that was begun goes on.
-    pub(crate) fn advance_creation<F: SyncHook<M>, D: Desk<M::Type>>(
+    pub(crate) fn advance_creation<F: SyncHook<M>, D: Desk<Kept<M::Type>>>(
         &mut self,
         mut state: M::Creating,
         deadline: Option<Moment>,
@@ -85,7 +85,7 @@ impl<M: Manager, A: AsyncHook<M>> Work<M, A> {
     }
 
     // What a creation's answer leads to. One that is pending at its deadline ends the get.
-    fn after_creation<D: Desk<M::Type>>(
+    fn after_creation<D: Desk<Kept<M::Type>>>(
         &mut self,
         answer: Poll<Result<M::Type, M::Error>>,
         state: M::Creating,
@@ -141,8 +141,10 @@ impl<M: Manager, A: AsyncHook<M>> Work<M, A> {
             Reply::Number(number) => {
                 self.slot = Some(Slot {
                     number,
-                    value,
-                    metrics: Metrics::new(now),
+                    value: Kept {
+                        value,
+                        metrics: Metrics::new(now),
+                    },
                 });
                 self.phase = Phase::Checking(Position::start());
                 Came::More

@@ -8,13 +8,15 @@ ghost use Rattle.deadpool_desk.specs.declared.step.Holding.{Holding};
 ghost use Rattle.deadpool_managed.specs.Stages.{Unpolled};
 
 use crate::work::{Came, Phase, Work};
-use crate::{AsyncHook, Environment, Manager, Moment, PoolError, SyncHook, TimeoutType, Timeouts};
+use crate::{
+    AsyncHook, Environment, Kept, Manager, Moment, PoolError, SyncHook, TimeoutType, Timeouts,
+};
 use deadpool_desk::{Desk, Reply, Step};
 use deadpool_parts::deadline::{cannot_wait, deadline_after, is_reached};
 
 impl<M: Manager, A: AsyncHook<M>> Work<M, A> {
     // The first step of a get.
-    pub(crate) fn enter<F: SyncHook<M>, D: Desk<M::Type>>(
+    pub(crate) fn enter<F: SyncHook<M>, D: Desk<Kept<M::Type>>>(
         &mut self,
         timeouts: &Timeouts,
         desk: &mut D,
@@ -41,7 +43,8 @@ impl<M: Manager, A: AsyncHook<M>> Work<M, A> {
         self.served(deadline, reply)
     }
 
-    // What a get that asked for a place comes to by the reply, whose object is in its place. It waits until the deadline.
+    // What a get that asked for a place comes to by the reply, whose object is in its place. It waits until the
+    // deadline.
     pub(crate) fn served(&mut self, deadline: Option<Moment>, reply: Reply) -> Came<M::Error>
         requires serving { IsServing reply }
         requires hand { LeavesInHand reply Option.None self.old.slot }

@@ -14,7 +14,7 @@ ghost use Rattle.deadpool_managed.specs.Stages.{Unpolled};
 
 use crate::progress::Progress;
 use crate::{
-    AsyncHook, Environment, Manager, Moment, PoolError, Slot, StageKind, SyncHook, Timeouts,
+    AsyncHook, Environment, Kept, Manager, Moment, PoolError, Slot, StageKind, SyncHook, Timeouts,
 };
 use deadpool_desk::Desk;
 use futures::task::Context;
@@ -28,7 +28,7 @@ pub enum Turn<T, E> {
     /// Something is awaited.
     Pending,
     /// The get has ended.
-    Done(Result<Slot<T>, PoolError<E>>),
+    Done(Result<Slot<Kept<T>>, PoolError<E>>),
 }
 
 // It is moved at each poll.
@@ -84,7 +84,7 @@ impl<M: Manager, A: AsyncHook<M>> GetState<M, A> {
     }
 
     /// One step of the get, with at most one step at the desk. A get that has ended stays pending.
-    pub fn advance<F: SyncHook<M>, D: Desk<M::Type>>(
+    pub fn advance<F: SyncHook<M>, D: Desk<Kept<M::Type>>>(
         &mut self,
         desk: &mut D,
         environment: &Environment<M, F, A>,
@@ -106,7 +106,7 @@ impl<M: Manager, A: AsyncHook<M>> GetState<M, A> {
     }
 
     /// Advances up to the first that has nothing more to do at once. A poll of a get that has ended stays pending.
-    pub fn poll_over<F: SyncHook<M>, D: Desk<M::Type>>(
+    pub fn poll_over<F: SyncHook<M>, D: Desk<Kept<M::Type>>>(
         &mut self,
         desk: &mut D,
         environment: &Environment<M, F, A>,
@@ -127,7 +127,7 @@ impl<M: Manager, A: AsyncHook<M>> GetState<M, A> {
     }
 
     /// Gives back what the get holds, in one step at the desk. An object that it prepares is given up and detached.
-    pub fn cancel<F: SyncHook<M>, D: Desk<M::Type>>(
+    pub fn cancel<F: SyncHook<M>, D: Desk<Kept<M::Type>>>(
         self,
         desk: &mut D,
         environment: &Environment<M, F, A>,

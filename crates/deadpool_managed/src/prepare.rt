@@ -6,13 +6,15 @@ ghost use Rattle.futures.specs.Task.{Keeps};
 ghost use Rattle.deadpool_parts.specs.Program.{Gives};
 ghost use Rattle.deadpool_managed.specs.Outside.{may};
 ghost use Rattle.deadpool_managed.specs.Calls.{start};
-ghost use Rattle.deadpool_managed.specs.Prepare.{prepare, pre_recycle, begin_recycling, poll_recycling, post_recycle, post_create, with_value, IsReadyPreparation, IsReadyPrepared};
-ghost use Rattle.deadpool_managed.specs.Phases.{preparation_of, prepared_of, IsPlaced, PreparesIn, IsReadyIn, ChecksIn, IsReadyHeld};
+ghost use Rattle.deadpool_managed.specs.Prepare.{prepare, pre_recycle, begin_recycling, poll_recycling, post_recycle};
+ghost use Rattle.deadpool_managed.specs.Prepare.{post_create, with_value, IsReadyPreparation, IsReadyPrepared};
+ghost use Rattle.deadpool_managed.specs.Phases.{preparation_of, prepared_of, IsPlaced, PreparesIn, IsReadyIn, ChecksIn};
+ghost use Rattle.deadpool_managed.specs.Phases.{IsReadyHeld};
 ghost use Rattle.deadpool_managed.specs.declared.work.Phase.{Phase};
 ghost use Rattle.deadpool_managed.specs.declared.prepare.Preparing.{Preparing};
 
 use crate::calls::{Position, Verdict, ask_hooks};
-use crate::{AsyncHook, Environment, Manager, Moment, Slot, SyncHook};
+use crate::{AsyncHook, Environment, Kept, Manager, Moment, Slot, SyncHook};
 use deadpool_parts::deadline::{deadline_after, is_reached, lacks_runtime};
 use futures::task::{Context, Poll};
 use std::time::Duration;
@@ -39,7 +41,7 @@ pub enum Outcome<R, S> {
 
 // An object that was served now is prepared, in its place.
 pub(crate) fn pre_recycle_in<M: Manager, F: SyncHook<M>, A: AsyncHook<M>>(
-    place: &mut Option<Slot<M::Type>>,
+    place: &mut Option<Slot<Kept<M::Type>>>,
     timeout: Option<Duration>,
     environment: &Environment<M, F, A>,
     now: Moment,
@@ -61,7 +63,7 @@ pub(crate) fn pre_recycle_in<M: Manager, F: SyncHook<M>, A: AsyncHook<M>>(
 
 // An object whose preparation was pending is prepared further, in its place.
 pub(crate) fn prepare_in<M: Manager, F: SyncHook<M>, A: AsyncHook<M>>(
-    place: &mut Option<Slot<M::Type>>,
+    place: &mut Option<Slot<Kept<M::Type>>>,
     preparing: Preparing<M::Recycling, A::State>,
     timeout: Option<Duration>,
     environment: &Environment<M, F, A>,
@@ -83,7 +85,7 @@ pub(crate) fn prepare_in<M: Manager, F: SyncHook<M>, A: AsyncHook<M>>(
 
 // Prepares an object that was idle, from where it had come.
 fn prepare<M: Manager, F: SyncHook<M>, A: AsyncHook<M>>(
-    slot: &mut Slot<M::Type>,
+    slot: &mut Slot<Kept<M::Type>>,
     preparing: Preparing<M::Recycling, A::State>,
     timeout: Option<Duration>,
     environment: &Environment<M, F, A>,
@@ -115,7 +117,7 @@ fn prepare<M: Manager, F: SyncHook<M>, A: AsyncHook<M>>(
 
 // The hooks that see an object before its recycling are asked, from the position on.
 fn pre_recycle<M: Manager, F: SyncHook<M>, A: AsyncHook<M>>(
-    slot: &mut Slot<M::Type>,
+    slot: &mut Slot<Kept<M::Type>>,
     position: Position<A::State>,
     timeout: Option<Duration>,
     environment: &Environment<M, F, A>,
@@ -129,7 +131,8 @@ fn pre_recycle<M: Manager, F: SyncHook<M>, A: AsyncHook<M>>(
     ensures kept { Keeps cx.old cx.new }
 {
     let hooks = environment.hooks.pre_recycle();
-    match ask_hooks(hooks, position, &mut slot.value, &slot.metrics, cx) {
+    let kept = &mut slot.value;
+    match ask_hooks(hooks, position, &mut kept.value, &kept.metrics, cx) {
         Verdict::Accepted => begin_recycling(slot, timeout, environment, now, cx),
         Verdict::Refused(_) => Outcome::GivenUp,
         Verdict::Pending(position) => Outcome::Pending(Preparing::PreRecycle(position)),
@@ -138,7 +141,7 @@ fn pre_recycle<M: Manager, F: SyncHook<M>, A: AsyncHook<M>>(
 
 // Begins a recycling. A timeout without a runtime gives the object up, and nothing is called.
 fn begin_recycling<M: Manager, F: SyncHook<M>, A: AsyncHook<M>>(
-    slot: &mut Slot<M::Type>,
+    slot: &mut Slot<Kept<M::Type>>,
     timeout: Option<Duration>,
     environment: &Environment<M, F, A>,
     now: Moment,
@@ -153,14 +156,15 @@ fn begin_recycling<M: Manager, F: SyncHook<M>, A: AsyncHook<M>>(
     if lacks_runtime(environment.runtime, timeout) {
         return Outcome::GivenUp;
     }
-    let recycling = environment.manager.recycle(&mut slot.value, &slot.metrics);
+    let kept = &mut slot.value;
+    let recycling = environment.manager.recycle(&mut kept.value, &kept.metrics);
     let deadline = deadline_after(now, timeout);
     poll_recycling(slot, recycling, deadline, environment, now, cx)
 }
 
 // Goes on with a recycling. One that is pending at its deadline has expired.
 fn poll_recycling<M: Manager, F: SyncHook<M>, A: AsyncHook<M>>(
-    slot: &mut Slot<M::Type>,
+    slot: &mut Slot<Kept<M::Type>>,
     mut recycling: M::Recycling,
     deadline: Option<Moment>,
     environment: &Environment<M, F, A>,
@@ -174,7 +178,8 @@ fn poll_recycling<M: Manager, F: SyncHook<M>, A: AsyncHook<M>>(
     ensures kept { Keeps cx.old cx.new }
 {
     let manager = &environment.manager;
-    match manager.poll_recycle(&mut recycling, &mut slot.value, &slot.metrics, cx) {
+    let kept = &mut slot.value;
+    match manager.poll_recycle(&mut recycling, &mut kept.value, &kept.metrics, cx) {
         Poll::Ready(Ok(())) => post_recycle(slot, Position::start(), environment, now, cx),
         Poll::Ready(Err(_)) => Outcome::GivenUp,
         Poll::Pending => {
@@ -189,22 +194,23 @@ fn poll_recycling<M: Manager, F: SyncHook<M>, A: AsyncHook<M>>(
 
 // The hooks that see an object after its recycling are asked, from the position on.
 fn post_recycle<M: Manager, F: SyncHook<M>, A: AsyncHook<M>>(
-    slot: &mut Slot<M::Type>,
+    slot: &mut Slot<Kept<M::Type>>,
     position: Position<A::State>,
     environment: &Environment<M, F, A>,
     now: Moment,
     cx: &mut Context<'_>,
 ) -> Outcome<M::Recycling, A::State>
-    requires { M.is_ready slot.old.value }
+    requires { M.is_ready slot.old.value.value }
     ensures gives { Gives (may M.Manager F.SyncHook A.AsyncHook environment.now.manager)
         (post_recycle now environment.now.hooks slot.old position) (prepared_of slot.new result) }
     ensures ready { IsReadyPrepared M.is_ready (prepared_of slot.new result) }
     ensures kept { Keeps cx.old cx.new }
 {
     let hooks = environment.hooks.post_recycle();
-    match ask_hooks(hooks, position, &mut slot.value, &slot.metrics, cx) {
+    let kept = &mut slot.value;
+    match ask_hooks(hooks, position, &mut kept.value, &kept.metrics, cx) {
         Verdict::Accepted => {
-            slot.metrics = slot.metrics.recycled(now);
+            kept.metrics = kept.metrics.recycled(now);
             Outcome::Accepted
         }
         Verdict::Refused(_) => Outcome::GivenUp,
@@ -214,7 +220,7 @@ fn post_recycle<M: Manager, F: SyncHook<M>, A: AsyncHook<M>>(
 
 // The hooks that see the new object in its place are asked, from the position on.
 pub(crate) fn post_create_in<M: Manager, F: SyncHook<M>, A: AsyncHook<M>>(
-    place: &mut Option<Slot<M::Type>>,
+    place: &mut Option<Slot<Kept<M::Type>>>,
     position: Position<A::State>,
     environment: &Environment<M, F, A>,
     cx: &mut Context<'_>,
@@ -234,22 +240,18 @@ pub(crate) fn post_create_in<M: Manager, F: SyncHook<M>, A: AsyncHook<M>>(
 
 // The hooks that see a new object are asked, from the position on.
 fn post_create<M: Manager, F: SyncHook<M>, A: AsyncHook<M>>(
-    slot: &mut Slot<M::Type>,
+    slot: &mut Slot<Kept<M::Type>>,
     position: Position<A::State>,
     environment: &Environment<M, F, A>,
     cx: &mut Context<'_>,
 ) -> Verdict<A::State, M::Error>
     ensures gives { Gives (may M.Manager F.SyncHook A.AsyncHook environment.now.manager)
-        (post_create environment.now.hooks slot.old position) (result, slot.new.value) }
-    ensures same { slot.new ≡ with_value slot.new.value slot.old }
-    ensures ready { M.is_ready slot.old.value → M.is_ready slot.new.value }
+        (post_create environment.now.hooks slot.old position) (result, slot.new.value.value) }
+    ensures same { slot.new ≡ with_value slot.new.value.value slot.old }
+    ensures ready { M.is_ready slot.old.value.value → M.is_ready slot.new.value.value }
     ensures kept { Keeps cx.old cx.new }
 {
-    ask_hooks(
-        environment.hooks.post_create(),
-        position,
-        &mut slot.value,
-        &slot.metrics,
-        cx,
-    )
+    let hooks = environment.hooks.post_create();
+    let kept = &mut slot.value;
+    ask_hooks(hooks, position, &mut kept.value, &kept.metrics, cx)
 }

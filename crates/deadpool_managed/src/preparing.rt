@@ -13,13 +13,15 @@ use crate::calls::{Position, Verdict};
 use crate::prepare::{Outcome, Preparing, post_create_in, pre_recycle_in, prepare_in};
 use crate::reporting::report;
 use crate::work::{Came, Phase, Work};
-use crate::{AsyncHook, Environment, HookError, Manager, Moment, PoolError, SyncHook, Timeouts};
+use crate::{
+    AsyncHook, Environment, HookError, Kept, Manager, Moment, PoolError, SyncHook, Timeouts,
+};
 use deadpool_desk::{Desk, Reply, Step};
 use futures::task::Context;
 
 impl<M: Manager, A: AsyncHook<M>> Work<M, A> {
     // An object that was served now is prepared, in its place.
-    pub(crate) fn recycle<F: SyncHook<M>, D: Desk<M::Type>>(
+    pub(crate) fn recycle<F: SyncHook<M>, D: Desk<Kept<M::Type>>>(
         &mut self,
         left: usize,
         timeouts: &Timeouts,
@@ -51,7 +53,7 @@ impl<M: Manager, A: AsyncHook<M>> Work<M, A> {
     }
 
     // The idle object is prepared further, in its place.
-    pub(crate) fn advance_recycling<F: SyncHook<M>, D: Desk<M::Type>>(
+    pub(crate) fn advance_recycling<F: SyncHook<M>, D: Desk<Kept<M::Type>>>(
         &mut self,
         preparing: Preparing<M::Recycling, A::State>,
         timeouts: &Timeouts,
@@ -90,7 +92,7 @@ impl<M: Manager, A: AsyncHook<M>> Work<M, A> {
     }
 
     // The object is given up, and the get keeps its place.
-    fn discard<F: SyncHook<M>, D: Desk<M::Type>>(
+    fn discard<F: SyncHook<M>, D: Desk<Kept<M::Type>>>(
         &mut self,
         allowance: Option<usize>,
         desk: &mut D,
@@ -111,7 +113,7 @@ impl<M: Manager, A: AsyncHook<M>> Work<M, A> {
         match report(desk, &Step::Discard) {
             Reply::Done => {
                 if let Some(mut slot) = held {
-                    environment.manager.detach(&mut slot.value);
+                    environment.manager.detach(&mut slot.value.value);
                 }
                 self.phase = Phase::Going(allowance);
                 Came::More
@@ -121,7 +123,7 @@ impl<M: Manager, A: AsyncHook<M>> Work<M, A> {
     }
 
     // The hooks see the new object further.
-    pub(crate) fn advance_checking<F: SyncHook<M>, D: Desk<M::Type>>(
+    pub(crate) fn advance_checking<F: SyncHook<M>, D: Desk<Kept<M::Type>>>(
         &mut self,
         position: Position<A::State>,
         timeouts: &Timeouts,
@@ -153,7 +155,7 @@ impl<M: Manager, A: AsyncHook<M>> Work<M, A> {
     }
 
     // The new object is given up with its place.
-    fn refuse<F: SyncHook<M>, D: Desk<M::Type>>(
+    fn refuse<F: SyncHook<M>, D: Desk<Kept<M::Type>>>(
         &mut self,
         cause: HookError<M::Error>,
         desk: &mut D,
@@ -173,7 +175,7 @@ impl<M: Manager, A: AsyncHook<M>> Work<M, A> {
         match report(desk, &Step::Refused) {
             Reply::Done => {
                 if let Some(mut slot) = held {
-                    environment.manager.detach(&mut slot.value);
+                    environment.manager.detach(&mut slot.value.value);
                 }
                 Came::Failed(PoolError::PostCreateHook(cause))
             }

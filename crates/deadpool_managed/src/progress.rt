@@ -11,13 +11,15 @@ ghost use Rattle.deadpool_managed.specs.Phases.{stage_of, turn_of};
 ghost use Rattle.deadpool_managed.specs.Steps.{AdvancesAt, PollsAt, CancelsAt, lent};
 
 use crate::work::{Came, Phase, Work};
-use crate::{AsyncHook, Environment, Manager, Moment, Slot, StageKind, SyncHook, Timeouts, Turn};
+use crate::{
+    AsyncHook, Environment, Kept, Manager, Moment, Slot, StageKind, SyncHook, Timeouts, Turn,
+};
 use deadpool_desk::Desk;
 use futures::task::Context;
 use std::marker::Model;
 
-/// A get that keeps no timeouts of its own, and is told them at each poll. Contracts see its phase, and the object beside
-/// it. Dropping it gives nothing back: `cancel` does.
+/// A get that keeps no timeouts of its own, and is told them at each poll. Contracts see its phase, and the object
+/// beside it. Dropping it gives nothing back: `cancel` does.
 #[derive(Drop)]
 pub struct Progress<M: Manager, A: AsyncHook<M>> {
     work: Work<M, A>,
@@ -63,7 +65,7 @@ impl<M: Manager, A: AsyncHook<M>> Progress<M, A> {
     }
 
     /// One step of the get, with at most one step at the desk. A get that has ended stays pending.
-    pub fn advance<F: SyncHook<M>, D: Desk<M::Type>>(
+    pub fn advance<F: SyncHook<M>, D: Desk<Kept<M::Type>>>(
         &mut self,
         timeouts: &Timeouts,
         desk: &mut D,
@@ -89,7 +91,7 @@ impl<M: Manager, A: AsyncHook<M>> Progress<M, A> {
     }
 
     /// Advances up to the first that has nothing more to do at once. A poll of a get that has ended stays pending.
-    pub fn poll_over<F: SyncHook<M>, D: Desk<M::Type>>(
+    pub fn poll_over<F: SyncHook<M>, D: Desk<Kept<M::Type>>>(
         &mut self,
         timeouts: &Timeouts,
         desk: &mut D,
@@ -112,7 +114,7 @@ impl<M: Manager, A: AsyncHook<M>> Progress<M, A> {
     }
 
     /// As `poll_over`, but an object that is given stays in its place until `give`.
-    pub fn run<F: SyncHook<M>, D: Desk<M::Type>>(
+    pub fn run<F: SyncHook<M>, D: Desk<Kept<M::Type>>>(
         &mut self,
         timeouts: &Timeouts,
         desk: &mut D,
@@ -135,7 +137,7 @@ impl<M: Manager, A: AsyncHook<M>> Progress<M, A> {
     }
 
     /// The object of a get that has ended with one. There is none at a second call.
-    pub fn give(&mut self) -> Option<Slot<M::Type>>
+    pub fn give(&mut self) -> Option<Slot<Kept<M::Type>>>
         requires { self.old.phase ≡ Phase.Finished }
         ensures slot { result ≡ self.old.slot }
         ensures phase { self.new.phase ≡ Phase.Finished }
@@ -145,7 +147,7 @@ impl<M: Manager, A: AsyncHook<M>> Progress<M, A> {
 
     /// Gives back what the get holds, in one step at the desk, and ends it. An object that it prepares is given up and
     /// detached.
-    pub fn cancel<F: SyncHook<M>, D: Desk<M::Type>>(
+    pub fn cancel<F: SyncHook<M>, D: Desk<Kept<M::Type>>>(
         &mut self,
         desk: &mut D,
         environment: &Environment<M, F, A>,

@@ -3,10 +3,12 @@ ghost use Rattle.std.specs.Prelude.{Option};
 ghost use Rattle.deadpool_managed.specs.Get.{Makes, IsReport, making};
 ghost use Rattle.deadpool_desk.specs.Replies.{IsReplyTo, needed, left_by};
 
+use crate::Kept;
 use deadpool_desk::{Desk, Reply, Step};
 
 // A step by which no object passes.
-pub(crate) fn report<T: Drop, D: Desk<T>>(desk: &mut D, step: &Step) -> Reply
+#[inline(always)]
+pub(crate) fn report<T: Drop, D: Desk<Kept<T>>>(desk: &mut D, step: &Step) -> Reply
     requires report { IsReport step.now }
     requires holds { D.holds desk.old (needed step.now) }
     ensures made { Makes D.Desk desk.old (making step.now result Option.None) desk.new }

@@ -20,7 +20,8 @@ use crate::gate::Ticket;
 use crate::prepare::Preparing;
 use crate::reporting::report;
 use crate::{
-    AsyncHook, Environment, Manager, Moment, PoolError, Slot, StageKind, SyncHook, Timeouts, Turn,
+    AsyncHook, Environment, Kept, Manager, Moment, PoolError, Slot, StageKind, SyncHook, Timeouts,
+    Turn,
 };
 use deadpool_desk::{Desk, Held, Reply, Step};
 use deadpool_parts::deadline::is_reached;
@@ -59,12 +60,12 @@ pub enum Came<E> {
 #[derive(Drop)]
 pub(crate) struct Work<M: Manager, A: AsyncHook<M>> {
     pub(crate) phase: Phase<M::Creating, M::Recycling, A::State>,
-    pub(crate) slot: Option<Slot<M::Type>>,
+    pub(crate) slot: Option<Slot<Kept<M::Type>>>,
 }
 
 impl<M: Manager, A: AsyncHook<M>> Work<M, A> {
     // One step.
-    pub(crate) fn step<F: SyncHook<M>, D: Desk<M::Type>>(
+    pub(crate) fn step<F: SyncHook<M>, D: Desk<Kept<M::Type>>>(
         &mut self,
         timeouts: &Timeouts,
         desk: &mut D,
@@ -89,7 +90,7 @@ impl<M: Manager, A: AsyncHook<M>> Work<M, A> {
     }
 
     // Steps up to the first that has nothing more to do at once.
-    pub(crate) fn run<F: SyncHook<M>, D: Desk<M::Type>>(
+    pub(crate) fn run<F: SyncHook<M>, D: Desk<Kept<M::Type>>>(
         &mut self,
         timeouts: &Timeouts,
         desk: &mut D,
@@ -132,7 +133,7 @@ impl<M: Manager, A: AsyncHook<M>> Work<M, A> {
     }
 
     // A step of a get that has taken nothing in this poll.
-    fn begin<F: SyncHook<M>, D: Desk<M::Type>>(
+    fn begin<F: SyncHook<M>, D: Desk<Kept<M::Type>>>(
         &mut self,
         timeouts: &Timeouts,
         desk: &mut D,
@@ -157,7 +158,7 @@ impl<M: Manager, A: AsyncHook<M>> Work<M, A> {
     }
 
     // A step of a get that has taken an object in this poll, or that creates or checks.
-    fn go_on<F: SyncHook<M>, D: Desk<M::Type>>(
+    fn go_on<F: SyncHook<M>, D: Desk<Kept<M::Type>>>(
         &mut self,
         timeouts: &Timeouts,
         desk: &mut D,
@@ -185,7 +186,7 @@ impl<M: Manager, A: AsyncHook<M>> Work<M, A> {
     }
 
     // Any step but the first, and that of an object which was served in this poll.
-    fn step_rarely<F: SyncHook<M>, D: Desk<M::Type>>(
+    fn step_rarely<F: SyncHook<M>, D: Desk<Kept<M::Type>>>(
         &mut self,
         timeouts: &Timeouts,
         desk: &mut D,
@@ -293,7 +294,7 @@ impl<M: Manager, A: AsyncHook<M>> Work<M, A> {
 
     // Gives back what the get holds, in one step at the desk, and ends it. An object that it prepares is given up and
     // detached.
-    pub(crate) fn cancel<F: SyncHook<M>, D: Desk<M::Type>>(
+    pub(crate) fn cancel<F: SyncHook<M>, D: Desk<Kept<M::Type>>>(
         &mut self,
         desk: &mut D,
         environment: &Environment<M, F, A>,
@@ -355,8 +356,8 @@ impl<M: Manager, A: AsyncHook<M>> Work<M, A> {
 }
 
 // Gives back the place of an object under preparation, and the object up.
-fn give_up<M: Manager, F: SyncHook<M>, A: AsyncHook<M>, D: Desk<M::Type>>(
-    held: Option<Slot<M::Type>>,
+fn give_up<M: Manager, F: SyncHook<M>, A: AsyncHook<M>, D: Desk<Kept<M::Type>>>(
+    held: Option<Slot<Kept<M::Type>>>,
     desk: &mut D,
     environment: &Environment<M, F, A>,
 )
@@ -368,7 +369,7 @@ fn give_up<M: Manager, F: SyncHook<M>, A: AsyncHook<M>, D: Desk<M::Type>>(
 {
     if report(desk, &Step::Cancel(Held::Object)) == Reply::Done {
         if let Some(mut slot) = held {
-            environment.manager.detach(&mut slot.value);
+            environment.manager.detach(&mut slot.value.value);
         }
     }
 }

@@ -1,9 +1,14 @@
 -- How many of a list have a number, as one comes, goes or changes hands.
-use Rattle.deadpool_parts.proofs.Words.{◌≡◌, ℕ, ◌+◌, ◌≤◌, zero, suc, List, [], ◌∷◌, ◌++◌, Bool, false, cond, ◌==◌, nat_lt, length, set, ap, ◌∙◌, arith, inl, inr, Option, Some, None, length-append, slice_get, filter, filter_map, cons_option, cases_Bool, filter-append, filter_map-append, with_numbered, find_numbered, without_numbered, count_numbered}
+use Rattle.deadpool_parts.proofs.Words.{◌≡◌, ℕ, ◌+◌, ◌≤◌, zero, suc, List, [], ◌∷◌, ◌++◌, Bool, false, cond, ◌==◌}
+use Rattle.deadpool_parts.proofs.Words.{nat_lt, length, set, ap, ◌∙◌, arith, inl, inr, Option, Some, None}
+use Rattle.deadpool_parts.proofs.Words.{length-append, slice_get, filter, filter_map, cons_option, cases_Bool}
+use Rattle.deadpool_parts.proofs.Words.{filter-append, filter_map-append, with_numbered, find_numbered}
+use Rattle.deadpool_parts.proofs.Words.{without_numbered, count_numbered}
 
 module _ {A : Type 0} (number : A → ℕ) (n : ℕ) where
   -- by the first and the others
-  pub count-cons : (x : A) (xs : List A) → count_numbered number n (x ∷ xs) ≡ cond (number x == n) 1 0 + count_numbered number n xs
+  pub count-cons : (x : A) (xs : List A)
+      → count_numbered number n (x ∷ xs) ≡ cond (number x == n) 1 0 + count_numbered number n xs
   count-cons x xs =
       elim (cases_Bool (number x == n)) [
         | inl here ↦ rw here (omega arith)
@@ -11,16 +16,20 @@ module _ {A : Type 0} (number : A → ℕ) (n : ℕ) where
       ]
 
   -- in two lists together
-  pub count-append : (xs ys : List A) → count_numbered number n (xs ++ ys) ≡ count_numbered number n xs + count_numbered number n ys
+  pub count-append : (xs ys : List A)
+      → count_numbered number n (xs ++ ys) ≡ count_numbered number n xs + count_numbered number n ys
   count-append xs ys =
-      ap length (filter-append (λ x. number x == n) xs ys) ∙ length-append (filter (λ x. number x == n) xs) (filter (λ x. number x == n) ys)
+      ap length (filter-append (λ x. number x == n) xs ys)
+      ∙ length-append (filter (λ x. number x == n) xs) (filter (λ x. number x == n) ys)
 
   -- with one more at the end
-  pub count-push : (xs : List A) (x : A) → count_numbered number n (xs ++ x ∷ []) ≡ count_numbered number n xs + cond (number x == n) 1 0
+  pub count-push : (xs : List A) (x : A)
+      → count_numbered number n (xs ++ x ∷ []) ≡ count_numbered number n xs + cond (number x == n) 1 0
   count-push xs x = let all = count-append xs (x ∷ []) in let last = count-cons x [] in omega (arith, all, last)
 
   -- with one more at its place
-  pub count-with : (x : A) (xs : List A) → count_numbered number n (with_numbered number x xs) ≡ count_numbered number n xs + cond (number x == n) 1 0
+  pub count-with : (x : A) (xs : List A)
+      → count_numbered number n (with_numbered number x xs) ≡ count_numbered number n xs + cond (number x == n) 1 0
   count-with x [] = let last = count-cons x [] in omega (arith, last)
   count-with x (y ∷ ys) =
       let rest = count-with x ys in
@@ -38,7 +47,8 @@ module _ {A : Type 0} (number : A → ℕ) (n : ℕ) where
   count-without k x [] h = cc
   count-without k x (y ∷ ys) h =
       elim (cases_Bool (number y == k)) [
-        | inl here ↦ let same : y ≡ x = let found = rw here at h in cc in let old = count-cons x ys in rw (here, same) (omega (arith, old))
+        | inl here ↦ let same : y ≡ x = let found = rw here at h in cc in let old = count-cons x ys in
+            rw (here, same) (omega (arith, old))
         | inr other ↦
             let there : find_numbered number k ys ≡ Some x = rw other at h in
             let rest = count-without k x ys there in
@@ -48,12 +58,15 @@ module _ {A : Type 0} (number : A → ℕ) (n : ℕ) where
       ]
 
   -- one that is found is among those with its number
-  pub count-found : (k : ℕ) (x : A) (xs : List A) → find_numbered number k xs ≡ Some x → cond (number x == n) 1 0 ≤ count_numbered number n (filter (λ y. number y == k) xs)
+  pub count-found : (k : ℕ) (x : A) (xs : List A) → find_numbered number k xs ≡ Some x
+      → cond (number x == n) 1 0 ≤ count_numbered number n (filter (λ y. number y == k) xs)
   count-found k x [] h = cc
   count-found k x (y ∷ ys) h =
       elim (cases_Bool (number y == k)) [
-        | inl here ↦ let same : y ≡ x = let found = rw here at h in cc in let more = count-cons x (filter (λ z. number z == k) ys) in rw (here, same) (omega (arith, more))
-        | inr other ↦ let there : find_numbered number k ys ≡ Some x = rw other at h in rw other (count-found k x ys there)
+        | inl here ↦ let same : y ≡ x = let found = rw here at h in cc in let more =
+            count-cons x (filter (λ z. number z == k) ys) in rw (here, same) (omega (arith, more))
+        | inr other ↦ let there : find_numbered number k ys ≡ Some x = rw other at h in
+            rw other (count-found k x ys there)
       ]
 
   -- the one that may be there has the number
@@ -61,13 +74,15 @@ module _ {A : Type 0} (number : A → ℕ) (n : ℕ) where
   is_at None = false
   is_at (Some x) = number x == n
 
-  pub count-cons_option : (o : Option A) (xs : List A) → count_numbered number n (cons_option o xs) ≡ cond (is_at o) 1 0 + count_numbered number n xs
+  pub count-cons_option : (o : Option A) (xs : List A)
+      → count_numbered number n (cons_option o xs) ≡ cond (is_at o) 1 0 + count_numbered number n xs
   count-cons_option None xs = omega arith
   count-cons_option (Some x) xs = count-cons x xs
 
   -- of what entries have, as one is set or added
   pub count-set_held : {X : Type 0} (f : X → Option A) (xs : List X) (i : ℕ) (old new : X) → slice_get xs i ≡ Some old
-      → count_numbered number n (filter_map f (set xs i new)) + cond (is_at (f old)) 1 0 ≡ count_numbered number n (filter_map f xs) + cond (is_at (f new)) 1 0
+      → count_numbered number n (filter_map f (set xs i new)) + cond (is_at (f old)) 1 0
+      ≡ count_numbered number n (filter_map f xs) + cond (is_at (f new)) 1 0
   count-set_held f [] i old new h = cc
   count-set_held f (x ∷ xs) zero old new h =
       let same : x ≡ old = cc in
@@ -80,7 +95,9 @@ module _ {A : Type 0} (number : A → ℕ) (n : ℕ) where
       let b = count-cons_option (f x) (filter_map f xs) in
       omega (arith, a, b, rest)
 
-  pub count-push_held : {X : Type 0} (f : X → Option A) (xs : List X) (x : X) → count_numbered number n (filter_map f (xs ++ x ∷ [])) ≡ count_numbered number n (filter_map f xs) + cond (is_at (f x)) 1 0
+  pub count-push_held : {X : Type 0} (f : X → Option A) (xs : List X) (x : X)
+      → count_numbered number n (filter_map f (xs ++ x ∷ []))
+      ≡ count_numbered number n (filter_map f xs) + cond (is_at (f x)) 1 0
   count-push_held f xs x =
       let both = count-append (filter_map f xs) (filter_map f (x ∷ [])) in
       let last = count-cons_option (f x) [] in

@@ -1,5 +1,8 @@
 -- The place of the first element of a list that passes a test.
-use Rattle.deadpool_parts.proofs.Words.{◌≡◌, ℕ, ◌<◌, ◌≤◌, List, Bool, not, nat_lt, length, refl, ap, ◌∙◌, arith, inl, inr, Some, None, unwrap_or, get_or, find, position, position_or_len, slice_get, cases_Bool, ltb-true, ltb-false, find_at, prefix_len-le-length, slice_get_past, slice_get_read}
+use Rattle.deadpool_parts.proofs.Words.{◌≡◌, ℕ, ◌<◌, ◌≤◌, List, Bool, not, nat_lt, length, refl, ap, ◌∙◌, arith, inl}
+use Rattle.deadpool_parts.proofs.Words.{inr, Some, None, unwrap_or, get_or, find, position, position_or_len, slice_get}
+use Rattle.deadpool_parts.proofs.Words.{cases_Bool, ltb-true, ltb-false, find_at, prefix_len-le-length, slice_get_past}
+use Rattle.deadpool_parts.proofs.Words.{slice_get_read}
 
 module _ {X : Type 0} (test : X → Bool) where
   -- a place is the length of what stands before it
@@ -35,7 +38,8 @@ module _ {X : Type 0} (test : X → Bool) where
       ]
 
   -- what is at the place is what is found
-  pub found_at_place : (xs : List X) (at : ℕ) (x : X) → position test xs ≡ Some at → x ≡ get_or xs at x → find test xs ≡ Some x
+  pub found_at_place : (xs : List X) (at : ℕ) (x : X) → position test xs ≡ Some at → x ≡ get_or xs at x
+      → find test xs ≡ Some x
   found_at_place xs at x h e =
       let w = place_is xs at h in
       find_at test xs ∙ ap (slice_get xs) w.0 ∙ slice_get_read xs (length xs) at x refl w.1 e

@@ -1,5 +1,6 @@
 -- A configuration in JSON: what a value says, or the first fault in it, and back.
-use Rattle.std.specs.Prelude.{◌≡◌, ℕ, ◌^◌, ◌<◌, nat_lt, is_some, if◌then◌else◌, bytes_eq, List, Option, Some, None, Result, Ok, Err, option_and_then, codes}
+use Rattle.std.specs.Prelude.{◌≡◌, ℕ, ◌^◌, ◌<◌, nat_lt, is_some, if◌then◌else◌, bytes_eq, List, Option, Some, None}
+use Rattle.std.specs.Prelude.{Result, Ok, Err, option_and_then, codes}
 use Rattle.std.specs.Option.{ok_or}
 use Rattle.serde_json.specs.Data.{Data, number, object, string, unsigned, member, no_members}
 use Rattle.serde_json.specs.Find.{get, as_number, as_object, as_str, as_u64}
@@ -9,7 +10,8 @@ use Rattle.deadpool_parts.specs.declared.config.PoolConfig.{PoolConfig}
 use Rattle.deadpool_parts.specs.declared.config.QueueMode.{QueueMode}
 use Rattle.deadpool_parts.specs.declared.config.QueueMode.TheVariants.{Fifo, Lifo}
 use Rattle.deadpool_parts.specs.declared.errors.ConfigError.{ConfigError}
-use Rattle.deadpool_parts.specs.declared.errors.ConfigError.TheVariants.{BadMinIdle, BadNumber, BadQueueMode, MissingMaxSize, NotAnObject}
+use Rattle.deadpool_parts.specs.declared.errors.ConfigError.TheVariants.{BadMinIdle, BadNumber, BadQueueMode}
+use Rattle.deadpool_parts.specs.declared.errors.ConfigError.TheVariants.{MissingMaxSize, NotAnObject}
 
 -- a configuration, its durations in nanoseconds
 pub record Settings : Type 0 where
@@ -19,7 +21,12 @@ pub record Settings : Type 0 where
   pub min_idle : ℕ
 
 abbrev pub settings_of : PoolConfig → Settings
-settings_of c = record { max_size = c.max_size; timeouts = durations_of c.timeouts; queue_mode = c.queue_mode; min_idle = c.min_idle }
+settings_of c = record {
+  max_size = c.max_size;
+  timeouts = durations_of c.timeouts;
+  queue_mode = c.queue_mode;
+  min_idle = c.min_idle;
+}
 
 -- a `PoolConfig` can have these
 pub record FitsPoolConfig (s : Settings) : Type 0 where
@@ -43,7 +50,8 @@ abbrev pub read_max_size : Data → Result ℕ ConfigError
 read_max_size d = if is_some (as_object d) then read_size (get (codes "max_size") d) else Err NotAnObject
 
 abbrev pub mode_named : List ℕ → Option QueueMode
-mode_named name = if bytes_eq name (codes "Fifo") then Some Fifo else (if bytes_eq name (codes "Lifo") then Some Lifo else None)
+mode_named name = if bytes_eq name (codes "Fifo") then Some Fifo else
+    (if bytes_eq name (codes "Lifo") then Some Lifo else None)
 
 -- what stands at `queue_mode`
 abbrev pub read_queue_mode : Option Data → Result QueueMode ConfigError
@@ -58,7 +66,10 @@ read_min_idle (Some d) = ok_or (option_and_then as_size (option_and_then as_u64 
 -- Faults are looked for in the order of these steps.
 abbrev pub read_config : Data → Result Settings ConfigError
 read_config d =
-    result_and_then (λ n. result_and_then (λ l. result_and_then (λ mode. result_map (λ floor. record { max_size = n; timeouts = l; queue_mode = mode; min_idle = floor })
+    result_and_then
+    (λ n. result_and_then
+    (λ l. result_and_then
+    (λ mode. result_map (λ floor. record { max_size = n; timeouts = l; queue_mode = mode; min_idle = floor })
     (read_min_idle (get (codes "min_idle") d)))
     (read_queue_mode (get (codes "queue_mode") d)))
     (read_timeouts (get (codes "timeouts") d)))
@@ -71,7 +82,11 @@ mode_name Fifo = codes "Fifo"
 mode_name Lifo = codes "Lifo"
 
 abbrev pub written_config : Settings → Data
-written_config s = object (member (codes "max_size") (number (unsigned s.max_size)) (member (codes "min_idle") (number (unsigned s.min_idle)) (member (codes "queue_mode") (string (mode_name s.queue_mode)) (member (codes "timeouts") (written_timeouts s.timeouts) no_members))))
+written_config s =
+    object (member (codes "max_size") (number (unsigned s.max_size))
+    (member (codes "min_idle") (number (unsigned s.min_idle))
+    (member (codes "queue_mode") (string (mode_name s.queue_mode))
+    (member (codes "timeouts") (written_timeouts s.timeouts) no_members))))
 
 -- each configuration in range is read as it was written
 abbrev pub ReadsWritten : Type 0

@@ -1,5 +1,5 @@
--- Computations that ask the outside, and go on at each answer. A definition of what code does is such a computation when
--- the code calls somebody else's.
+-- Computations that ask the outside, and go on at each answer. A definition of what code does is such a computation
+-- when the code calls somebody else's.
 use Rattle.std.specs.Prelude.{◌≡◌}
 
 -- Q is what may be asked, Answer q is what an answer to q is, and A is what the computation gives in the end.

@@ -33,8 +33,8 @@ Later P (x ∷ xs) = Each (P x) xs × Later P xs
 
 -- Makes x m passed r: from x the move m may pass these states, and be answered r
 module _ {X M R : Type 0} (Makes : X → M → List X → R → Type 0) where
-  -- A list of moves from a state, with the states that each passed, the replies, and the state after them. Each move begins
-  -- where the one before it ended.
+  -- A list of moves from a state, with the states that each passed, the replies, and the state after them. Each move
+  -- begins where the one before it ended.
   abbrev pub Runs : X → List M → List (List X) → List R → X → Type 0
   Runs x [] [] [] after = after ≡ x
   Runs x (m ∷ ms) (passed ∷ rest) (r ∷ rs) after = Makes x m passed r × Runs (last_of x passed) ms rest rs after

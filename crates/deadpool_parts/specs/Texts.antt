@@ -40,8 +40,10 @@ config_error_text config.OutOfMemory = codes "Out of memory"
 
 module _ {E : Type 0} where
   abbrev pub recycle_error_text : (E → Option (List ℕ)) → RecycleError E → Option (List ℕ)
-  recycle_error_text output (recycle.Message text) = Some (codes "Error occurred while recycling an object: " ++ cow_str_bytes text)
-  recycle_error_text output (recycle.Backend cause) = before_cause (codes "Error occurred while recycling an object: ") (output cause)
+  recycle_error_text output (recycle.Message text) =
+      Some (codes "Error occurred while recycling an object: " ++ cow_str_bytes text)
+  recycle_error_text output (recycle.Backend cause) =
+      before_cause (codes "Error occurred while recycling an object: ") (output cause)
 
   -- a hook's text is the cause's alone
   abbrev pub hook_error_text : (E → Option (List ℕ)) → HookError E → Option (List ℕ)
@@ -50,10 +52,13 @@ module _ {E : Type 0} where
 
   abbrev pub pool_error_text : (E → Option (List ℕ)) → PoolError E → Option (List ℕ)
   pool_error_text output (pool.Timeout phase) = Some (timeout_text phase)
-  pool_error_text output (pool.Backend cause) = before_cause (codes "Error occurred while creating a new object: ") (output cause)
+  pool_error_text output (pool.Backend cause) =
+      before_cause (codes "Error occurred while creating a new object: ") (output cause)
   pool_error_text output pool.Closed = Some (codes "Pool has been closed")
   pool_error_text output pool.NoRuntimeSpecified = Some (codes "No runtime specified")
-  pool_error_text output (pool.PostCreateHook cause) = before_cause (codes "`post_create` hook failed: ") (option_map (λ c. c ++ codes "\n") (hook_error_text output cause))
+  pool_error_text output (pool.PostCreateHook cause) =
+      before_cause (codes "`post_create` hook failed: ")
+      (option_map (λ c. c ++ codes "\n") (hook_error_text output cause))
   pool_error_text output pool.OutOfMemory = Some (codes "Out of memory")
   pool_error_text output pool.NumbersExhausted = Some (codes "Object numbers are exhausted")
 

@@ -8,9 +8,11 @@ ghost use Rattle.std.specs.Prelude.{◌≡◌, codes, Some, None, option_map, If
 ghost use Rattle.std.specs.Duration.{as_nanos};
 ghost use Rattle.serde_json.specs.Find.{get};
 ghost use Rattle.serde_json.specs.View.{view};
-ghost use Rattle.deadpool_parts.specs.PoolConfig.{ReadsWritten, mode_name, read_config, read_max_size, read_min_idle, read_queue_mode, settings_of, written_config};
+ghost use Rattle.deadpool_parts.specs.PoolConfig.{ReadsWritten, mode_name, read_config, read_max_size, read_min_idle};
+ghost use Rattle.deadpool_parts.specs.PoolConfig.{read_queue_mode, settings_of, written_config};
 ghost use Rattle.deadpool_parts.specs.Result.{result_map};
-ghost use Rattle.deadpool_parts.specs.Timeouts.{durations_of, number_at, read_duration, read_timeouts, read_timeout, written_timeouts, written_timeout};
+ghost use Rattle.deadpool_parts.specs.Timeouts.{durations_of, number_at, read_duration, read_timeouts, read_timeout};
+ghost use Rattle.deadpool_parts.specs.Timeouts.{written_timeouts, written_timeout};
 
 use crate::config::{PoolConfig, QueueMode, Timeouts};
 use crate::errors::ConfigError;

@@ -1,7 +1,8 @@
 //! Deadlines of the phases of a get or an add, and the runtime that they need.
 ghost use Rattle.std.specs.Prelude.{◌≡◌};
 ghost use Rattle.std.specs.Duration.{as_nanos};
-ghost use Rattle.deadpool_parts.specs.Moments.{deadline_after, is_reached, is_positive, lacks_runtime, cannot_wait, moment_after, nanos_between};
+ghost use Rattle.deadpool_parts.specs.Moments.{deadline_after, is_reached, is_positive, lacks_runtime, cannot_wait};
+ghost use Rattle.deadpool_parts.specs.Moments.{moment_after, nanos_between};
 
 use crate::{Moment, Runtime};
 use std::time::Duration;

@@ -15,8 +15,8 @@ pub trait Clock: Drop {
     /// The present moment.
     fn now(&self) -> Moment;
 
-    /// Wakes the task of `cx` when the moment has come. The alarm is the wait's own: none at first, then what the last call
-    /// left. A call with another moment or in another task moves it.
+    /// Wakes the task of `cx` when the moment has come. The alarm is the wait's own: none at first, then what the last
+    /// call left. A call with another moment or in another task moves it.
     fn wake_at(&self, at: Moment, alarm: &mut Option<Self::Alarm>, cx: &mut Context<'_>)
         ensures { Keeps cx.old cx.new };
 }

@@ -1,12 +1,26 @@
 -- Advances of a get that was not polled, that is in the queue, or that holds a place and nothing else.
-use Rattle.deadpool_replay.proofs.Basics.{◌+◌, cond-true, cond-false, ◌≡◌, ℕ, ◌-◌, ◌<◌, ◌≤◌, List, Bool, true, false, not, ◌&&◌, set, map, refl, sym, ap, ◌∙◌, subst, arith, Option, Some, None, Err, is_none, nat_lt, option_map, eq-eqb, lt-ltb, le-ltb, slice_get, slice_get-map, has_number, without_number, Gives, owner, set-same, owned-set, owned-joins, owned-leaves, granted-renamed, not-true, not-false}
-use Rattle.deadpool_replay.proofs.Words.{Standing, deadline_after, is_reached, is_positive, Moment, Timeouts, PoolError, Timeout, Closed, NoRuntimeSpecified, OutOfMemory, DeskState, desk_places as places, is_listed, desk_unqueued as unqueued, Serves, Does, again_served, Getting, May, Reserve, AfterServed, Pool, unpolled, queued, going, places as pool_places, unqueued as pool_unqueued, fail, advance_at, NobodyWaits, party_of, standing_of, has_ticket, queue_of, IsCounted, given, reply_to, Slot, Stage, Turn, Step, DeskReply, Reply, Fixed, image, get_at, party_at}
+use Rattle.deadpool_replay.proofs.Basics.{◌+◌, cond-true, cond-false, ◌≡◌, ℕ, ◌-◌, ◌<◌, ◌≤◌, List, Bool, true, false}
+use Rattle.deadpool_replay.proofs.Basics.{not, ◌&&◌, set, map, refl, sym, ap, ◌∙◌, subst, arith, Option, Some, None}
+use Rattle.deadpool_replay.proofs.Basics.{Err, is_none, nat_lt, option_map, eq-eqb, lt-ltb, le-ltb, slice_get}
+use Rattle.deadpool_replay.proofs.Basics.{slice_get-map, has_number, without_number, Gives, owner, set-same, owned-set}
+use Rattle.deadpool_replay.proofs.Basics.{owned-joins, owned-leaves, granted-renamed, not-true, not-false}
+use Rattle.deadpool_replay.proofs.Words.{Standing, deadline_after, is_reached, is_positive, Moment, Timeouts, PoolError}
+use Rattle.deadpool_replay.proofs.Words.{Timeout, Closed, NoRuntimeSpecified, OutOfMemory, DeskState}
+use Rattle.deadpool_replay.proofs.Words.{desk_places as places, is_listed, desk_unqueued as unqueued, Serves, Does}
+use Rattle.deadpool_replay.proofs.Words.{again_served, Getting, May, Reserve, AfterServed, Pool, unpolled, queued}
+use Rattle.deadpool_replay.proofs.Words.{going, places as pool_places, unqueued as pool_unqueued, fail, advance_at}
+use Rattle.deadpool_replay.proofs.Words.{NobodyWaits, party_of, standing_of, has_ticket, queue_of, IsCounted, given}
+use Rattle.deadpool_replay.proofs.Words.{reply_to, Slot, Stage, Turn, Step, DeskReply, Reply, Fixed, image, get_at}
+use Rattle.deadpool_replay.proofs.Words.{party_at}
 use Rattle.deadpool_parts.specs.declared.errors.TimeoutType.TheVariants as phase
 use Rattle.deadpool_managed.specs.Stages as stage
 use Rattle.deadpool_managed.specs.declared.get.Turn.TheVariants as turn
 use Rattle.deadpool_replay.specs.declared.moves.Reply.TheVariants as reply
 use Rattle.deadpool_replay.proofs.NumberLists.{without-twice}
-use Rattle.deadpool_replay.proofs.DeskImage.{Owns, NoTicket, queueing, put_off, IsCounted-set, put_off-unqueued, put-queueing, unqueued-none, places-image, put-image, Gives-same, holds_place, ends_quietly, ends_empty, nobody_waits-closed, nobody_waits-unqueued, goes, creates, prepares, lasts}
+use Rattle.deadpool_replay.proofs.DeskImage.{Owns, NoTicket, queueing, put_off, IsCounted-set, put_off-unqueued}
+use Rattle.deadpool_replay.proofs.DeskImage.{put-queueing, unqueued-none, places-image, put-image, Gives-same}
+use Rattle.deadpool_replay.proofs.DeskImage.{holds_place, ends_quietly, ends_empty, nobody_waits-closed}
+use Rattle.deadpool_replay.proofs.DeskImage.{nobody_waits-unqueued, goes, creates, prepares, lasts}
 use Rattle.deadpool_replay.proofs.Serving.{HasLeft, serves}
 
 module _ {M V E C R S F A : Type 0} (may : May V E C R S F A) (fixed : Fixed M F A V E C R S) (n : ℕ) (now : Moment)
@@ -25,16 +39,24 @@ module _ {M V E C R S F A : Type 0} (may : May V E C R S F A) (fixed : Fixed M F
   -- what is to be shown of an advance from one stage to another, if no object is given out
   abbrev Goal : Stage V C R S → DeskState (Slot V) → Stage V C R S → Turn V E → Type 0
   Goal old d s t =
-      Gives may (advance_at (standing_of old) n (party_at own old) now pool) (reply_to t, image fixed d (set gets n (get_at own s)) (given t out))
+      Gives may (advance_at (standing_of old) n (party_at own old) now pool) (
+        reply_to t,
+        image fixed d (set gets n (get_at own s)) (given t out),
+      )
       × IsCounted d (set gets n (get_at own s)) (given t out)
 
   -- a get that is in no queue, and held a place at most, is in no count of the desk without its place
-  place_left : (old : Stage V C R S) (standing : Standing V C R S) (kept : ℕ) (h : slice_get gets n ≡ Some (get_at own old)) → NoTicket (get_at own old) → kept + goes (get_at own old) ≡ core.going
+  place_left : (old : Stage V C R S) (standing : Standing V C R S) (kept : ℕ)
+      (h : slice_get gets n ≡ Some (get_at own old)) → NoTicket (get_at own old)
+      → kept + goes (get_at own old) ≡ core.going
       → creates (get_at own old) ≡ 0 → prepares (get_at own old) ≡ 0 → lasts (get_at own old) ≡ 1
-      → HasLeft fixed n core (record core { going = kept }) gets out own old standing (map (owner has_ticket gets) core.granted) (map (owner has_ticket gets) core.waiting) h k
+      → HasLeft fixed n core (record core { going = kept }) gets out own old standing
+      (map (owner has_ticket gets) core.granted) (map (owner has_ticket gets) core.waiting) h k
   place_left old standing kept h none less creates_none prepares_none lasts_still =
       record {
-        owned = λ s no_new. owned-set has_ticket (queue_of core) gets k.tickets n (get_at own old) (get_at own s) h none no_new;
+        owned =
+            λ s no_new. owned-set has_ticket (queue_of core) gets k.tickets n (get_at own old)
+            (get_at own s) h none no_new;
         named = λ s no_new. put-image fixed core gets out k.tickets n (get_at own old) (get_at own s) h none no_new;
         unqueued = unqueued-none fixed core gets out k.tickets n (get_at own old) None h none;
         going = less;
@@ -50,61 +72,98 @@ module _ {M V E C R S F A : Type 0} (may : May V E C R S F A) (fixed : Fixed M F
     entry_counted : Counted core stage.Finished
     entry_counted =
         IsCounted-set core core gets n (get_at own stage.Unpolled) (get_at own stage.Finished) out out h k
-        (owned-set has_ticket (queue_of core) gets k.tickets n (get_at own stage.Unpolled) (get_at own stage.Finished) h (λ u. refl) (λ u. refl))
+        (owned-set has_ticket (queue_of core) gets k.tickets n (get_at own stage.Unpolled) (get_at own stage.Finished) h
+        (λ u. refl) (λ u. refl))
         record { going = refl; creations = refl; outside = refl; room = omega arith }
 
-    entry_refused : (cause : PoolError E) → ◌≡◌ {A = Reply V E × Pool V C R S F A} (fail n (party_at own stage.Unpolled) cause pool) (reply.Failed cause, after core stage.Finished)
+    entry_refused : (cause : PoolError E)
+        → ◌≡◌ {A = Reply V E × Pool V C R S F A} (fail n (party_at own stage.Unpolled) cause pool) (
+          reply.Failed cause,
+          after core stage.Finished,
+        )
     entry_refused cause =
         ap (λ (q : Pool V C R S F A). (reply.Failed cause, q))
-        (ends_empty fixed core gets out n (get_at own stage.Finished) k nobody (get_at own stage.Unpolled) h (λ u. refl) (λ u. refl) entry_counted)
+        (ends_empty fixed core gets out n (get_at own stage.Finished) k nobody (get_at own stage.Unpolled) h (λ u. refl)
+        (λ u. refl) entry_counted)
 
     module _ (runs : (is_positive own.wait && is_none fixed.environment.runtime) ≡ false) where
       -- the pool is full if the desk is
       full_as : core.limit ≤ places core → nat_lt (pool_places pool) core.limit ≡ false
-      full_as full = le-ltb (pool_places pool) core.limit (subst (λ m. core.limit ≤ m) (sym (places-image fixed core gets out k)) full)
+      full_as full = le-ltb (pool_places pool) core.limit
+          (subst (λ m. core.limit ≤ m) (sym (places-image fixed core gets out k)) full)
 
       -- and has a free place if the desk has one
       free_as : places core < core.limit → nat_lt (pool_places pool) core.limit ≡ true
-      free_as free = lt-ltb (pool_places pool) core.limit (subst (λ m. m < core.limit) (sym (places-image fixed core gets out k)) free)
+      free_as free = lt-ltb (pool_places pool) core.limit
+          (subst (λ m. m < core.limit) (sym (places-image fixed core gets out k)) free)
 
       -- memory may be found for the queue, and may be missing
       module _ (memory : (found : Bool) → may Reserve found) where
         -- an entry that joins the queue
-        entry_waits : (t : ℕ) → core.is_open ≡ true → core.limit ≤ places core → is_reached (deadline_after now own.wait) now ≡ false → is_listed t core ≡ false
+        entry_waits : (t : ℕ) → core.is_open ≡ true → core.limit ≤ places core
+            → is_reached (deadline_after now own.wait) now ≡ false → is_listed t core ≡ false
             → Goal stage.Unpolled (queueing t core) (stage.Queued t (deadline_after now own.wait)) turn.Pending
         entry_waits t is_open full waits fresh =
             let new : Stage V C R S = stage.Queued t (deadline_after now own.wait) in (
-              Gives-same may _ _ _ (cond-false _ _ _ runs ∙ cond-false _ _ _ (ap not is_open) ∙ cond-false _ _ _ (full_as full) ∙ cond-false _ _ _ waits)
-                  (true, (memory true, ap (λ (q : Pool V C R S F A). (reply.Pending, q)) (put-queueing fixed core gets out k.tickets n (get_at own stage.Unpolled) (get_at own new) h t fresh (λ u. refl) (λ u. refl)))),
+              Gives-same may _ _ _
+                  (cond-false _ _ _ runs ∙ cond-false _ _ _ (ap not is_open) ∙ cond-false _ _ _ (full_as full)
+                  ∙ cond-false _ _ _ waits) (
+                    true,
+                    (
+                      memory true,
+                      ap (λ (q : Pool V C R S F A). (reply.Pending, q))
+                          (put-queueing fixed core gets out k.tickets n (get_at own stage.Unpolled)
+                          (get_at own new) h t fresh (λ u. refl) (λ u. refl)),
+                    ),
+                  ),
               IsCounted-set core (queueing t core) gets n (get_at own stage.Unpolled) (get_at own new) out out h k
-                  (owned-joins has_ticket (queue_of core) gets k.tickets n (get_at own stage.Unpolled) (get_at own new) h t fresh (λ u. refl) (λ u. refl))
+                  (owned-joins has_ticket (queue_of core) gets k.tickets n (get_at own stage.Unpolled)
+                  (get_at own new) h t fresh (λ u. refl) (λ u. refl))
                   record { going = refl; creations = refl; outside = refl; room = omega arith },
             )
 
         -- an entry that finds no memory
-        entry_finds_none : core.is_open ≡ true → core.limit ≤ places core → is_reached (deadline_after now own.wait) now ≡ false
+        entry_finds_none : core.is_open ≡ true → core.limit ≤ places core
+            → is_reached (deadline_after now own.wait) now ≡ false
             → Goal stage.Unpolled core stage.Finished (turn.Done (Err OutOfMemory))
         entry_finds_none is_open full waits = (
-          Gives-same may _ _ _ (cond-false _ _ _ runs ∙ cond-false _ _ _ (ap not is_open) ∙ cond-false _ _ _ (full_as full) ∙ cond-false _ _ _ waits) (false, (memory false, entry_refused OutOfMemory)),
+          Gives-same may _ _ _
+              (cond-false _ _ _ runs ∙ cond-false _ _ _ (ap not is_open) ∙ cond-false _ _ _ (full_as full)
+              ∙ cond-false _ _ _ waits) (false, (memory false, entry_refused OutOfMemory)),
           entry_counted,
         )
 
         -- an entry that is served
-        entry_served : (reply : DeskReply) (object : Option (Slot V)) (s : Stage V C R S) (t : Turn V E) → core.is_open ≡ true → places core < core.limit
-            → Serves core None object reply core' → AfterServed (deadline_after now own.wait) reply object s t → Goal stage.Unpolled core' s t
+        entry_served : (reply : DeskReply) (object : Option (Slot V)) (s : Stage V C R S) (t : Turn V E)
+            → core.is_open ≡ true → places core < core.limit
+            → Serves core None object reply core' → AfterServed (deadline_after now own.wait) reply object s t
+            → Goal stage.Unpolled core' s t
         entry_served reply object s t is_open free e a =
-            let all = serves fixed n core core gets out own stage.Unpolled unpolled (map (owner has_ticket gets) core.granted) (map (owner has_ticket gets) core.waiting) h k
+            let all = serves fixed n core core gets out own stage.Unpolled unpolled
+            (map (owner has_ticket gets) core.granted) (map (owner has_ticket gets) core.waiting) h k
             (place_left stage.Unpolled unpolled core.going h (λ u. refl) (omega arith) refl refl refl)
-            core' None (deadline_after now own.wait) reply object s t e a in
-            (Gives-same may _ _ _ (cond-false _ _ _ runs ∙ cond-false _ _ _ (ap not is_open) ∙ cond-true _ _ _ (free_as free)) all.0, all.1)
+            core' None (deadline_after now own.wait) reply object s t e a in (
+              Gives-same may _ _ _
+                  (cond-false _ _ _ runs ∙ cond-false _ _ _ (ap not is_open) ∙ cond-true _ _ _ (free_as free)) all.0,
+              all.1,
+            )
 
-        pub from_entered : (wait : Bool) (reply : DeskReply) (object : Option (Slot V)) (s : Stage V C R S) (t : Turn V E) → wait ≡ not (is_reached (deadline_after now own.wait) now)
-            → Does core (Step.Enter wait) object reply core' → AfterServed (deadline_after now own.wait) reply object s t → Goal stage.Unpolled core' s t
+        pub from_entered : (wait : Bool) (reply : DeskReply) (object : Option (Slot V)) (s : Stage V C R S)
+            (t : Turn V E) → wait ≡ not (is_reached (deadline_after now own.wait) now)
+            → Does core (Step.Enter wait) object reply core'
+            → AfterServed (deadline_after now own.wait) reply object s t → Goal stage.Unpolled core' s t
         from_entered wait DeskReply.Closed None s t w e a =
-            rw (a.0, a.1, e.1) (Gives-same may _ _ _ (cond-false _ _ _ runs ∙ cond-true _ _ _ (ap not e.0)) (entry_refused Closed), entry_counted)
+            rw (a.0, a.1, e.1) (
+              Gives-same may _ _ _ (cond-false _ _ _ runs ∙ cond-true _ _ _ (ap not e.0)) (entry_refused Closed),
+              entry_counted,
+            )
         from_entered wait DeskReply.Full None s t w e a =
-            rw (a.0, a.1, e.3)
-            (Gives-same may _ _ _ (cond-false _ _ _ runs ∙ cond-false _ _ _ (ap not e.0) ∙ cond-false _ _ _ (full_as e.1) ∙ cond-true _ _ _ (not-false _ (sym w ∙ e.2))) (entry_refused (Timeout phase.Wait)), entry_counted)
+            rw (a.0, a.1, e.3) (
+              Gives-same may _ _ _
+                  (cond-false _ _ _ runs ∙ cond-false _ _ _ (ap not e.0) ∙ cond-false _ _ _ (full_as e.1)
+                  ∙ cond-true _ _ _ (not-false _ (sym w ∙ e.2))) (entry_refused (Timeout phase.Wait)),
+              entry_counted,
+            )
         from_entered wait (DeskReply.Waiting ticket) None s t w e a =
             rw (a.0, a.1, e.4) (entry_waits ticket e.0 e.1 (not-true _ (sym w ∙ e.2)) e.3)
         from_entered wait DeskReply.OutOfMemory None s t w e a =
@@ -113,22 +172,31 @@ module _ {M V E C R S F A : Type 0} (may : May V E C R S F A) (fixed : Fixed M F
         from_entered wait reply None s t w e a = entry_served reply None s t e.0 e.1 e.2 a
 
     -- a timeout without a runtime ends a get before its entry
-    pub from_unrun : (s : Stage V C R S) (t : Turn V E) → core' ≡ core → (is_positive own.wait && is_none fixed.environment.runtime) ≡ true → s ≡ stage.Finished → t ≡ turn.Done (Err NoRuntimeSpecified)
+    pub from_unrun : (s : Stage V C R S) (t : Turn V E) → core' ≡ core
+        → (is_positive own.wait && is_none fixed.environment.runtime) ≡ true → s ≡ stage.Finished
+        → t ≡ turn.Done (Err NoRuntimeSpecified)
         → Goal stage.Unpolled core' s t
     from_unrun s t e lacks is_s is_t =
-        rw (is_s, is_t, e) (Gives-same may _ _ _ (cond-true _ _ _ lacks) (entry_refused NoRuntimeSpecified), entry_counted)
+        rw (is_s, is_t, e) (
+          Gives-same may _ _ _ (cond-true _ _ _ lacks) (entry_refused NoRuntimeSpecified),
+          entry_counted,
+        )
 
   module _ (allowance : Option ℕ) (h : slice_get gets n ≡ Some (get_at own (stage.Going allowance))) where
     -- a get that holds a place and nothing else
-    pub from_going : (reply : DeskReply) (object : Option (Slot V)) (s : Stage V C R S) (t : Turn V E) → Does core (Step.Again allowance) object reply core' → AfterServed None reply object s t
+    pub from_going : (reply : DeskReply) (object : Option (Slot V)) (s : Stage V C R S) (t : Turn V E)
+        → Does core (Step.Again allowance) object reply core' → AfterServed None reply object s t
         → Goal (stage.Going allowance) core' s t
     from_going reply object s t e a =
         let one : 1 ≤ core.going = holds_place core gets out k n (get_at own (stage.Going allowance)) h in
-        serves fixed n core (record core { going = core.going - 1 }) gets out own (stage.Going allowance) (going allowance) (map (owner has_ticket gets) core.granted) (map (owner has_ticket gets) core.waiting) h k
-        (place_left (stage.Going allowance) (going allowance) (core.going - 1) h (λ u. refl) (omega (arith, one)) refl refl refl)
+        serves fixed n core (record core { going = core.going - 1 }) gets out own (stage.Going allowance)
+        (going allowance) (map (owner has_ticket gets) core.granted) (map (owner has_ticket gets) core.waiting) h k
+        (place_left (stage.Going allowance) (going allowance) (core.going - 1) h (λ u. refl)
+        (omega (arith, one)) refl refl refl)
         core' allowance None reply object s t (again_served core core' allowance reply object (omega (arith, one)) e) a
 
-  module _ (ticket : ℕ) (deadline : Option Moment) (h : slice_get gets n ≡ Some (get_at own (stage.Queued ticket deadline))) where
+  module _ (ticket : ℕ) (deadline : Option Moment)
+      (h : slice_get gets n ≡ Some (get_at own (stage.Queued ticket deadline))) where
     abbrev waiter : Option (Getting V C R S)
     waiter = get_at own (stage.Queued ticket deadline)
 
@@ -141,29 +209,35 @@ module _ {M V E C R S F A : Type 0} (may : May V E C R S F A) (fixed : Fixed M F
 
     -- its party was granted a place if its ticket was
     tells_granted : has_number n (map (owner has_ticket gets) core.granted) ≡ has_number ticket core.granted
-    tells_granted = granted-renamed has_ticket (queue_of core) gets k.tickets n waiter None h ticket is_ours.1 (λ u. refl)
+    tells_granted =
+        granted-renamed has_ticket (queue_of core) gets k.tickets n waiter None h ticket is_ours.1 (λ u. refl)
 
     -- the pool when it has left the queue
     left_named : (new : Option (Getting V C R S)) → NoTicket new
         → put_off n (party_of new) pool ≡ image fixed without_ticket (set gets n new) out
-    left_named new none = put_off-unqueued fixed core gets out k.tickets n waiter new h ticket is_ours.1 (λ u. refl) none
+    left_named new none =
+        put_off-unqueued fixed core gets out k.tickets n waiter new h ticket is_ours.1 (λ u. refl) none
 
     -- the owners of the other tickets
     left_owned : (new : Option (Getting V C R S)) → NoTicket new → Owns without_ticket (set gets n new)
-    left_owned new none = owned-leaves has_ticket (queue_of core) gets k.tickets n waiter new h ticket is_ours.1 (λ u. refl) none
+    left_owned new none =
+        owned-leaves has_ticket (queue_of core) gets k.tickets n waiter new h ticket is_ours.1 (λ u. refl) none
 
     -- the counts when it ends without a place
     left_counted : Counted without_ticket stage.Finished
     left_counted =
-        IsCounted-set core without_ticket gets n waiter (get_at own stage.Finished) out out h k (left_owned (get_at own stage.Finished) (λ u. refl))
+        IsCounted-set core without_ticket gets n waiter (get_at own stage.Finished) out out h k
+        (left_owned (get_at own stage.Finished) (λ u. refl))
         record { going = refl; creations = refl; outside = refl; room = omega arith }
 
     -- a get in the queue ends without a place
     left_refused : (cause : PoolError E) → NobodyWaits (after without_ticket stage.Finished)
-        → ◌≡◌ {A = Reply V E × Pool V C R S F A} (fail n (party_at own (stage.Queued ticket deadline)) cause pool) (reply.Failed cause, after without_ticket stage.Finished)
+        → ◌≡◌ {A = Reply V E × Pool V C R S F A} (fail n (party_at own (stage.Queued ticket deadline)) cause pool)
+        (reply.Failed cause, after without_ticket stage.Finished)
     left_refused cause quiet =
         ap (λ (q : Pool V C R S F A). (reply.Failed cause, q))
-        (ends_quietly fixed core gets out n (get_at own stage.Finished) without_ticket (left_named (get_at own stage.Finished) (λ u. refl)) quiet)
+        (ends_quietly fixed core gets out n (get_at own stage.Finished) without_ticket
+        (left_named (get_at own stage.Finished) (λ u. refl)) quiet)
 
     -- a get that has left the queue is in no count
     queued_left : HasLeft fixed n core without_ticket gets out own (stage.Queued ticket deadline) (queued deadline)
@@ -184,38 +258,52 @@ module _ {M V E C R S F A : Type 0} (may : May V E C R S F A) (fixed : Fixed M F
         -- it leaves the queue once
         twice : pool_unqueued n (pool_unqueued n pool) ≡ pool_unqueued n pool
         twice =
-            ap (λ ns. record (pool_unqueued n pool) { granted = ns; waiting = without_number n (pool_unqueued n pool).waiting }) (without-twice n (map (owner has_ticket gets) core.granted))
-            ∙ ap (λ ns. record (pool_unqueued n pool) { waiting = ns }) (without-twice n (map (owner has_ticket gets) core.waiting))
+            ap
+            (λ ns. record (pool_unqueued n pool) {
+              granted = ns;
+              waiting = without_number n (pool_unqueued n pool).waiting;
+            })
+            (without-twice n (map (owner has_ticket gets) core.granted))
+            ∙ ap (λ ns. record (pool_unqueued n pool) { waiting = ns })
+            (without-twice n (map (owner has_ticket gets) core.waiting))
 
     -- a get in the queue that is served
-    queued_served : (reply : DeskReply) (object : Option (Slot V)) (s : Stage V C R S) (t : Turn V E) → core.is_open ≡ true → has_number ticket core.granted ≡ true
-        → Serves without_ticket None object reply core' → AfterServed deadline reply object s t → Goal (stage.Queued ticket deadline) core' s t
+    queued_served : (reply : DeskReply) (object : Option (Slot V)) (s : Stage V C R S) (t : Turn V E)
+        → core.is_open ≡ true → has_number ticket core.granted ≡ true
+        → Serves without_ticket None object reply core' → AfterServed deadline reply object s t
+        → Goal (stage.Queued ticket deadline) core' s t
     queued_served reply object s t is_open granted e a =
         let all = serves fixed n core without_ticket gets out own (stage.Queued ticket deadline) (queued deadline)
-        (pool_unqueued n pool).granted (pool_unqueued n pool).waiting h k queued_left core' None deadline reply object s t e a in
+        (pool_unqueued n pool).granted (pool_unqueued n pool).waiting h k queued_left core' None deadline reply object s
+        t e a in
         (cond-false _ _ _ (ap not is_open) ∙ cond-true _ _ _ (tells_granted ∙ granted) ∙ all.0, all.1)
 
     -- a get in the queue
-    pub from_queued : (expired : Bool) (reply : DeskReply) (object : Option (Slot V)) (s : Stage V C R S) (t : Turn V E) → expired ≡ is_reached deadline now
-        → Does core (Step.Ask ticket expired) object reply core' → AfterServed deadline reply object s t → Goal (stage.Queued ticket deadline) core' s t
+    pub from_queued : (expired : Bool) (reply : DeskReply) (object : Option (Slot V)) (s : Stage V C R S) (t : Turn V E)
+        → expired ≡ is_reached deadline now
+        → Does core (Step.Ask ticket expired) object reply core' → AfterServed deadline reply object s t
+        → Goal (stage.Queued ticket deadline) core' s t
     from_queued expired DeskReply.Closed None s t x e a =
         rw (a.0, a.1, e.2) (
           cond-true _ _ _ (ap not e.0)
-              ∙ left_refused Closed (nobody_waits-closed fixed core gets out n (get_at own stage.Finished) without_ticket e.0),
+              ∙ left_refused Closed
+              (nobody_waits-closed fixed core gets out n (get_at own stage.Finished) without_ticket e.0),
           left_counted,
         )
     from_queued expired DeskReply.Expired None s t x e a =
         rw (a.0, a.1, e.4) (
           cond-false _ _ _ (ap not e.0) ∙ cond-false _ _ _ (tells_granted ∙ e.1) ∙ cond-true _ _ _ (sym x ∙ e.3)
               ∙ left_refused (Timeout phase.Wait)
-              (nobody_waits-unqueued fixed core gets out n (get_at own stage.Finished) k nobody waiter h ticket e.1 e.2 left_counted),
+              (nobody_waits-unqueued fixed core gets out n
+              (get_at own stage.Finished) k nobody waiter h ticket e.1 e.2 left_counted),
           left_counted,
         )
     from_queued expired (DeskReply.Waiting same) None s t x e a =
         rw (a.0, a.1, e.4, e.5, set-same gets n waiter h) (
           cond-false _ _ _ (ap not e.0) ∙ cond-false _ _ _ (tells_granted ∙ e.1) ∙ cond-false _ _ _ (sym x ∙ e.3)
               ∙ ap (λ ps. (reply.Pending, record pool { parties = ps }))
-              (set-same (map party_of gets) n (party_of waiter) (slice_get-map party_of gets n ∙ ap (option_map party_of) h)),
+              (set-same (map party_of gets) n (party_of waiter)
+              (slice_get-map party_of gets n ∙ ap (option_map party_of) h)),
           k,
         )
     from_queued expired DeskReply.Unknown None s t x e a =

@@ -1,6 +1,12 @@
 -- How often a number stands in a list, among objects, and among what parties prepare.
-use Rattle.deadpool_replay.proofs.Basics.{◌≡◌, ℕ, ◌+◌, ◌-◌, ◌≤◌, suc, List, [], ◌∷◌, ◌++◌, true, false, length, map, take, drop, get_or, refl, sym, ap, ◌∙◌, subst, arith, inl, inr, Option, Some, length-append, ◌==◌, filter, filter_map, cases_Bool, cond_both, eqb-true, eq-eqb, take_more, take_all, take-append-drop, slice_get_within, get_or_from_slice_get, filter-append, has_number, IsOnce, one_if, length-cond, count_numbered, count-cons_option, count-cons, count-append, is_at}
-use Rattle.deadpool_replay.proofs.Words.{QueueMode, Fifo, Lifo, next_idle, other_idle, find_slot, with_put, slot_number, Slot}
+use Rattle.deadpool_replay.proofs.Basics.{◌≡◌, ℕ, ◌+◌, ◌-◌, ◌≤◌, suc, List, [], ◌∷◌, ◌++◌, true, false, length, map}
+use Rattle.deadpool_replay.proofs.Basics.{take, drop, get_or, refl, sym, ap, ◌∙◌, subst, arith, inl, inr, Option, Some}
+use Rattle.deadpool_replay.proofs.Basics.{length-append, ◌==◌, filter, filter_map, cases_Bool, cond_both, eqb-true}
+use Rattle.deadpool_replay.proofs.Basics.{eq-eqb, take_more, take_all, take-append-drop, slice_get_within}
+use Rattle.deadpool_replay.proofs.Basics.{get_or_from_slice_get, filter-append, has_number, IsOnce, one_if, length-cond}
+use Rattle.deadpool_replay.proofs.Basics.{count_numbered, count-cons_option, count-cons, count-append, is_at}
+use Rattle.deadpool_replay.proofs.Words.{QueueMode, Fifo, Lifo, next_idle, other_idle, find_slot, with_put, with_value}
+use Rattle.deadpool_replay.proofs.Words.{slot_number, Slot}
 
 -- how often the number stands in the list
 abbrev pub times : ℕ → List ℕ → ℕ
@@ -12,7 +18,8 @@ times-cons n x xs = length-cond (x == n) x (filter (λ m. m == n) xs)
 
 -- in two lists together
 pub times-append : (n : ℕ) (xs ys : List ℕ) → times n (xs ++ ys) ≡ times n xs + times n ys
-times-append n xs ys = ap length (filter-append (λ m. m == n) xs ys) ∙ length-append (filter (λ m. m == n) xs) (filter (λ m. m == n) ys)
+times-append n xs ys = ap length (filter-append (λ m. m == n) xs ys)
+    ∙ length-append (filter (λ m. m == n) xs) (filter (λ m. m == n) ys)
 
 -- a number that is not there stands there at no place
 pub times-none : (n : ℕ) (xs : List ℕ) → has_number n xs ≡ false → times n xs ≡ 0
@@ -47,7 +54,8 @@ times-once n (x ∷ xs) once =
 pub once-times : (xs : List ℕ) → ((n : ℕ) → times n xs ≤ 1) → IsOnce xs
 once-times [] h = tt
 once-times (x ∷ xs) h =
-    let others : (n : ℕ) → times n xs ≤ 1 = λ n. let all = h n in let more = times-cons n x xs in omega (arith, all, more) in
+    let others : (n : ℕ) → times n xs ≤ 1 =
+    λ n. let all = h n in let more = times-cons n x xs in omega (arith, all, more) in
     let one : one_if (x == x) ≡ 1 = ap one_if (eq-eqb x x refl) in
     elim (cases_Bool (has_number x xs)) [
       | inl there ↦ let some = times-some x xs there in absurd (omega (arith, h x, times-cons x x xs, one, some))
@@ -62,32 +70,40 @@ module _ {V : Type 0} where
   -- the same by their numbers
   pub times-map : (n : ℕ) (xs : List (Slot V)) → times n (map (λ s. s.number) xs) ≡ held n xs
   times-map n [] = refl
-  times-map n (x ∷ xs) = elim (cases_Bool (x.number == n)) [ inl here ↦ rw here (ap suc (times-map n xs)) | inr other ↦ rw other (times-map n xs) ]
+  times-map n (x ∷ xs) = elim (cases_Bool (x.number == n)) [
+    | inl here ↦ rw here (ap suc (times-map n xs))
+    | inr other ↦ rw other (times-map n xs)
+  ]
 
   -- if one has the number, it is there
   pub has_number-held : (n : ℕ) (xs : List (Slot V)) → 1 ≤ held n xs → has_number n (map (λ s. s.number) xs) ≡ true
   has_number-held n xs some =
       elim (cases_Bool (has_number n (map (λ s. s.number) xs))) [
         | inl there ↦ there
-        | inr gone ↦ let none = times-none n (map (λ s. s.number) xs) gone in let same = times-map n xs in absurd (omega (arith, some, none, same))
+        | inr gone ↦ let none = times-none n (map (λ s. s.number) xs) gone in let same = times-map n xs in
+            absurd (omega (arith, some, none, same))
       ]
 
   -- the object that is served is one of the idle, and the others are left
   pub held-served : (n : ℕ) (mode : QueueMode) (idle : List (Slot V)) (slot : Slot V) → next_idle mode idle ≡ Some slot
       → held n (other_idle mode idle) + one_if (slot.number == n) ≡ held n idle
   held-served n Fifo [] slot h = cc
-  held-served n Fifo (x ∷ xs) slot h = let same : x ≡ slot = cc in let more = count-cons slot_number n slot xs in rw same (omega (arith, more))
+  held-served n Fifo (x ∷ xs) slot h = let same : x ≡ slot = cc in let more = count-cons slot_number n slot xs in
+      rw same (omega (arith, more))
   held-served n Lifo idle slot h =
       let last = length idle - 1 in
       let within = slice_get_within idle last slot h in
       let all : take (last + 1) idle ≡ idle = take_all (last + 1) idle (omega (arith, within)) in
       let here : get_or idle last slot ≡ slot = get_or_from_slice_get idle last slot slot h in
-      let parts : idle ≡ take last idle ++ slot ∷ [] = sym all ∙ take_more idle last slot within ∙ ap (λ x. take last idle ++ x ∷ []) here in
-      let sum : held n idle ≡ held n (take last idle) + held n (slot ∷ []) = ap (held n) parts ∙ count-append slot_number n (take last idle) (slot ∷ []) in
+      let parts : idle ≡ take last idle ++ slot ∷ [] =
+      sym all ∙ take_more idle last slot within ∙ ap (λ x. take last idle ++ x ∷ []) here in
+      let sum : held n idle ≡ held n (take last idle) + held n (slot ∷ []) =
+      ap (held n) parts ∙ count-append slot_number n (take last idle) (slot ∷ []) in
       omega (arith, sum, count-cons slot_number n slot [])
 
   -- one that is found has the number
-  pub find_slot-number : (k : ℕ) (slot : Slot V) (xs : List (Slot V)) → find_slot k xs ≡ Some slot → (slot.number == k) ≡ true
+  pub find_slot-number : (k : ℕ) (slot : Slot V) (xs : List (Slot V)) → find_slot k xs ≡ Some slot
+      → (slot.number == k) ≡ true
   find_slot-number k slot [] h = cc
   find_slot-number k slot (x ∷ xs) h =
       elim (cases_Bool (x.number == k)) [
@@ -100,9 +116,10 @@ module _ {V : Type 0} where
   held-with_put n k v [] = refl
   held-with_put n k v (x ∷ xs) =
       let old = count-cons slot_number n x xs in
-      let put = count-cons slot_number n (record x { value = v }) xs in
+      let put = count-cons slot_number n (with_value v x) xs in
       let later = count-cons slot_number n x (with_put k v xs) in
-      cond_both (x.number == k) _ _ (λ ys. held n ys ≡ held n (x ∷ xs)) (λ here. omega (arith, old, put)) (λ other. omega (arith, old, later, held-with_put n k v xs))
+      cond_both (x.number == k) _ _ (λ ys. held n ys ≡ held n (x ∷ xs)) (λ here. omega (arith, old, put))
+      (λ other. omega (arith, old, later, held-with_put n k v xs))
 
   -- the first so many and the others are all
   pub held-split : (n k : ℕ) (xs : List (Slot V)) → held n (take k xs) + held n (drop k xs) ≡ held n xs
@@ -113,8 +130,10 @@ module _ {V : Type 0} where
   held-drop n k xs = let parts = held-split n k xs in omega (arith, parts)
 
   -- of those that each may hold
-  pub held-filter_map : {X : Type 0} (n : ℕ) (f : X → Option (Slot V)) (xs : List X) → held n (filter_map f xs) ≡ length (filter (λ x. is_at slot_number n (f x)) xs)
+  pub held-filter_map : {X : Type 0} (n : ℕ) (f : X → Option (Slot V)) (xs : List X)
+      → held n (filter_map f xs) ≡ length (filter (λ x. is_at slot_number n (f x)) xs)
   held-filter_map n f [] = refl
   held-filter_map n f (x ∷ xs) =
-      count-cons_option slot_number n (f x) (filter_map f xs) ∙ ap (λ k. one_if (is_at slot_number n (f x)) + k) (held-filter_map n f xs)
+      count-cons_option slot_number n (f x) (filter_map f xs)
+      ∙ ap (λ k. one_if (is_at slot_number n (f x)) + k) (held-filter_map n f xs)
       ∙ sym (length-cond (is_at slot_number n (f x)) x (filter (λ y. is_at slot_number n (f y)) xs))

@@ -1,10 +1,19 @@
 -- The steps of a pool's owner: another limit, a close and handles, and a take, at the desk and in the pool.
-use Rattle.deadpool_replay.proofs.Basics.{eq-eqb, ne_eqb, ◌≡◌, ℕ, ◌+◌, ◌-◌, List, [], Bool, true, false, ◌==◌, length, drop, min, max, refl, ap, ◌∙◌, arith, Option, if◌then◌else◌, append-nil, drop_all, most_handles, ◌≢◌, cond, not, nat_lt, Some, None, Ok, Err, sym, subst, inl, inr, nat_tests, cases_Bool, Gives, Return, ask, ◌>>=◌}
-use Rattle.deadpool_replay.proofs.Words.{DeskState, desk_size as size, settled, desk_given_up as given_up_core, Getting, Pool, places, size as pool_size, settle, given_up, resized, closed, cloned, handle_dropped, IsCounted, Slot, given, Asking, May, Reserve, Does, Resizes, Closes, Clones, DropsHandle, Upgrades, desk_resized as resized_core, find_slot, without_slot, one_step, by_handle, reply_to_take, reply_to_handle, HandleReply, Step, DeskReply, Reply, Fixed, image}
-use Rattle.deadpool_parts.specs.declared.replies.HandleReply.TheVariants as handle
+use Rattle.deadpool_replay.proofs.Basics.{eq-eqb, ◌≡◌, ℕ, ◌+◌, ◌-◌, List, [], Bool, true, false, ◌==◌, length, drop}
+use Rattle.deadpool_replay.proofs.Basics.{min, max, refl, ap, ◌∙◌, arith, Option, if◌then◌else◌, append-nil, drop_all}
+use Rattle.deadpool_replay.proofs.Basics.{most_handles, ◌≢◌, cond, not, nat_lt, Some, None, sym, subst, inl, inr}
+use Rattle.deadpool_replay.proofs.Basics.{nat_tests, cases_Bool, Gives, Return, ask, ◌>>=◌}
+use Rattle.deadpool_replay.proofs.Words.{DeskState, desk_size as size, settled, desk_given_up as given_up_core, Getting}
+use Rattle.deadpool_replay.proofs.Words.{Pool, places, size as pool_size, settle, given_up, resized, closed, cloned}
+use Rattle.deadpool_replay.proofs.Words.{handle_dropped, IsCounted, Slot, given, Asking, May, Reserve, Does}
+use Rattle.deadpool_replay.proofs.Words.{DoesForOwner, desk_resized as resized_core, find_slot, without_slot, one_step}
+use Rattle.deadpool_replay.proofs.Words.{by_handle, move_of, reply_to_take, reply_to_owner, OwnerReply, OwnerStep}
+use Rattle.deadpool_replay.proofs.Words.{Status, Step, DeskReply, Reply, Fixed, image}
+use Rattle.deadpool_desk.specs.declared.owner_step.OwnerReply.TheVariants as owner_reply
+use Rattle.deadpool_desk.specs.declared.owner_step.OwnerStep.TheVariants as owner
 use Rattle.deadpool_replay.specs.declared.moves.Move.TheVariants as move
 use Rattle.deadpool_replay.specs.declared.moves.Reply.TheVariants as reply
-use Rattle.deadpool_replay.proofs.DeskImage.{settles, same_counted, counted_settled, Gives-same}
+use Rattle.deadpool_replay.proofs.DeskImage.{settles, same_counted, counted_settled, pool_status, Gives-same}
 use Rattle.deadpool_replay.proofs.OutObjects.{takes, one_outside}
 use Rattle.deadpool_replay.proofs.TrialSteps.{no_handle, some_handle}
 
@@ -14,17 +23,26 @@ none_free true n m = omega arith
 none_free false n m = refl
 
 module _ {M V E C R S F A : Type 0} (fixed : Fixed M F A V E C R S)
-    (core core' : DeskState (Slot V)) (gets : List (Option (Getting V C R S))) (out : List (Slot V)) (k : IsCounted core gets out) where
-  pub resizes : (n : ℕ) → core' ≡ settled (record core { limit = n; reserve = max core.reserve n; idle = drop (given_up_core n core) core.idle })
+    (core core' : DeskState (Slot V)) (gets : List (Option (Getting V C R S))) (out : List (Slot V))
+    (k : IsCounted core gets out) where
+  pub resizes : (n : ℕ) → core'
+      ≡ settled (record core { limit = n; reserve = max core.reserve n; idle = drop (given_up_core n core) core.idle })
       → (image fixed core' gets out ≡ resized n (image fixed core gets out)) × IsCounted core' gets out
   resizes n e =
       let p : Pool V C R S F A = image fixed core gets out in
-      let core1 : DeskState (Slot V) = record core { limit = n; reserve = max core.reserve n; idle = drop (given_up_core n core) core.idle } in
+      let core1 : DeskState (Slot V) =
+      record core { limit = n; reserve = max core.reserve n; idle = drop (given_up_core n core) core.idle } in
       let counted = same_counted core core1 gets out k refl refl refl refl refl in
       let sizes : size core ≡ pool_size p = omega (arith, k.outside) in
       rw e (
         settles fixed core1 gets out counted
-            ∙ ap (λ (m : ℕ). settle (record p { limit = n; reserve = max core.reserve n; idle = drop (min (m - n) (length core.idle - min core.floor n)) core.idle })) sizes,
+            ∙ ap
+            (λ (m : ℕ).
+            settle (record p {
+              limit = n;
+              reserve = max core.reserve n;
+              idle = drop (min (m - n) (length core.idle - min core.floor n)) core.idle;
+            })) sizes,
         counted_settled core1 gets out counted,
       )
 
@@ -35,23 +53,41 @@ module _ {M V E C R S F A : Type 0} (fixed : Fixed M F A V E C R S)
       let all : given_up 0 p ≡ length core.idle = omega arith in
       let room : max core.reserve 0 ≡ core.reserve = omega arith in
       rw e (
-        rw (room, all, drop_all (length core.idle) core.idle (omega arith), none_free core.is_open (length p.waiting) (places p), append-nil) refl,
+        rw (
+          room,
+          all,
+          drop_all (length core.idle) core.idle (omega arith),
+          none_free core.is_open (length p.waiting) (places p),
+          append-nil,
+        ) refl,
         same_counted core (record core { limit = 0; is_open = false; idle = [] }) gets out k refl refl refl refl refl,
       )
 
   pub clones : core' ≡ record core { handles = min (core.handles + 1) most_handles }
       → (image fixed core' gets out ≡ cloned (image fixed core gets out)) × IsCounted core' gets out
-  clones e = rw e (refl, same_counted core (record core { handles = min (core.handles + 1) most_handles }) gets out k refl refl refl refl refl)
+  clones e =
+      rw e (
+        refl,
+        same_counted core (record core { handles = min (core.handles + 1) most_handles }) gets out k refl refl refl refl
+            refl,
+      )
 
   -- one handle less: the last takes the idle objects with it
-  pub drops_handle : (left : ℕ) → left ≡ (if core.handles == most_handles then most_handles else core.handles - 1) → core' ≡ record core { handles = left; idle = if left == 0 then [] else core.idle }
+  pub drops_handle : (left : ℕ) → left ≡ (if core.handles == most_handles then most_handles else core.handles - 1)
+      → core' ≡ record core { handles = left; idle = if left == 0 then [] else core.idle }
       → (image fixed core' gets out ≡ handle_dropped (image fixed core gets out)) × IsCounted core' gets out
   drops_handle left l e =
       let left' : ℕ = if core.handles == most_handles then most_handles else core.handles - 1 in
-      rw (e, l) (refl, same_counted core (record core { handles = left'; idle = if left' == 0 then [] else core.idle }) gets out k refl refl refl refl refl)
+      rw (e, l) (
+        refl,
+        same_counted core (record core { handles = left'; idle = if left' == 0 then [] else core.idle }) gets out k
+            refl refl refl refl refl,
+      )
 
-module _ {M V E C R S F A : Type 0} (may : May V E C R S F A) (memory : (found : Bool) → may Reserve found) (fixed : Fixed M F A V E C R S)
-    (core core' : DeskState (Slot V)) (gets : List (Option (Getting V C R S))) (out : List (Slot V)) (counted : IsCounted core gets out) where
+module _ {M V E C R S F A : Type 0} (may : May V E C R S F A) (memory : (found : Bool) → may Reserve found)
+    (fixed : Fixed M F A V E C R S)
+    (core core' : DeskState (Slot V)) (gets : List (Option (Getting V C R S))) (out : List (Slot V))
+    (counted : IsCounted core gets out) where
   abbrev before : Pool V C R S F A
   before = image fixed core gets out
 
@@ -59,22 +95,39 @@ module _ {M V E C R S F A : Type 0} (may : May V E C R S F A) (memory : (found :
   after = image fixed core' gets out
 
   -- an object that is out is known
-  pub taken_known : (n : ℕ) (slot : Slot V) (r : DeskReply) → find_slot n out ≡ Some slot → Does core Step.Take None r core' → r ≢ DeskReply.Unknown
+  pub taken_known : (n : ℕ) (slot : Slot V) (r : DeskReply) → find_slot n out ≡ Some slot
+      → Does core Step.Take None r core' → r ≢ DeskReply.Unknown
   taken_known n slot (DeskReply.Taken detach) here t unknown = cc
   taken_known n slot DeskReply.Unknown here t unknown =
       absurd (omega (arith, one_outside core gets out n slot counted here, t.0))
   taken_known n slot _ here t unknown = absurd t
 
-  pub taken : (n : ℕ) (slot : Slot V) (r : DeskReply) (answer : Reply V E) → find_slot n out ≡ Some slot → Does core Step.Take None r core' → Gives may (reply_to_take slot.value r) answer
-      → Gives may (one_step (move.Take n) before) (answer, image fixed core' gets (without_slot n out)) × IsCounted core' gets (without_slot n out)
+  pub taken : (n : ℕ) (slot : Slot V) (r : DeskReply) (answer : Reply V E) → find_slot n out ≡ Some slot
+      → Does core Step.Take None r core' → Gives may (reply_to_take slot.value.value r) answer
+      → Gives may (one_step (move.Take n) before) (answer, image fixed core' gets (without_slot n out))
+      × IsCounted core' gets (without_slot n out)
   taken n slot (DeskReply.Taken true) answer here t given =
       let all = takes fixed core core' gets out n slot counted here t.2 in
       let some = some_handle true core.handles t.1 refl in
-      rw (here, some) ((given.0, (given.1.0, ap (λ (q : Pool V C R S F A). (reply.Taken given.0, q)) (sym all.0) ∙ ap (λ (x : Reply V E). (x, image fixed core' gets (without_slot n out))) given.1.1)), all.1)
+      rw (here, some) (
+        (
+          given.0,
+          (
+            given.1.0,
+            ap (λ (q : Pool V C R S F A). (reply.Taken given.0, q)) (sym all.0)
+                ∙ ap (λ (x : Reply V E). (x, image fixed core' gets (without_slot n out))) given.1.1,
+          ),
+        ),
+        all.1,
+      )
   taken n slot (DeskReply.Taken false) answer here t given =
       let all = takes fixed core core' gets out n slot counted here t.2 in
       let none = no_handle false core.handles t.1 refl in
-      rw (here, none) (ap (λ (q : Pool V C R S F A). (reply.Taken slot.value, q)) (sym all.0) ∙ ap (λ (x : Reply V E). (x, image fixed core' gets (without_slot n out))) given, all.1)
+      rw (here, none) (
+        ap (λ (q : Pool V C R S F A). (reply.Taken slot.value.value, q)) (sym all.0)
+            ∙ ap (λ (x : Reply V E). (x, image fixed core' gets (without_slot n out))) given,
+        all.1,
+      )
   taken n slot DeskReply.Unknown answer here t given =
       absurd (omega (arith, one_outside core gets out n slot counted here, t.0))
   taken n slot _ answer here t given = absurd t
@@ -83,69 +136,111 @@ module _ {M V E C R S F A : Type 0} (may : May V E C R S F A) (memory : (found :
   abbrev resizing : ℕ → Bool → Bool → Asking V E C R S F A (Reply V E × Pool V C R S F A)
   resizing n none open_ =
       cond none (Return (reply.NoHandle, before)) (cond (not open_) (Return (reply.Done, before))
-      (cond (nat_lt before.reserve n) (ask Reserve >>= λ found. Return (cond found (reply.Done, resized n before) (reply.OutOfMemory, before))) (Return (reply.Done, resized n before))))
+      (cond (nat_lt before.reserve n)
+      (ask Reserve >>= λ found. Return (cond found (reply.Done, resized n before) (reply.OutOfMemory, before)))
+      (Return (reply.Done, resized n before))))
 
   grows : (n : ℕ) (b : Bool) → after ≡ resized n before
-      → Gives {A = Reply V E × Pool V C R S F A} may (cond b (ask Reserve >>= λ found. Return (cond found (reply.Done, resized n before) (reply.OutOfMemory, before))) (Return (reply.Done, resized n before))) (reply.Done, after)
+      → Gives {A = Reply V E × Pool V C R S F A} may
+      (cond b
+      (ask Reserve >>= λ found. Return (cond found (reply.Done, resized n before) (reply.OutOfMemory, before)))
+      (Return (reply.Done, resized n before))) (reply.Done, after)
   grows n true is = (true, (memory true, ap (λ (q : Pool V C R S F A). (reply.Done, q)) (sym is)))
   grows n false is = ap (λ (q : Pool V C R S F A). (reply.Done, q)) (sym is)
 
   -- the pool has another limit, if it is open
-  pub resized_ok : (n : ℕ) → (core.handles == 0) ≡ false → Resizes core n (Ok tt) core' → Gives may (one_step (move.Resize n) before) (reply.Done, after) × IsCounted core' gets out
+  resized_ok : (n : ℕ) → (core.handles == 0) ≡ false → DoesForOwner core (owner.Resize n) owner_reply.Done core'
+      → Gives may (one_step (move.Resize n) before) (reply.Done, after) × IsCounted core' gets out
   resized_ok n some r =
       elim (cases_Bool core.is_open) [
         | inl open_ ↦
             let is = r ∙ ap (λ b. cond b (resized_core n core) core) open_ in
-            let all = resizes fixed core core' gets out counted n is in
-            (Gives-same may _ (resizing n false true) _ (ap (λ b. resizing n b core.is_open) some ∙ ap (resizing n false) open_) (grows n (nat_lt before.reserve n) all.0), all.1)
+            let all = resizes fixed core core' gets out counted n is in (
+              Gives-same may _ (resizing n false true) _
+                  (ap (λ b. resizing n b core.is_open) some ∙ ap (resizing n false) open_)
+                  (grows n (nat_lt before.reserve n) all.0),
+              all.1,
+            )
         | inr closed_ ↦
             let is : core' ≡ core = r ∙ ap (λ b. cond b (resized_core n core) core) closed_ in
             let same : before ≡ after = ap (λ (d : DeskState (Slot V)). image fixed d gets out) (sym is) in (
-              Gives-same may _ (resizing n false false) _ (ap (λ b. resizing n b core.is_open) some ∙ ap (resizing n false) closed_) (ap (λ (q : Pool V C R S F A). (reply.Done, q)) same),
+              Gives-same may _ (resizing n false false) _
+                  (ap (λ b. resizing n b core.is_open) some ∙ ap (resizing n false) closed_)
+                  (ap (λ (q : Pool V C R S F A). (reply.Done, q)) same),
               subst (λ (d : DeskState (Slot V)). IsCounted d gets out) (sym is) counted,
             )
       ]
 
   -- and nothing changed if memory was refused
-  pub resized_err : (n : ℕ) (e : _) → (core.handles == 0) ≡ false → Resizes core n (Err e) core' → Gives may (one_step (move.Resize n) before) (reply.OutOfMemory, after) × IsCounted core' gets out
-  resized_err n e some r =
+  resized_err : (n : ℕ) → (core.handles == 0) ≡ false → DoesForOwner core (owner.Resize n) owner_reply.OutOfMemory core'
+      → Gives may (one_step (move.Resize n) before) (reply.OutOfMemory, after) × IsCounted core' gets out
+  resized_err n some r =
       let more : nat_lt before.reserve n ≡ true = grind (arith, nat_tests, r.1) in
       let same : before ≡ after = ap (λ (d : DeskState (Slot V)). image fixed d gets out) (sym r.2) in (
-        Gives-same may _ (resizing n false true) _ (ap (λ b. resizing n b core.is_open) some ∙ ap (resizing n false) r.0)
+        Gives-same may _ (resizing n false true) _
+            (ap (λ b. resizing n b core.is_open) some ∙ ap (resizing n false) r.0)
             (rw more (false, (memory false, ap (λ (q : Pool V C R S F A). (reply.OutOfMemory, q)) same))),
         subst (λ (d : DeskState (Slot V)). IsCounted d gets out) (sym r.2) counted,
       )
 
   -- a step of the owner, who has a handle
-  by_owner : (step : Pool V C R S F A → Pool V C R S F A) → (core.handles == 0) ≡ false → (after ≡ step before) × IsCounted core' gets out
-      → Gives may (Return (by_handle {E = E} (λ q. (reply.Done, step q)) before)) (reply.Done, after) × IsCounted core' gets out
-  by_owner step some all =
-      (ap (λ b. cond b (reply.NoHandle, before) (reply.Done, step before)) some ∙ ap (λ (q : Pool V C R S F A). (reply.Done, q)) (sym all.0), all.1)
+  by_owner : (step : Pool V C R S F A → Pool V C R S F A) → (core.handles == 0) ≡ false
+      → (after ≡ step before) × IsCounted core' gets out
+      → Gives may (Return (by_handle {E = E} (λ q. (reply.Done, step q)) before)) (reply.Done, after)
+      × IsCounted core' gets out
+  by_owner step some all = (
+    ap (λ b. cond b (reply.NoHandle, before) (reply.Done, step before)) some
+        ∙ ap (λ (q : Pool V C R S F A). (reply.Done, q)) (sym all.0),
+    all.1,
+  )
 
+  -- he knows how it stands
+  stands : (status : Status) → (core.handles == 0) ≡ false
+      → DoesForOwner core owner.Status (owner_reply.Stands status) core'
+      → Gives may (one_step move.Status before) (reply.Stands status, after) × IsCounted core' gets out
+  stands status some s = (
+    rw (s.1, s.0, some, pool_status fixed core gets out counted) refl,
+    subst (λ (d : DeskState (Slot V)). IsCounted d gets out) (sym s.1) counted,
+  )
+
+  upgraded : (core.handles == 0) ≡ false → DoesForOwner core owner.Upgrade owner_reply.Done core'
+      → Gives may (one_step move.Upgrade before) (reply.Upgraded true, after) × IsCounted core' gets out
+  upgraded some u =
+      let all = clones fixed core core' gets out counted u.1 in (
+        ap (λ c. cond c (reply.Upgraded false, before) (reply.Upgraded true, cloned before)) some
+            ∙ ap (λ (q : Pool V C R S F A). (reply.Upgraded true, q)) (sym all.0),
+        all.1,
+      )
+
+  -- the pool of an owner has a handle
+  no_owner : {P : Type 0} → (core.handles == 0) ≡ false → core.handles ≡ 0 → P
+  no_owner some none = let is = eq-eqb core.handles 0 none in cc
+
+  -- a step of the owner at the desk is his move
+  pub made_for_owner : (step : OwnerStep) (r : OwnerReply) → (core.handles == 0) ≡ false
+      → DoesForOwner core step r core'
+      → Gives may (one_step (move_of step) before) (reply_to_owner step r, after) × IsCounted core' gets out
+  made_for_owner owner.Status (owner_reply.Stands status) some m = stands status some m
+  made_for_owner (owner.Resize n) owner_reply.Done some m = resized_ok n some m
+  made_for_owner (owner.Resize n) owner_reply.OutOfMemory some m = resized_err n some m
+  made_for_owner owner.Close owner_reply.Done some m = by_owner closed some (closes fixed core core' gets out counted m)
+  made_for_owner owner.CloneHandle owner_reply.Done some m =
+      by_owner cloned some (clones fixed core core' gets out counted m.1)
+  made_for_owner owner.CloneHandle owner_reply.NoHandle some m = no_owner some m.0
+  made_for_owner owner.DropHandle owner_reply.Done some m =
+      by_owner handle_dropped some (drops_handle fixed core core' gets out counted _ refl m.1)
+  made_for_owner owner.DropHandle owner_reply.NoHandle some m = no_owner some m.0
+  made_for_owner owner.Upgrade owner_reply.Done some m = upgraded some m
+  made_for_owner owner.Upgrade owner_reply.NoHandle some m = no_owner some m.0
+  made_for_owner _ _ some m = absurd m
+
+module _ {V E C R S F A : Type 0} (may : May V E C R S F A) (p : Pool V C R S F A) where
   -- nothing has changed for one who has no handle
-  unchanged : (step : Pool V C R S F A → Pool V C R S F A) → core.handles ≡ 0 → core' ≡ core
-      → Gives may (Return (by_handle {E = E} (λ q. (reply.Done, step q)) before)) (reply.NoHandle, after) × IsCounted core' gets out
-  unchanged step none same = (
-    ap (λ b. cond b (reply.NoHandle, before) (reply.Done, step before)) (eq-eqb core.handles 0 none) ∙ ap (λ (d : DeskState (Slot V)). (reply.NoHandle, image fixed d gets out)) (sym same),
-    subst (λ (d : DeskState (Slot V)). IsCounted d gets out) (sym same) counted,
-  )
-
-  pub closed_all : (core.handles == 0) ≡ false → Closes core core' → Gives may (one_step move.Close before) (reply.Done, after) × IsCounted core' gets out
-  closed_all some c = by_owner closed some (closes fixed core core' gets out counted c)
-
-  pub cloned_handle : (r : HandleReply) (answer : Reply V E) → Clones core r core' → answer ≡ reply_to_handle r → Gives may (one_step move.Clone before) (answer, after) × IsCounted core' gets out
-  cloned_handle handle.Done answer c is = rw is (by_owner cloned (ne_eqb core.handles 0 (omega (arith, c.0))) (clones fixed core core' gets out counted c.1))
-  cloned_handle handle.NoHandle answer c is = rw is (unchanged cloned c.0 c.1)
-
-  pub dropped_handle : (r : HandleReply) (answer : Reply V E) → DropsHandle core r core' → answer ≡ reply_to_handle r → Gives may (one_step move.DropHandle before) (answer, after) × IsCounted core' gets out
-  dropped_handle handle.Done answer c is = rw is (by_owner handle_dropped (ne_eqb core.handles 0 (omega (arith, c.0))) (drops_handle fixed core core' gets out counted _ refl c.1))
-  dropped_handle handle.NoHandle answer c is = rw is (unchanged handle_dropped c.0 c.1)
-
-  pub upgraded : (b : Bool) → Upgrades core b core' → Gives may (one_step move.Upgrade before) (reply.Upgraded b, after) × IsCounted core' gets out
-  upgraded true u =
-      let all = clones fixed core core' gets out counted u.1 in
-      (ap (λ c. cond c (reply.Upgraded false, before) (reply.Upgraded true, cloned before)) (ne_eqb core.handles 0 (omega (arith, u.0))) ∙ ap (λ (q : Pool V C R S F A). (reply.Upgraded true, q)) (sym all.0), all.1)
-  upgraded false u = (
-    ap (λ c. cond c (reply.Upgraded false, before) (reply.Upgraded true, cloned before)) (eq-eqb core.handles 0 u.0) ∙ ap (λ (d : DeskState (Slot V)). (reply.Upgraded false, image fixed d gets out)) (sym u.1),
-    subst (λ (d : DeskState (Slot V)). IsCounted d gets out) (sym u.1) counted,
-  )
+  pub without_handle : (step : OwnerStep) → (p.handles == 0) ≡ true
+      → Gives may (one_step (move_of step) p) (reply_to_owner step owner_reply.NoHandle, p)
+  without_handle owner.Status none = rw none refl
+  without_handle (owner.Resize n) none = rw none refl
+  without_handle owner.Close none = rw none refl
+  without_handle owner.CloneHandle none = rw none refl
+  without_handle owner.DropHandle none = rw none refl
+  without_handle owner.Upgrade none = rw none refl

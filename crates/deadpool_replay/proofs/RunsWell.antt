@@ -1,11 +1,19 @@
 -- What is true of every state of every run of a managed pool that begins well, and of each two neighbours.
-use Rattle.deadpool_replay.proofs.Basics.{◌≡◌, ℕ, ◌≤◌, List, false, max, arith, inl, inr, refl, cases_Bool, has_number, all_states, Each, Neighbours}
-pub use Rattle.deadpool_replay.proofs.Words.{WithinReach, EachReply, Moment, May, Pool, size, reach, one_step, PoolRuns, numbers, IsWell, Succeeds, sets_limit, NoneReturns, EachState, EachStep, EachLater, EachMove, EndsWell, StaysWithin, Move, Reply, may, IsEmptyIfClosed, KeepsFloor, LeavesEnough, HasFewIdle, CountsOn, may_leave, OthersStayInPool, OthersStayQueued, OthersStand, IsNumbered, IsOutIfGiven, IsIdleIfKept, IsListedOnce, MarksQueued, KeepsQueue}
+use Rattle.deadpool_replay.proofs.Basics.{◌≡◌, ℕ, ◌≤◌, List, false, max, arith, inl, inr, refl, cases_Bool, has_number}
+use Rattle.deadpool_replay.proofs.Basics.{all_states, Each, Neighbours}
+pub use Rattle.deadpool_replay.proofs.Words.{WithinReach, EachReply, Moment, May, Pool, size, reach, one_step, PoolRuns}
+pub use Rattle.deadpool_replay.proofs.Words.{numbers, IsWell, Succeeds, sets_limit, NoneReturns, EachState, EachStep}
+pub use Rattle.deadpool_replay.proofs.Words.{EachLater, EachMove, EndsWell, StaysWithin, Move, Reply, may}
+pub use Rattle.deadpool_replay.proofs.Words.{IsEmptyIfClosed, KeepsFloor, LeavesEnough, HasFewIdle, CountsOn, may_leave}
+pub use Rattle.deadpool_replay.proofs.Words.{OthersStayInPool, OthersStayQueued, OthersStand, IsNumbered, IsOutIfGiven}
+pub use Rattle.deadpool_replay.proofs.Words.{IsIdleIfKept, IsListedOnce, MarksQueued, KeepsQueue}
 use Rattle.deadpool_replay.specs.declared.moves.Move.TheVariants as move
 use Rattle.deadpool_replay.proofs.Computations.{Always-more}
 use Rattle.deadpool_replay.proofs.AllMoves.{Moved, moved_has}
-use Rattle.deadpool_replay.proofs.Runs.{Each-more, each_of, Neighbours-more, Later-of, Later-more, makes_next, makes_reply, runs_have}
-pub use Rattle.deadpool_replay.proofs.Well.{WellAfter, well_after, moved_well, others_stay, others_stay_queued, opened_well}
+use Rattle.deadpool_replay.proofs.Runs.{Each-more, each_of, Neighbours-more, Later-of, Later-more, makes_next}
+use Rattle.deadpool_replay.proofs.Runs.{makes_reply, runs_have}
+pub use Rattle.deadpool_replay.proofs.Well.{WellAfter, well_after, moved_well, others_stay, others_stay_queued}
+pub use Rattle.deadpool_replay.proofs.Well.{opened_well}
 
 module _ {V C R S F A : Type 0} where
   -- what is gone stays gone, and more numbers were given
@@ -25,36 +33,52 @@ module _ {V C R S F A : Type 0} where
 
 module _ {V E C R S F A : Type 0} (may : May V E C R S F A) where
   -- every state is well, and each succeeds the one before it and is within its reach
-  runs_well : (moves : List (Move V)) (p after : Pool V C R S F A) (passed : List (List (Pool V C R S F A))) (answers : List (Reply V E)) → IsWell p → PoolRuns may p moves passed answers after
-      → Each IsWell (all_states p passed) × Neighbours (λ q r. Succeeds q r × WithinReach q r) (all_states p passed) × IsWell after
+  runs_well : (moves : List (Move V)) (p after : Pool V C R S F A) (passed : List (List (Pool V C R S F A)))
+      (answers : List (Reply V E)) → IsWell p → PoolRuns may p moves passed answers after
+      → Each IsWell (all_states p passed) × Neighbours (λ q r. Succeeds q r × WithinReach q r) (all_states p passed)
+      × IsWell after
   runs_well moves p after passed answers w ran =
       runs_have may (λ m. Unit {0}) IsWell (λ q r. Succeeds q r × WithinReach q r) (λ n now meant. tt)
-      (λ m q meant h. Always-more (WellAfter q) (λ (x : Reply V E × Pool V C R S F A). IsWell x.1 × (Succeeds q x.1 × WithinReach q x.1)) (λ x k. (k.0, (k.1, k.2))) (one_step m q) (moved_well E m q h))
+      (λ m q meant h. Always-more (WellAfter q)
+      (λ (x : Reply V E × Pool V C R S F A). IsWell x.1 × (Succeeds q x.1 × WithinReach q x.1))
+      (λ x k. (k.0, (k.1, k.2))) (one_step m q) (moved_well E m q h))
       moves p after passed answers (each_of (λ m. Unit {0}) (λ m. tt) moves) w ran
 
   -- what follows for a pool that is well
   pub each_state : (P : Pool V C R S F A → Type 0) → ((q : Pool V C R S F A) → IsWell q → P q) → EachState may P
-  each_state P implies moves p after passed answers w ran = Each-more IsWell P implies (all_states p passed) (runs_well moves p after passed answers w ran).0
+  each_state P implies moves p after passed answers w ran =
+      Each-more IsWell P implies (all_states p passed) (runs_well moves p after passed answers w ran).0
 
   -- what follows for one that succeeds another, and is within its reach
-  pub each_step : (P : Pool V C R S F A → Pool V C R S F A → Type 0) → ((q r : Pool V C R S F A) → Succeeds q r × WithinReach q r → P q r) → EachStep may P
-  each_step P implies moves p after passed answers w ran = Neighbours-more (λ q r. Succeeds q r × WithinReach q r) P implies (all_states p passed) (runs_well moves p after passed answers w ran).1
+  pub each_step : (P : Pool V C R S F A → Pool V C R S F A → Type 0)
+      → ((q r : Pool V C R S F A) → Succeeds q r × WithinReach q r → P q r) → EachStep may P
+  each_step P implies moves p after passed answers w ran =
+      Neighbours-more (λ q r. Succeeds q r × WithinReach q r) P implies (all_states p passed)
+      (runs_well moves p after passed answers w ran).1
 
   -- What each move has holds of the states that one move passes, if an advance within a poll is as any other.
-  pub each_move : (P : Move V → Pool V C R S F A → Pool V C R S F A → Type 0) → ((n : ℕ) (now : Moment) (q r : Pool V C R S F A) → P (move.Advance n now) q r → P (move.Poll n now) q r)
-      → ((m : Move V) (p : Pool V C R S F A) (x : Reply V E × Pool V C R S F A) → IsWell p → IsWell x.1 → Moved p m x → P m p x.1) → EachMove may P
+  pub each_move : (P : Move V → Pool V C R S F A → Pool V C R S F A → Type 0)
+      → ((n : ℕ) (now : Moment) (q r : Pool V C R S F A) → P (move.Advance n now) q r → P (move.Poll n now) q r)
+      → ((m : Move V) (p : Pool V C R S F A) (x : Reply V E × Pool V C R S F A) → IsWell p → IsWell x.1 → Moved p m x
+      → P m p x.1) → EachMove may P
   each_move P polls keeps m p passed answer w made =
-      makes_next may (λ l. (q r : Pool V C R S F A) → P l q r → P m q r) IsWell (P m) (λ n now implies q r h. implies q r (polls n now q r h))
+      makes_next may (λ l. (q r : Pool V C R S F A) → P l q r → P m q r) IsWell (P m)
+      (λ n now implies q r h. implies q r (polls n now q r h))
       (λ l q implies h.
       Always-more (Moved q l) (λ (x : Reply V E × Pool V C R S F A). IsWell x.1 × P m q x.1)
-      (λ x k. let after = (well_after l q x h k).0 in (after, implies q x.1 (keeps l q x h after k))) (one_step l q) (moved_has E q h.lawful l))
+      (λ x k. let after = (well_after l q x h k).0 in (after, implies q x.1 (keeps l q x h after k))) (one_step l q)
+      (moved_has E q h.lawful l))
       m p passed answer (λ q r h. h) w made
 
-  pub each_reply : (P : Move V → Reply V E → Pool V C R S F A → Type 0) → ((m : Move V) (p : Pool V C R S F A) (x : Reply V E × Pool V C R S F A) → Moved p m x → P m x.0 x.1) → EachReply may P
+  pub each_reply : (P : Move V → Reply V E → Pool V C R S F A → Type 0)
+      → ((m : Move V) (p : Pool V C R S F A) (x : Reply V E × Pool V C R S F A) → Moved p m x → P m x.0 x.1)
+      → EachReply may P
   each_reply P has m p passed answer w made =
       makes_reply may (λ l. Unit {0}) IsWell (λ q r. Unit {0}) (λ n now meant. tt)
-      (λ l q meant h. Always-more (WellAfter q) (λ (x : Reply V E × Pool V C R S F A). IsWell x.1 × Unit {0}) (λ x k. (k.0, tt)) (one_step l q) (moved_well E l q h)) P
-      (λ l q h. Always-more (Moved q l) (λ (x : Reply V E × Pool V C R S F A). P l x.0 x.1) (has l q) (one_step l q) (moved_has E q h.lawful l)) m p passed answer tt w made
+      (λ l q meant h. Always-more (WellAfter q) (λ (x : Reply V E × Pool V C R S F A). IsWell x.1 × Unit {0})
+      (λ x k. (k.0, tt)) (one_step l q) (moved_well E l q h)) P
+      (λ l q h. Always-more (Moved q l) (λ (x : Reply V E × Pool V C R S F A). P l x.0 x.1) (has l q) (one_step l q)
+      (moved_has E q h.lawful l)) m p passed answer tt w made
 
   pub ends_well : EndsWell may
   ends_well moves p after passed answers w ran = (runs_well moves p after passed answers w ran).2
@@ -63,13 +87,16 @@ module _ {V E C R S F A : Type 0} (may : May V E C R S F A) where
   pub none_returns : EachLater may NoneReturns
   none_returns moves p after passed answers w ran =
       let steps = each_step Leaves (λ q r s. succeeds_leaves q r s.0) moves p after passed answers w ran in
-      Later-more Leaves NoneReturns (λ q r k. k.1) (all_states p passed) (Later-of Leaves leaves_on (all_states p passed) steps)
+      Later-more Leaves NoneReturns (λ q r k. k.1) (all_states p passed)
+      (Later-of Leaves leaves_on (all_states p passed) steps)
 
   -- if a run begins within its limit, and sets none, the size stays within it
   pub stays_within : StaysWithin may
   stays_within moves p after passed answers w within kept ran =
-      let have = runs_have may (λ m. sets_limit m ≡ false) (λ q. IsWell q × (reach q ≤ q.limit)) (λ q r. Unit {0}) (λ n now same. refl)
-      (λ m q same g. Always-more (Moved q m) (λ (x : Reply V E × Pool V C R S F A). (IsWell x.1 × (reach x.1 ≤ x.1.limit)) × Unit {0})
+      let have = runs_have may (λ m. sets_limit m ≡ false) (λ q. IsWell q × (reach q ≤ q.limit)) (λ q r. Unit {0})
+      (λ n now same. refl)
+      (λ m q same g. Always-more (Moved q m)
+      (λ (x : Reply V E × Pool V C R S F A). (IsWell x.1 × (reach x.1 ≤ x.1.limit)) × Unit {0})
       (λ x h.
       let next = well_after m q x g.0 h in
       let before : reach q ≤ q.limit = g.1 in
@@ -77,4 +104,5 @@ module _ {V E C R S F A : Type 0} (may : May V E C R S F A) where
       let limit : x.1.limit ≡ q.limit = h.1.limit same in
       ((next.0, omega (arith, before, reached, limit)), tt)) (one_step m q) (moved_has E q g.0.lawful m))
       moves p after passed answers kept (w, within) ran in
-      Each-more (λ q. IsWell q × (reach q ≤ q.limit)) (λ q. size q ≤ q.limit) (λ q g. let all = g.1 in omega (arith, all)) (all_states p passed) have.0
+      Each-more (λ q. IsWell q × (reach q ≤ q.limit)) (λ q. size q ≤ q.limit)
+      (λ q g. let all = g.1 in omega (arith, all)) (all_states p passed) have.0

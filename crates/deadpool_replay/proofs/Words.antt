@@ -2,12 +2,26 @@
 use Rattle.deadpool_replay.proofs.Basics.{Option, Some}
 pub use Rattle.deadpool_replay.specs.Image.{party_of, standing_of, IsCounted, has_ticket, queue_of, is_under_way, image}
 pub use Rattle.deadpool_replay.specs.Laws.{IsLawful, queue, is_queued, waits_at, MarksQueued}
-pub use Rattle.deadpool_replay.specs.Moves.{one_step, by_party, resize, staying, give_up, retain_with, retain, by_handle, started, put_at, back_at, take_at, NobodyWaits, Polls, is_more, MakesMove, PoolRuns, WithinReach, stays}
-pub use Rattle.deadpool_replay.specs.Party.{created, reviewed, checked, hand_out, advance_at, cancel, advance, enter, inquire, joined, go_on_creating, cancel_with}
-pub use Rattle.deadpool_replay.specs.Pool.{Pool, Party, size, prepared_at, is_going, is_creating, prepared_by, settle, least_idle, unpolled, reach, status_of, grants, places, pending, Standing, queued, going, preparing, goes, creates, creating, recycling, checking, finished, creating_count, opened}
-pub use Rattle.deadpool_replay.specs.RunLaws.{LeavesEnough, IsOutIfGiven, IsIdleIfKept, HasFewIdle, prepared_in, sets_limit, named, may_leave, numbers, places_from, is_preparing, listed, IsListedOnce, EachReply, IsWell, Succeeds, NoneReturns, EachState, EachStep, EachLater, EachMove, EndsWell, StaysWithin, IsNumbered, CountsOn, OthersStayQueued, OthersStand, IsEmptyIfClosed, KeepsFloor, OthersStayInPool, KeepsQueue}
-pub use Rattle.deadpool_replay.specs.Steps.{fail, rest, go_on, with_slot, slot_number, find_slot, without_slot, given_up, resized, with_put, closed, cloned, handle_dropped, removed, unqueued, serve_from, to, serve}
-pub use Rattle.deadpool_replay.specs.TrialFields.{given, reply_to, IsTaken, reply_to_back, reply_to_take, reply_to_handle}
+pub use Rattle.deadpool_replay.specs.Moves.{one_step, by_party, resize, staying, give_up, retain_with, retain}
+pub use Rattle.deadpool_replay.specs.Moves.{by_handle, started, put_at, back_at, take_at, NobodyWaits, Polls, is_more}
+pub use Rattle.deadpool_replay.specs.Moves.{MakesMove, PoolRuns, WithinReach, stays}
+pub use Rattle.deadpool_replay.specs.Party.{created, reviewed, checked, hand_out, advance_at, cancel, advance, enter}
+pub use Rattle.deadpool_replay.specs.Party.{inquire, joined, go_on_creating, cancel_with}
+pub use Rattle.deadpool_replay.specs.Pool.{Pool, Party, size, prepared_at, is_going, is_creating, prepared_by, settle}
+pub use Rattle.deadpool_replay.specs.Pool.{least_idle, unpolled, reach, status_of, grants, places, pending, Standing}
+pub use Rattle.deadpool_replay.specs.Pool.{queued, going, preparing, goes, creates, creating, recycling, checking}
+pub use Rattle.deadpool_replay.specs.Pool.{finished, creating_count, opened}
+pub use Rattle.deadpool_replay.specs.RunLaws.{LeavesEnough, IsOutIfGiven, IsIdleIfKept, HasFewIdle, prepared_in}
+pub use Rattle.deadpool_replay.specs.RunLaws.{sets_limit, named, may_leave, numbers, places_from, is_preparing, listed}
+pub use Rattle.deadpool_replay.specs.RunLaws.{IsListedOnce, EachReply, IsWell, Succeeds, NoneReturns, EachState}
+pub use Rattle.deadpool_replay.specs.RunLaws.{EachStep, EachLater, EachMove, EndsWell, StaysWithin, IsNumbered}
+pub use Rattle.deadpool_replay.specs.RunLaws.{CountsOn, OthersStayQueued, OthersStand, IsEmptyIfClosed, KeepsFloor}
+pub use Rattle.deadpool_replay.specs.RunLaws.{OthersStayInPool, KeepsQueue}
+pub use Rattle.deadpool_replay.specs.Steps.{fail, rest, go_on, with_slot, slot_number, find_slot, without_slot}
+pub use Rattle.deadpool_replay.specs.Steps.{given_up, resized, with_put, closed, cloned, handle_dropped, removed}
+pub use Rattle.deadpool_replay.specs.Steps.{unqueued, serve_from, to, serve}
+pub use Rattle.deadpool_replay.specs.TrialFields.{given, reply_to, IsTaken, reply_to_back, reply_to_take, move_of}
+pub use Rattle.deadpool_replay.specs.TrialFields.{reply_to_owner}
 pub use Rattle.deadpool_replay.specs.declared.moves.Move.{Move}
 pub use Rattle.deadpool_replay.specs.declared.moves.Reply.{Reply}
 pub use Rattle.deadpool_replay.specs.declared.trial.Fixed.{Fixed}
@@ -19,17 +33,27 @@ pub use Rattle.deadpool_managed.proofs.IdleLists.{other_idle-shorter}
 pub use Rattle.deadpool_managed.specs.Answers.{LeavesOrKeeps}
 pub use Rattle.deadpool_managed.specs.Calls.{start, ask_hooks}
 pub use Rattle.deadpool_desk.specs.CoreState.{CoreState}
-pub use Rattle.deadpool_desk.specs.DeskState.{DeskState, settled, places as desk_places, grants as desk_grants, size as desk_size, pending as desk_pending, status_of as desk_status_of, next_idle, other_idle, least_idle as desk_least_idle}
-pub use Rattle.deadpool_desk.specs.DeskSteps.{Does, Serves, GivesUp as DeskGivesUp, is_listed, unqueued as desk_unqueued, given_up as desk_given_up, Resizes, Closes, Clones, DropsHandle, Upgrades, resized as desk_resized}
+pub use Rattle.deadpool_desk.specs.DeskState.{DeskState, settled, places as desk_places, grants as desk_grants}
+pub use Rattle.deadpool_desk.specs.DeskState.{size as desk_size, pending as desk_pending, status_of as desk_status_of}
+pub use Rattle.deadpool_desk.specs.DeskState.{next_idle, other_idle, least_idle as desk_least_idle}
+pub use Rattle.deadpool_desk.specs.DeskSteps.{Does, Serves, GivesUp as DeskGivesUp, is_listed}
+pub use Rattle.deadpool_desk.specs.DeskSteps.{unqueued as desk_unqueued, given_up as desk_given_up, DoesForOwner}
+pub use Rattle.deadpool_desk.specs.DeskSteps.{resized as desk_resized}
 pub use Rattle.deadpool_desk.specs.Replies.{IsReplyTo, Leaves as LeavesInHand}
-pub use Rattle.deadpool_managed.specs.Get.{Made, no_step, making, Makes, AfterServed, AfterCreation, AfterPrepared, AfterChecked, AdvancesCreation, ended_by, CancelsFrom, GivesUp, AdvancesFrom, Advanced, Advances, PollsOver}
+pub use Rattle.deadpool_managed.specs.Get.{Made, no_step, making, Makes, AfterServed, AfterCreation, AfterPrepared}
+pub use Rattle.deadpool_managed.specs.Get.{AfterChecked, AdvancesCreation, ended_by, CancelsFrom, GivesUp, AdvancesFrom}
+pub use Rattle.deadpool_managed.specs.Get.{Advanced, Advances, PollsOver}
 pub use Rattle.deadpool_managed.specs.HookLists.{HookLists}
-pub use Rattle.deadpool_desk.specs.Metrics.{new_metrics}
+pub use Rattle.deadpool_managed.specs.Metrics.{new_metrics}
 pub use Rattle.deadpool_managed.specs.Outside.{May, Asking, may, Reserve, Detach}
-pub use Rattle.deadpool_managed.specs.Prepare.{create, prepare, pre_recycled, begin_recycling, poll_recycling, recycled, post_recycle, post_recycled, post_create, with_value, object_of}
+pub use Rattle.deadpool_managed.specs.Prepare.{create, prepare, pre_recycled, begin_recycling, poll_recycling, recycled}
+pub use Rattle.deadpool_managed.specs.Prepare.{post_recycle, post_recycled, post_create, with_value, object_of}
 pub use Rattle.deadpool_desk.specs.Retained.{Retained}
 pub use Rattle.deadpool_desk.specs.Retains.{Reviews, Retains}
-pub use Rattle.deadpool_managed.specs.Stages.{Getting, Stage, Preparation, PreRecycle, Recycle, PostRecycle, Prepared, Accepted, GivenUp, Pending}
+pub use Rattle.deadpool_managed.specs.Stages.{Getting, Stage, Preparation, PreRecycle, Recycle, PostRecycle, Prepared}
+pub use Rattle.deadpool_managed.specs.Stages.{Accepted, GivenUp, Pending}
+pub use Rattle.deadpool_desk.specs.declared.owner_step.OwnerReply.{OwnerReply}
+pub use Rattle.deadpool_desk.specs.declared.owner_step.OwnerStep.{OwnerStep}
 pub use Rattle.deadpool_desk.specs.declared.step.Held.{Held}
 pub use Rattle.deadpool_desk.specs.declared.step.Reply.{Reply as DeskReply}
 pub use Rattle.deadpool_desk.specs.declared.step.Step.{Step}
@@ -40,17 +64,20 @@ pub use Rattle.deadpool_managed.specs.declared.manager.Manager.{Ghosts as Manage
 pub use Rattle.deadpool_managed.specs.declared.calls.Position.{Position}
 pub use Rattle.deadpool_managed.specs.declared.calls.Verdict.{Verdict}
 pub use Rattle.deadpool_desk.specs.declared.retain.Retainer.{Ghosts as RetainerOf}
-pub use Rattle.deadpool_desk.specs.declared.slot.Slot.{Slot}
+pub use Rattle.deadpool_managed.specs.Slots.{Slot}
+pub use Rattle.deadpool_managed.specs.declared.kept.Kept.{Kept}
 pub use Rattle.deadpool_parts.specs.Moments.{deadline_after, is_reached, lacks_runtime, is_positive}
 pub use Rattle.deadpool_parts.specs.declared.config.QueueMode.{QueueMode}
 pub use Rattle.deadpool_parts.specs.declared.config.QueueMode.TheVariants.{Fifo, Lifo}
 pub use Rattle.deadpool_parts.specs.declared.config.Timeouts.{Timeouts}
 pub use Rattle.deadpool_parts.specs.declared.errors.PoolError.{PoolError}
-pub use Rattle.deadpool_parts.specs.declared.errors.PoolError.TheVariants.{Timeout, Backend, NoRuntimeSpecified, PostCreateHook, Closed, OutOfMemory, NumbersExhausted}
+pub use Rattle.deadpool_parts.specs.declared.errors.PoolError.TheVariants.{Timeout, Backend, NoRuntimeSpecified}
+pub use Rattle.deadpool_parts.specs.declared.errors.PoolError.TheVariants.{PostCreateHook, Closed, OutOfMemory}
+pub use Rattle.deadpool_parts.specs.declared.errors.PoolError.TheVariants.{NumbersExhausted}
 pub use Rattle.deadpool_parts.specs.declared.errors.RecycleError.{RecycleError}
 pub use Rattle.deadpool_parts.specs.declared.moment.Moment.{Moment}
 pub use Rattle.deadpool_parts.specs.declared.moment.Runtime.{Runtime}
-pub use Rattle.deadpool_parts.specs.declared.replies.HandleReply.{HandleReply}
+pub use Rattle.deadpool_parts.specs.declared.status.Status.{Status}
 pub use Rattle.futures.specs.Task.{Keeps}
 pub use Rattle.futures.specs.declared.task.Poll.{Poll}
 

@@ -5,8 +5,9 @@ use Rattle.deadpool_gate.specs.Owners.{owner, IsOwned}
 use Rattle.deadpool_gate.specs.Queue.{Queue}
 use Rattle.deadpool_desk.specs.DeskState.{DeskState}
 use Rattle.deadpool_managed.specs.Stages.{Getting, Stage}
-use Rattle.deadpool_replay.specs.Pool.{Pool, Party, Standing, unpolled, queued, going, creating, recycling, checking, finished, is_going, is_creating, prepared_by}
-use Rattle.deadpool_desk.specs.declared.slot.Slot.{Slot}
+use Rattle.deadpool_replay.specs.Pool.{Pool, Party, Standing, unpolled, queued, going, creating, recycling, checking}
+use Rattle.deadpool_replay.specs.Pool.{finished, is_going, is_creating, prepared_by}
+use Rattle.deadpool_managed.specs.Slots.{Slot}
 use Rattle.deadpool_managed.specs.Stages as stage
 use Rattle.deadpool_replay.specs.declared.trial.Fixed.{Fixed}
 
@@ -48,7 +49,8 @@ module _ {V C R S : Type 0} where
       not_finished _ = true
 
   -- The desk's counts are the lengths of the lists, and the objects out have room if the parties have theirs.
-  pub record IsCounted (d : DeskState (Slot V)) (gets : List (Option (Getting V C R S))) (out : List (Slot V)) : Type 0 where
+  pub record IsCounted (d : DeskState (Slot V)) (gets : List (Option (Getting V C R S))) (out : List (Slot V)) :
+      Type 0 where
     pub tickets : IsOwned has_ticket (queue_of d) gets
     pub going : d.going ≡ length (filter is_going (map party_of gets))
     pub creations : d.creations ≡ length (filter is_creating (map party_of gets))
@@ -56,7 +58,8 @@ module _ {V C R S : Type 0} where
     pub room : length out + length (filter is_under_way gets) ≤ length gets
 
 -- the pool of a desk, of its gets and of the objects out, with what never changes
-abbrev pub image : {M V E C R S F A : Type 0} → Fixed M F A V E C R S → DeskState (Slot V) → List (Option (Getting V C R S)) → List (Slot V) → Pool V C R S F A
+abbrev pub image : {M V E C R S F A : Type 0} → Fixed M F A V E C R S → DeskState (Slot V)
+    → List (Option (Getting V C R S)) → List (Slot V) → Pool V C R S F A
 image fixed d gets out = record {
   limit = d.limit;
   is_open = d.is_open;

@@ -2,7 +2,8 @@
 use Rattle.std.specs.Prelude.{ℕ, Bool, length, Option, Some, None, if◌then◌else◌, slice_get}
 use Rattle.deadpool_gate.specs.Numbers.{has_number}
 use Rattle.deadpool_managed.specs.Prepare.{object_of}
-use Rattle.deadpool_replay.specs.Pool.{Pool, Party, Standing, unpolled, queued, going, creating, recycling, checking, finished, size, places, reach}
+use Rattle.deadpool_replay.specs.Pool.{Pool, Party, Standing, unpolled, queued, going, creating, recycling, checking}
+use Rattle.deadpool_replay.specs.Pool.{finished, size, places, reach}
 use Rattle.deadpool_desk.specs.declared.counts.Counts.{Counts}
 use Rattle.deadpool_replay.specs.declared.look.Look.{Look}
 use Rattle.deadpool_replay.specs.declared.look.Look.TheVariants as look

@@ -1,5 +1,6 @@
 -- The state of a managed pool, in lists. Every count is a length.
-use Rattle.std.specs.Prelude.{ℕ, ◌+◌, ◌-◌, min, max, Bool, true, false, List, [], length, ◌++◌, take, drop, Option, Some, None, if◌then◌else◌}
+use Rattle.std.specs.Prelude.{ℕ, ◌+◌, ◌-◌, min, max, Bool, true, false, List, [], length, ◌++◌, take, drop, Option}
+use Rattle.std.specs.Prelude.{Some, None, if◌then◌else◌}
 use Rattle.std.specs.List.{filter, filter_map}
 use Rattle.deadpool_gate.specs.Numbers.{largest_usize}
 use Rattle.deadpool_parts.specs.declared.moment.Moment.{Moment}
@@ -9,11 +10,12 @@ use Rattle.deadpool_parts.specs.declared.config.Timeouts.{Timeouts}
 use Rattle.deadpool_parts.specs.declared.status.Status.{Status}
 use Rattle.deadpool_managed.specs.HookLists.{HookLists}
 use Rattle.deadpool_managed.specs.Prepare.{object_of}
-use Rattle.deadpool_desk.specs.declared.slot.Slot.{Slot}
+use Rattle.deadpool_managed.specs.Slots.{Slot}
 use Rattle.deadpool_managed.specs.declared.calls.Position.{Position}
 use Rattle.deadpool_managed.specs.Stages.{Preparation}
 
--- Where a party stands. V: the objects' values; C, R: the states of a creation and of a recycling; S: the state of a hook
+-- Where a party stands. V: the objects' values; C, R: the states of a creation and of a recycling; S: the state of a
+-- hook
 pub data Standing (V C R S : Type 0) : Type 0 where
   unpolled : Standing V C R S
   -- among those that wait or were granted a place, until a deadline

@@ -1,5 +1,6 @@
 -- What is true of every state of every run, and of each two neighbours in it.
-use Rattle.std.specs.Prelude.{◌≡◌, ℕ, ◌+◌, not, ◌==◌, take, min, ◌<◌, ◌≤◌, ◌≢◌, Bool, true, false, List, [], ◌∷◌, ◌++◌, length, map, ⊤, Option, Some, None, if◌then◌else◌, is_some, slice_get}
+use Rattle.std.specs.Prelude.{◌≡◌, ℕ, ◌+◌, not, ◌==◌, take, min, ◌<◌, ◌≤◌, ◌≢◌, Bool, true, false, List, [], ◌∷◌, ◌++◌}
+use Rattle.std.specs.Prelude.{length, map, ⊤, Option, Some, None, if◌then◌else◌, is_some, slice_get}
 use Rattle.std.specs.List.{filter, filter_map}
 use Rattle.deadpool_gate.specs.Numbers.{has_number}
 use Rattle.deadpool_gate.specs.Orders.{IsOnce, KeepsOrder}
@@ -9,11 +10,12 @@ use Rattle.deadpool_parts.specs.declared.config.Timeouts.{Timeouts}
 use Rattle.deadpool_parts.specs.declared.moment.Runtime.{Runtime}
 use Rattle.deadpool_managed.specs.HookLists.{HookLists}
 use Rattle.deadpool_managed.specs.Outside.{May}
-use Rattle.deadpool_replay.specs.Pool.{Pool, Party, opened, is_going, is_creating, prepared_by, preparing, size, least_idle, reach}
+use Rattle.deadpool_replay.specs.Pool.{Pool, Party, opened, is_going, is_creating, prepared_by, preparing, size}
+use Rattle.deadpool_replay.specs.Pool.{least_idle, reach}
 use Rattle.deadpool_replay.specs.Steps.{given_up}
 use Rattle.deadpool_replay.specs.Moves.{MakesMove, PoolRuns}
 use Rattle.deadpool_replay.specs.Laws.{IsLawful, queue}
-use Rattle.deadpool_desk.specs.declared.slot.Slot.{Slot}
+use Rattle.deadpool_managed.specs.Slots.{Slot}
 use Rattle.deadpool_replay.specs.declared.moves.Move.{Move}
 use Rattle.deadpool_replay.specs.declared.moves.Move.TheVariants as move
 use Rattle.deadpool_replay.specs.declared.moves.Reply.{Reply}
@@ -36,7 +38,8 @@ module _ {V C R S F A : Type 0} where
 
   -- the parties that wait, were granted a place, hold one and nothing else, create or prepare
   abbrev pub listed : Pool V C R S F A → List ℕ
-  listed p = p.waiting ++ p.granted ++ places_from 0 is_going p.parties ++ places_from 0 is_creating p.parties ++ places_from 0 is_preparing p.parties
+  listed p = p.waiting ++ p.granted ++ places_from 0 is_going p.parties ++ places_from 0 is_creating p.parties
+      ++ places_from 0 is_preparing p.parties
 
   -- no more are idle than the limit
   abbrev pub HasFewIdle : Pool V C R S F A → Type 0
@@ -67,7 +70,8 @@ module _ {V C R S F A : Type 0} where
   pub record CountsOn (p q : Pool V C R S F A) : Type 0 where
     pub first : q.first ≡ p.first
     pub next : p.next ≤ q.next
-    pub new : (n : ℕ) → has_number n (numbers q) ≡ true → has_number n (numbers p) ≡ false → (n ≡ p.next) × (q.next ≡ p.next + 1)
+    pub new : (n : ℕ) → has_number n (numbers q) ≡ true → has_number n (numbers p) ≡ false
+        → (n ≡ p.next) × (q.next ≡ p.next + 1)
 
   -- a number that was given, and stands in no list, stays so
   abbrev pub NoneReturns : Pool V C R S F A → Pool V C R S F A → Type 0
@@ -84,7 +88,8 @@ module _ {V C R S F A : Type 0} where
 
 -- a new pool is well
 abbrev pub OpensWell : (V C R S F A : Type 0) → Type 0
-OpensWell V C R S F A = (limit : ℕ) (mode : QueueMode) (runtime : Option Runtime) (hooks : HookLists F A) (timeouts : Timeouts) (first most floor : ℕ)
+OpensWell V C R S F A = (limit : ℕ) (mode : QueueMode) (runtime : Option Runtime) (hooks : HookLists F A)
+    (timeouts : Timeouts) (first most floor : ℕ)
     → IsWell (opened {V = V} {C = C} {R = R} {S = S} limit mode runtime hooks timeouts first most floor)
 
 -- the move may give the pool another limit
@@ -147,7 +152,8 @@ module _ {V C R S F A : Type 0} where
 
   -- whose number leaves the pool is one of them
   abbrev pub OthersStayInPool : Move V → Pool V C R S F A → Pool V C R S F A → Type 0
-  OthersStayInPool m p q = (n : ℕ) → has_number n (numbers p) ≡ true → has_number n (numbers q) ≡ false → has_number n (map (λ slot. slot.number) (may_leave m p)) ≡ true
+  OthersStayInPool m p q = (n : ℕ) → has_number n (numbers p) ≡ true → has_number n (numbers q) ≡ false
+      → has_number n (map (λ slot. slot.number) (may_leave m p)) ≡ true
 
   -- who leaves the queue is the party that the move names
   abbrev pub OthersStayQueued : Move V → Pool V C R S F A → Pool V C R S F A → Type 0
@@ -155,7 +161,8 @@ module _ {V C R S F A : Type 0} where
 
   -- every other party is as it was
   abbrev pub OthersStand : Move V → Pool V C R S F A → Pool V C R S F A → Type 0
-  OthersStand m p q = (n : ℕ) (party : Option (Party V C R S)) → named m ≢ Some n → slice_get p.parties n ≡ Some party → slice_get q.parties n ≡ Some party
+  OthersStand m p q = (n : ℕ) (party : Option (Party V C R S)) → named m ≢ Some n → slice_get p.parties n ≡ Some party
+      → slice_get q.parties n ≡ Some party
 
   -- how many objects are to stay idle is as it was
   abbrev pub KeepsFloor : Move V → Pool V C R S F A → Pool V C R S F A → Type 0
@@ -181,33 +188,41 @@ module _ {V E C R S F A : Type 0} where
 module _ {V E C R S F A : Type 0} (may : May V E C R S F A) where
   -- P holds of every state of every run that begins well
   abbrev pub EachState : (Pool V C R S F A → Type 0) → Type 0
-  EachState P = (moves : List (Move V)) (p after : Pool V C R S F A) (passed : List (List (Pool V C R S F A))) (answers : List (Reply V E))
+  EachState P = (moves : List (Move V)) (p after : Pool V C R S F A) (passed : List (List (Pool V C R S F A)))
+      (answers : List (Reply V E))
       → IsWell p → PoolRuns may p moves passed answers after → Each P (all_states p passed)
 
   -- P holds of each two neighbours in every such run
   abbrev pub EachStep : (Pool V C R S F A → Pool V C R S F A → Type 0) → Type 0
-  EachStep P = (moves : List (Move V)) (p after : Pool V C R S F A) (passed : List (List (Pool V C R S F A))) (answers : List (Reply V E))
+  EachStep P = (moves : List (Move V)) (p after : Pool V C R S F A) (passed : List (List (Pool V C R S F A)))
+      (answers : List (Reply V E))
       → IsWell p → PoolRuns may p moves passed answers after → Neighbours P (all_states p passed)
 
   -- P holds of each state of every such run and each later one
   abbrev pub EachLater : (Pool V C R S F A → Pool V C R S F A → Type 0) → Type 0
-  EachLater P = (moves : List (Move V)) (p after : Pool V C R S F A) (passed : List (List (Pool V C R S F A))) (answers : List (Reply V E))
+  EachLater P = (moves : List (Move V)) (p after : Pool V C R S F A) (passed : List (List (Pool V C R S F A)))
+      (answers : List (Reply V E))
       → IsWell p → PoolRuns may p moves passed answers after → Later P (all_states p passed)
 
   -- P holds of each two neighbours among a state that is well and those that one move passes from it
   abbrev pub EachMove : (Move V → Pool V C R S F A → Pool V C R S F A → Type 0) → Type 0
-  EachMove P = (m : Move V) (p : Pool V C R S F A) (passed : List (Pool V C R S F A)) (answer : Reply V E) → IsWell p → MakesMove may p m passed answer → Neighbours (P m) (p ∷ passed)
+  EachMove P = (m : Move V) (p : Pool V C R S F A) (passed : List (Pool V C R S F A)) (answer : Reply V E) → IsWell p
+      → MakesMove may p m passed answer → Neighbours (P m) (p ∷ passed)
 
   -- P holds of each move, its reply and the last state that it passes, from a state that is well
   abbrev pub EachReply : (Move V → Reply V E → Pool V C R S F A → Type 0) → Type 0
-  EachReply P = (m : Move V) (p : Pool V C R S F A) (passed : List (Pool V C R S F A)) (answer : Reply V E) → IsWell p → MakesMove may p m passed answer → P m answer (last_of p passed)
+  EachReply P = (m : Move V) (p : Pool V C R S F A) (passed : List (Pool V C R S F A)) (answer : Reply V E) → IsWell p
+      → MakesMove may p m passed answer → P m answer (last_of p passed)
 
   -- every such run ends well
   abbrev pub EndsWell : Type 0
-  EndsWell = (moves : List (Move V)) (p after : Pool V C R S F A) (passed : List (List (Pool V C R S F A))) (answers : List (Reply V E))
+  EndsWell = (moves : List (Move V)) (p after : Pool V C R S F A) (passed : List (List (Pool V C R S F A)))
+      (answers : List (Reply V E))
       → IsWell p → PoolRuns may p moves passed answers after → IsWell after
 
   -- if such a run begins within its limit, and no move sets one, the size stays within it
   abbrev pub StaysWithin : Type 0
-  StaysWithin = (moves : List (Move V)) (p after : Pool V C R S F A) (passed : List (List (Pool V C R S F A))) (answers : List (Reply V E))
-      → IsWell p → reach p ≤ p.limit → Each (λ m. sets_limit m ≡ false) moves → PoolRuns may p moves passed answers after → Each (λ q. size q ≤ q.limit) (all_states p passed)
+  StaysWithin = (moves : List (Move V)) (p after : Pool V C R S F A) (passed : List (List (Pool V C R S F A)))
+      (answers : List (Reply V E))
+      → IsWell p → reach p ≤ p.limit → Each (λ m. sets_limit m ≡ false) moves
+      → PoolRuns may p moves passed answers after → Each (λ q. size q ≤ q.limit) (all_states p passed)

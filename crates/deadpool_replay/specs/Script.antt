@@ -1,9 +1,10 @@
--- Scripts: what is done to a managed pool, line by line, and the reply to each line. The manager and the hooks answer by words
--- that the script gives them.
+-- Scripts: what is done to a managed pool, line by line, and the reply to each line. The manager and the hooks answer
+-- by words that the script gives them.
 --
--- The values are numbers. Each of the pool's three lists has one hook, which may be pending, and no state of a creation, of a
--- recycling or of a hook says anything.
-use Rattle.std.specs.Prelude.{◌≡◌, ℕ, zero, suc, ◌+◌, ◌/◌, ◌%◌, min, Bool, true, List, [], ◌∷◌, ◌++◌, length, map, Option, Some, None, Result, Ok, Err, if◌then◌else◌, codes}
+-- The values are numbers. Each of the pool's three lists has one hook, which may be pending, and no state of a
+-- creation, of a recycling or of a hook says anything.
+use Rattle.std.specs.Prelude.{◌≡◌, ℕ, zero, suc, ◌+◌, ◌/◌, ◌%◌, min, Bool, true, List, [], ◌∷◌, ◌++◌, length, map}
+use Rattle.std.specs.Prelude.{Option, Some, None, Result, Ok, Err, if◌then◌else◌, codes}
 use Rattle.std.specs.Option.{option_map}
 use Rattle.std.specs.declared.alloc.Global.{Global}
 use Rattle.std.specs.declared.borrow.CowStr.{CowStr}
@@ -20,11 +21,12 @@ use Rattle.deadpool_parts.specs.declared.errors.PoolError.{PoolError}
 use Rattle.deadpool_parts.specs.declared.errors.HookError.TheVariants.{Message}
 use Rattle.deadpool_parts.specs.declared.errors.RecycleError.TheVariants.{Backend}
 use Rattle.deadpool_replay.specs.Moves.{one_step, is_more, retain}
-use Rattle.deadpool_managed.specs.Outside.{Question, Answer, Asking, BeginCreation, PollCreation, BeginRecycling, PollRecycling, CallHook, BeginHook, PollHook, Detach, Reserve}
+use Rattle.deadpool_managed.specs.Outside.{Question, Answer, Asking, BeginCreation, PollCreation, BeginRecycling}
+use Rattle.deadpool_managed.specs.Outside.{PollRecycling, CallHook, BeginHook, PollHook, Detach, Reserve}
 use Rattle.deadpool_replay.specs.Pool.{Pool, opened}
 use Rattle.deadpool_replay.specs.Steps.{find_slot}
 use Rattle.deadpool_managed.specs.declared.hooks.Hook.TheVariants.{AsyncFn}
-use Rattle.deadpool_desk.specs.declared.slot.Slot.{Slot}
+use Rattle.deadpool_managed.specs.Slots.{Slot}
 use Rattle.deadpool_replay.specs.declared.moves.Move.{Move}
 use Rattle.deadpool_replay.specs.declared.moves.Move.TheVariants as move
 use Rattle.deadpool_replay.specs.declared.moves.Reply.{Reply}
@@ -126,7 +128,8 @@ ScriptAnswer = Answer ℕ (Unit {0}) (Unit {0}) (Unit {0}) (Unit {0}) (Unit {0})
 abbrev pub outside : Script → (q : ScriptQuestion) → ScriptAnswer q × Script
 outside s BeginCreation = (tt, s)
 outside s (PollCreation c) =
-    let (word, t) = next_word Create s in let (outcome, v) = made word s.value in ((outcome, tt), record t { value = v })
+    let (word, t) = next_word Create s in let (outcome, v) = made word s.value in
+    ((outcome, tt), record t { value = v })
 outside s (BeginRecycling v m) = ((tt, v), s)
 outside s (PollRecycling r v m) =
     let (word, t) = next_word Recycle s in let (outcome, w) = shown (Backend tt) word v in ((outcome, tt, w), t)
@@ -150,9 +153,14 @@ nanoseconds n = record { secs = n / 1000000000; nanos = n % 1000000000 }
 -- timeouts in nanoseconds: of the wait, of the creation and of the recycling
 abbrev pub timeouts_of : Option ℕ → Option ℕ → Option ℕ → Timeouts
 timeouts_of wait create recycle =
-    record { wait = option_map nanoseconds wait; create = option_map nanoseconds create; recycle = option_map nanoseconds recycle }
+    record {
+      wait = option_map nanoseconds wait;
+      create = option_map nanoseconds create;
+      recycle = option_map nanoseconds recycle;
+    }
 
--- one line of a script: a move, or words for calls to come. A retain's move has its numbers in a vector: here they are a list
+-- one line of a script: a move, or words for calls to come. A retain's move has its numbers in a vector: here they are
+-- a list
 pub data Event : Type 0 where
   move_by : Move ℕ → Event
   -- the numbers of the idle objects that are kept
@@ -208,7 +216,7 @@ pub data Line : Type 0 where
   object : ℕ → ℕ → Line
 
 abbrev pub handed : ℕ → Option (Slot ℕ) → Line
-handed n (Some slot) = object n slot.value
+handed n (Some slot) = object n slot.value.value
 handed n None = plain (reply.Object n)
 
 abbrev pub line_of : Reply ℕ (Unit {0}) → ScriptPool → Line
@@ -273,7 +281,11 @@ upgraded found = plain (reply.Upgraded found)
 abbrev pub new_pool_with_floor : ℕ → QueueMode → Option Runtime → ℕ → ℕ → ScriptPool
 new_pool_with_floor limit mode runtime first floor =
     opened limit mode runtime
-    (record { pre_recycle = AsyncFn PreRecycle ∷ []; post_recycle = AsyncFn PostRecycle ∷ []; post_create = AsyncFn PostCreate ∷ [] })
+    (record {
+      pre_recycle = AsyncFn PreRecycle ∷ [];
+      post_recycle = AsyncFn PostRecycle ∷ [];
+      post_create = AsyncFn PostCreate ∷ [];
+    })
     (timeouts_of None None None) first 1024 floor
 
 -- no object has to stay idle
@@ -284,11 +296,12 @@ new_pool limit mode runtime first = new_pool_with_floor limit mode runtime first
 abbrev pub Played : Type 0
 Played = (Reply ℕ (Unit {0}) × ScriptPool) × Script
 
-abbrev pub played : Asking ℕ (Unit {0}) (Unit {0}) (Unit {0}) (Unit {0}) (Unit {0}) Kind (Reply ℕ (Unit {0}) × ScriptPool) → Script → Played
+abbrev pub played : Asking ℕ (Unit {0}) (Unit {0}) (Unit {0}) (Unit {0}) (Unit {0}) Kind
+    (Reply ℕ (Unit {0}) × ScriptPool) → Script → Played
 played step s = respond outside step s
 
--- A poll is advances up to the first that is not answered More, with so many left. It has More for an answer only if these
--- do not suffice.
+-- A poll is advances up to the first that is not answered More, with so many left. It has More for an answer only if
+-- these do not suffice.
 abbrev pub polled : ℕ → ℕ → Moment → ScriptPool → Script → Played
 polled zero n now p s = played (one_step (move.Advance n now) p) s
 polled (suc left) n now p s =

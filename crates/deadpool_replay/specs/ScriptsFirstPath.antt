@@ -3,7 +3,8 @@
 use Rattle.std.specs.Prelude.{[], ◌∷◌, None, refl}
 use Rattle.deadpool_parts.specs.declared.config.QueueMode.TheVariants.{Fifo, Lifo}
 use Rattle.deadpool_parts.specs.declared.errors.PoolError.TheVariants.{NumbersExhausted}
-use Rattle.deadpool_replay.specs.Script.{Plays, ◌⇒◌, new_pool, start, poll, back, status, party, no_such, pending, object, failed, kept, stands}
+use Rattle.deadpool_replay.specs.Script.{Plays, ◌⇒◌, new_pool, start, poll, back, status, party, no_such, pending}
+use Rattle.deadpool_replay.specs.Script.{object, failed, kept, stands}
 
 -- A get makes the first object, which comes back.
 pub first-run : Plays (new_pool 1 Fifo None 0) (
@@ -14,8 +15,8 @@ pub first-run : Plays (new_pool 1 Fifo None 0) (
     status ⇒ stands 1 1 1 0 ∷ [])
 first-run = refl
 
--- A get waits for the only object and has it when it comes back, before a later get. A get that has ended is pending, and no
--- other get than those that were started is there.
+-- A get waits for the only object and has it when it comes back, before a later get. A get that has ended is pending,
+-- and no other get than those that were started is there.
 pub lifo-and-a-waiter : Plays (new_pool 1 Lifo None 5) (
     start ⇒ party 0 ∷
     poll 0 0 ⇒ object 5 0 ∷

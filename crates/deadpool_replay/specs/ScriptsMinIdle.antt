@@ -4,9 +4,13 @@ use Rattle.std.specs.Prelude.{false, [], ◌∷◌, Some, None, refl}
 use Rattle.deadpool_parts.specs.declared.config.QueueMode.TheVariants.{Fifo}
 use Rattle.deadpool_parts.specs.declared.errors.PoolError.TheVariants.{Timeout}
 use Rattle.deadpool_parts.specs.declared.errors.TimeoutType.TheVariants as phase
-use Rattle.deadpool_replay.specs.Script.{Plays, ◌⇒◌, new_pool_with_floor, Stalls, Recycle, start, start_with, poll, back, resize_to, retain_only, close_pool, drop_handle, upgrade_handle, status, answer, party, no_handle, pending, object, failed, ok, kept, detached, dropped, retained, stands, upgraded}
+use Rattle.deadpool_replay.specs.Script.{Plays, ◌⇒◌, new_pool_with_floor, Stalls, Recycle, start, start_with, poll}
+use Rattle.deadpool_replay.specs.Script.{back, resize_to, retain_only, close_pool, drop_handle, upgrade_handle, status}
+use Rattle.deadpool_replay.specs.Script.{answer, party, no_handle, pending, object, failed, ok, kept, detached, dropped}
+use Rattle.deadpool_replay.specs.Script.{retained, stands, upgraded}
 
--- A shrink leaves two idle while the others are out, and a get has no place all the same. A smaller limit leaves one, and a close none.
+-- A shrink leaves two idle while the others are out, and a get has no place all the same. A smaller limit leaves one,
+-- and a close none.
 pub floor-under-shrink-and-retain : Plays (new_pool_with_floor 4 Fifo None 0 2) (
     start ⇒ party 0 ∷
     poll 0 0 ⇒ object 0 0 ∷
@@ -86,7 +90,8 @@ pub floor-above-a-smaller-limit : Plays (new_pool_with_floor 4 Fifo None 0 3) (
     poll 4 0 ⇒ object 2 2 ∷ [])
 floor-above-a-smaller-limit = refl
 
--- One object is under preparation and one is out. The limit of one leaves one idle, and the others are given up as they come back.
+-- One object is under preparation and one is out. The limit of one leaves one idle, and the others are given up as they
+-- come back.
 pub floor-beside-objects-in-use : Plays (new_pool_with_floor 4 Fifo None 0 1) (
     start ⇒ party 0 ∷
     poll 0 0 ⇒ object 0 0 ∷

@@ -4,7 +4,11 @@ use Rattle.std.specs.Prelude.{true, false, [], ◌∷◌, Some, None, refl}
 use Rattle.deadpool_parts.specs.declared.config.QueueMode.TheVariants.{Fifo, Lifo}
 use Rattle.deadpool_parts.specs.declared.errors.PoolError.TheVariants.{Timeout, Closed}
 use Rattle.deadpool_parts.specs.declared.errors.TimeoutType.TheVariants as phase
-use Rattle.deadpool_replay.specs.Script.{Plays, ◌⇒◌, new_pool, Stalls, Refuses, Create, Recycle, start, start_with, advance, poll, cancel, put, back, take_out, resize_to, retain_only, close_pool, status, clone_handle, drop_handle, upgrade_handle, answer, party, no_such, no_handle, more, pending, object, failed, cancelled, ok, kept, detached, dropped, taken, retained, stands, upgraded}
+use Rattle.deadpool_replay.specs.Script.{Plays, ◌⇒◌, new_pool, Stalls, Refuses, Create, Recycle, start, start_with}
+use Rattle.deadpool_replay.specs.Script.{advance, poll, cancel, put, back, take_out, resize_to, retain_only, close_pool}
+use Rattle.deadpool_replay.specs.Script.{status, clone_handle, drop_handle, upgrade_handle, answer, party, no_such}
+use Rattle.deadpool_replay.specs.Script.{no_handle, more, pending, object, failed, cancelled, ok, kept, detached}
+use Rattle.deadpool_replay.specs.Script.{dropped, taken, retained, stands, upgraded}
 
 -- The idle object goes with the last handle.
 pub clone-and-two-drops : Plays (new_pool 1 Fifo None 0) (
@@ -22,8 +26,8 @@ pub clone-and-two-drops : Plays (new_pool 1 Fifo None 0) (
     upgrade_handle ⇒ upgraded false ∷ [])
 clone-and-two-drops = refl
 
--- A close ends the get that waits, and one that comes later. An object that was out is given up when it comes back. A closed
--- pool takes no other limit.
+-- A close ends the get that waits, and one that comes later. An object that was out is given up when it comes back. A
+-- closed pool takes no other limit.
 pub close : Plays (new_pool 1 Fifo None 0) (
     start ⇒ party 0 ∷
     poll 0 0 ⇒ object 0 0 ∷
@@ -311,8 +315,8 @@ pub take : Plays (new_pool 2 Fifo None 0) (
     status ⇒ stands 2 2 2 0 ∷ [])
 take = refl
 
--- Three wait, and a growth by two gives places to the first two, whichever of them is polled first. The third has the place of
--- an object that comes back.
+-- Three wait, and a growth by two gives places to the first two, whichever of them is polled first. The third has the
+-- place of an object that comes back.
 pub growth-grants-two-of-three : Plays (new_pool 1 Lifo None 0) (
     start ⇒ party 0 ∷
     poll 0 0 ⇒ object 0 0 ∷

@@ -4,7 +4,9 @@ use Rattle.std.specs.Prelude.{[], ◌∷◌, None, refl}
 use Rattle.deadpool_parts.specs.declared.config.QueueMode.TheVariants.{Fifo}
 use Rattle.deadpool_parts.specs.declared.errors.PoolError.TheVariants.{Backend, PostCreateHook}
 use Rattle.deadpool_parts.specs.declared.errors.HookError.TheVariants.{Message}
-use Rattle.deadpool_replay.specs.Script.{Plays, ◌⇒◌, new_pool, Fine, Stalls, Refuses, Adds, Create, Recycle, PreRecycle, PostRecycle, PostCreate, refused_text, start, advance, poll, back, status, answer, party, more, pending, object, failed, ok, kept, stands}
+use Rattle.deadpool_replay.specs.Script.{Plays, ◌⇒◌, new_pool, Fine, Stalls, Refuses, Adds, Create, Recycle, PreRecycle}
+use Rattle.deadpool_replay.specs.Script.{PostRecycle, PostCreate, refused_text, start, advance, poll, back, status}
+use Rattle.deadpool_replay.specs.Script.{answer, party, more, pending, object, failed, ok, kept, stands}
 
 -- One object was idle when the poll first took one, so that it takes only one. Its next poll may take another.
 pub allowance-used-up : Plays (new_pool 3 Fifo None 0) (

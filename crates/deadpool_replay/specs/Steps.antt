@@ -1,13 +1,16 @@
 -- The steps of a managed pool that ask nobody.
-use Rattle.std.specs.Prelude.{ℕ, ◌+◌, ◌-◌, min, max, false, List, [], ◌∷◌, length, drop, Option, Some, None, if◌then◌else◌, nat_lt, ◌==◌, slice_set, unwrap_or}
+use Rattle.std.specs.Prelude.{ℕ, ◌+◌, ◌-◌, min, max, false, List, [], ◌∷◌, length, drop, Option, Some, None}
+use Rattle.std.specs.Prelude.{if◌then◌else◌, nat_lt, ◌==◌, slice_set, unwrap_or}
 use Rattle.deadpool_parts.specs.Numbered.{with_numbered, find_numbered, without_numbered}
 use Rattle.deadpool_gate.specs.Numbers.{without_number, largest_usize, most_handles}
 use Rattle.deadpool_parts.specs.declared.errors.PoolError.{PoolError}
 use Rattle.deadpool_parts.specs.declared.errors.PoolError.TheVariants.{NumbersExhausted}
 use Rattle.deadpool_managed.specs.Calls.{start}
 use Rattle.deadpool_desk.specs.DeskState.{next_idle, other_idle}
-use Rattle.deadpool_replay.specs.Pool.{Pool, Party, Standing, going, creating, recycling, finished, creating_count, size, least_idle, settle}
-use Rattle.deadpool_desk.specs.declared.slot.Slot.{Slot}
+use Rattle.deadpool_replay.specs.Pool.{Pool, Party, Standing, going, creating, recycling, finished, creating_count}
+use Rattle.deadpool_replay.specs.Pool.{size, least_idle, settle}
+use Rattle.deadpool_managed.specs.Slots.{Slot}
+use Rattle.deadpool_managed.specs.Prepare.{with_value}
 use Rattle.deadpool_managed.specs.Stages.{PreRecycle}
 use Rattle.deadpool_replay.specs.declared.moves.Reply.{Reply}
 use Rattle.deadpool_replay.specs.declared.moves.Reply.TheVariants.{More, Pending, Failed}
@@ -31,7 +34,7 @@ module _ {V : Type 0} where
   -- the objects, once the one with the number has another value
   abbrev pub with_put : ℕ → V → List (Slot V) → List (Slot V)
   with_put n v [] = []
-  with_put n v (s ∷ ss) = if s.number == n then record s { value = v } ∷ ss else s ∷ with_put n v ss
+  with_put n v (s ∷ ss) = if s.number == n then with_value v s ∷ ss else s ∷ with_put n v ss
 
 module _ {V C R S F A : Type 0} where
   -- the party stands elsewhere
@@ -87,12 +90,14 @@ module _ {V E C R S F A : Type 0} where
   abbrev pub serve_from : Option (Slot V) → ℕ → ℕ → Party V C R S → Pool V C R S F A → Reply V E × Pool V C R S F A
   serve_from (Some slot) allowed n party p =
       if nat_lt 0 allowed
-      then go_on n party (recycling (PreRecycle slot start) (Some (allowed - 1))) (record p { idle = other_idle p.mode p.idle })
+      then go_on n party (recycling (PreRecycle slot start) (Some (allowed - 1)))
+      (record p { idle = other_idle p.mode p.idle })
       else rest n party (going None) p
   serve_from None allowed n party p =
-      if nat_lt (p.next + creating_count p) largest_usize then go_on n party (creating None None) p else fail n party NumbersExhausted p
+      if nat_lt (p.next + creating_count p) largest_usize then go_on n party
+      (creating None None) p else fail n party NumbersExhausted p
 
-  -- A party that holds a place, and stands in no list, is served: an idle object, if one is there and allowed, or a creation.
-  -- An allowance of none is as many as are idle.
+  -- A party that holds a place, and stands in no list, is served: an idle object, if one is there and allowed, or a
+  -- creation. An allowance of none is as many as are idle.
   abbrev pub serve : ℕ → Party V C R S → Option ℕ → Pool V C R S F A → Reply V E × Pool V C R S F A
   serve n party allowance p = serve_from (next_idle p.mode p.idle) (unwrap_or allowance (length p.idle)) n party p

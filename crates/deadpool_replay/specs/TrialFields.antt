@@ -4,16 +4,20 @@ use Rattle.deadpool_gate.specs.Numbers.{has_number}
 use Rattle.deadpool_parts.specs.Program.{Return, ask, ◌>>=◌}
 use Rattle.deadpool_managed.specs.Outside.{Asking, Detach}
 use Rattle.deadpool_replay.specs.Steps.{with_slot}
-use Rattle.deadpool_desk.specs.declared.slot.Slot.{Slot}
+use Rattle.deadpool_managed.specs.Slots.{Slot}
 use Rattle.deadpool_managed.specs.declared.get.Turn.{Turn}
 use Rattle.deadpool_managed.specs.declared.get.Turn.TheVariants.{More, Pending, Done}
-use Rattle.deadpool_parts.specs.declared.replies.HandleReply.{HandleReply}
-use Rattle.deadpool_parts.specs.declared.replies.HandleReply.TheVariants as handle
+use Rattle.deadpool_desk.specs.declared.owner_step.OwnerReply.{OwnerReply}
+use Rattle.deadpool_desk.specs.declared.owner_step.OwnerReply.TheVariants as owner_reply
+use Rattle.deadpool_desk.specs.declared.owner_step.OwnerStep.{OwnerStep}
+use Rattle.deadpool_desk.specs.declared.owner_step.OwnerStep.TheVariants as owner
 use Rattle.deadpool_desk.specs.declared.step.Reply.{Reply as DeskReply}
 use Rattle.deadpool_managed.specs.declared.kind.StageKind.{StageKind}
 use Rattle.deadpool_managed.specs.declared.kind.StageKind.TheVariants as kind
 use Rattle.deadpool_replay.specs.declared.look.Look.{Look}
 use Rattle.deadpool_replay.specs.declared.look.Look.TheVariants as look
+use Rattle.deadpool_replay.specs.declared.moves.Move.{Move}
+use Rattle.deadpool_replay.specs.declared.moves.Move.TheVariants as move
 use Rattle.deadpool_replay.specs.declared.moves.Reply.{Reply}
 use Rattle.deadpool_replay.specs.declared.moves.Reply.TheVariants as reply
 
@@ -44,7 +48,7 @@ module _ {V E C R S F A : Type 0} where
   abbrev pub reply_to_back : DeskReply → Option (Slot V) → Asking V E C R S F A (Reply V E)
   reply_to_back DeskReply.Kept hand = Return reply.Kept
   reply_to_back DeskReply.Dropped hand = Return reply.Dropped
-  reply_to_back DeskReply.Detach (Some slot) = ask (Detach slot.value) >>= λ left. Return reply.Detached
+  reply_to_back DeskReply.Detach (Some slot) = ask (Detach slot.value.value) >>= λ left. Return reply.Detached
   reply_to_back _ hand = Return reply.NoSuch
 
   -- an object that has left the pool is detached while the pool has a handle
@@ -53,10 +57,23 @@ module _ {V E C R S F A : Type 0} where
   reply_to_take value (DeskReply.Taken false) = Return (reply.Taken value)
   reply_to_take value _ = Return reply.NoSuch
 
--- a step that needs a handle is done, or there is none
-abbrev pub reply_to_handle : {V E : Type 0} → HandleReply → Reply V E
-reply_to_handle handle.Done = reply.Done
-reply_to_handle handle.NoHandle = reply.NoHandle
+-- the move that makes a step of the owner
+abbrev pub move_of : {V : Type 0} → OwnerStep → Move V
+move_of owner.Status = move.Status
+move_of (owner.Resize limit) = move.Resize limit
+move_of owner.Close = move.Close
+move_of owner.CloneHandle = move.Clone
+move_of owner.DropHandle = move.DropHandle
+move_of owner.Upgrade = move.Upgrade
+
+-- the reply to it: an upgrade says whether a handle was left
+abbrev pub reply_to_owner : {V E : Type 0} → OwnerStep → OwnerReply → Reply V E
+reply_to_owner owner.Upgrade owner_reply.Done = reply.Upgraded true
+reply_to_owner owner.Upgrade owner_reply.NoHandle = reply.Upgraded false
+reply_to_owner _ (owner_reply.Stands status) = reply.Stands status
+reply_to_owner _ owner_reply.Done = reply.Done
+reply_to_owner _ owner_reply.OutOfMemory = reply.OutOfMemory
+reply_to_owner _ owner_reply.NoHandle = reply.NoHandle
 
 -- what is seen of a get at a stage; one in the queue by the tickets that were granted a place
 abbrev pub look_as : List ℕ → StageKind → Look

@@ -1,8 +1,12 @@
-//! What is true of every state of every run from a pool that is well, of each two neighbours in it, and of each move, whatever
-//! the manager and the hooks answer. A function here does nothing: its contract is the law.
+//! What is true of every state of every run from a pool that is well, of each two neighbours in it, and of each move,
+//! whatever the manager and the hooks answer. A function here does nothing: its contract is the law.
 ghost use Rattle.deadpool_replay.specs.Laws.{MarksQueued};
 ghost use Rattle.deadpool_managed.specs.Outside.{may};
-ghost use Rattle.deadpool_replay.specs.RunLaws.{OpensWell, EachState, EachStep, EachLater, EachMove, EachReply, EndsWell, StaysWithin, HasFewIdle, IsEmptyIfClosed, IsNumbered, CountsOn, NoneReturns, KeepsQueue, OthersStayInPool, OthersStayQueued, OthersStand, KeepsFloor, LeavesEnough, IsOutIfGiven, IsIdleIfKept, IsListedOnce};
+ghost use Rattle.deadpool_replay.specs.RunLaws.{OpensWell, EachState, EachStep, EachLater, EachMove, EachReply};
+ghost use Rattle.deadpool_replay.specs.RunLaws.{EndsWell, StaysWithin, HasFewIdle, IsEmptyIfClosed, IsNumbered};
+ghost use Rattle.deadpool_replay.specs.RunLaws.{CountsOn, NoneReturns, KeepsQueue, OthersStayInPool, OthersStayQueued};
+ghost use Rattle.deadpool_replay.specs.RunLaws.{OthersStand, KeepsFloor, LeavesEnough, IsOutIfGiven, IsIdleIfKept};
+ghost use Rattle.deadpool_replay.specs.RunLaws.{IsListedOnce};
 
 use deadpool_managed::{AsyncHook, Manager, SyncHook};
 
@@ -27,8 +31,8 @@ pub fn closed_is_empty<M: Manager, F: SyncHook<M>, A: AsyncHook<M>>()
         → EachState (may M.Manager F.SyncHook A.AsyncHook manager) IsEmptyIfClosed }
 {}
 
-/// No number stands twice among the objects that are idle, under preparation or out, and only numbers from the first up to but
-/// not including the next stand there.
+/// No number stands twice among the objects that are idle, under preparation or out, and only numbers from the first up
+/// to but not including the next stand there.
 pub fn numbers_stand_once<M: Manager, F: SyncHook<M>, A: AsyncHook<M>>()
     ensures { (manager : M) → EachState (may M.Manager F.SyncHook A.AsyncHook manager) IsNumbered }
 {}
@@ -41,16 +45,17 @@ pub fn new_object_has_next<M: Manager, F: SyncHook<M>, A: AsyncHook<M>>()
         → EachLater (may M.Manager F.SyncHook A.AsyncHook manager) NoneReturns }
 {}
 
-/// An object leaves the pool only by a move that may take it: by an advance, a poll or a cancel of the party that prepares it,
-/// by its own return or take, by a smaller limit, which takes those at the front and none that is to stay idle, a close or the drop of the last handle while it is idle, or by a retain
-/// that does not keep it. A poll is looked at advance by advance.
+/// An object leaves the pool only by a move that may take it: by an advance, a poll or a cancel of the party that
+/// prepares it, by its own return or take, by a smaller limit, which takes those at the front and none that is to stay
+/// idle, a close or the drop of the last handle while it is idle, or by a retain that does not keep it. A poll is
+/// looked at advance by advance.
 pub fn no_object_is_lost<M: Manager, F: SyncHook<M>, A: AsyncHook<M>>()
     ensures { (manager : M)
         → EachMove (may M.Manager F.SyncHook A.AsyncHook manager) OthersStayInPool }
 {}
 
-/// How many objects are to stay idle never changes. A resize and a retain leave as many idle, as far as the limit after them
-/// allows, if as many were. A poll is looked at advance by advance.
+/// How many objects are to stay idle never changes. A resize and a retain leave as many idle, as far as the limit after
+/// them allows, if as many were. A poll is looked at advance by advance.
 pub fn enough_stay_idle<M: Manager, F: SyncHook<M>, A: AsyncHook<M>>()
     ensures floor { (manager : M)
         → EachMove (may M.Manager F.SyncHook A.AsyncHook manager) KeepsFloor }
@@ -66,8 +71,8 @@ pub fn object_is_where_said<M: Manager, F: SyncHook<M>, A: AsyncHook<M>>()
         → EachReply (may M.Manager F.SyncHook A.AsyncHook manager) IsIdleIfKept }
 {}
 
-/// Those that were granted a place and those that wait are those that stand as queued: no get that waits drops out of the
-/// queue, and nobody else is in it.
+/// Those that were granted a place and those that wait are those that stand as queued: no get that waits drops out of
+/// the queue, and nobody else is in it.
 pub fn queue_has_the_queued<M: Manager, F: SyncHook<M>, A: AsyncHook<M>>()
     ensures { (manager : M) → EachState (may M.Manager F.SyncHook A.AsyncHook manager) MarksQueued }
 {}

@@ -19,7 +19,8 @@ mod seen;
 use crate::{Move, Reply};
 use deadpool_builder::{OpenPool, PoolBuilder};
 use deadpool_managed::{
-    AsyncHook, BuildError, Core, Environment, GetState, Manager, Slot, SyncHook, Timeouts,
+    AsyncHook, BuildError, Core, Environment, GetState, Kept, Manager, OwnerStep, Slot, SyncHook,
+    Timeouts,
 };
 use deadpool_parts::tables::append;
 use futures::task::Context;
@@ -37,16 +38,16 @@ struct Fixed<M: Manager, F: SyncHook<M>, A: AsyncHook<M>> {
     first: usize,
 }
 
-/// A managed pool on one thread, with its parties and the objects that are out. The clock of its builder is kept and not
-/// asked: each move says its moment.
+/// A managed pool on one thread, with its parties and the objects that are out. The clock of its builder is kept and
+/// not asked: each move says its moment.
 #[derive(Drop)]
 pub struct Trial<M: Manager, F: SyncHook<M>, A: AsyncHook<M>, C: Drop> {
     fixed: Fixed<M, F, A>,
-    core: Core<M::Type>,
+    core: Core<Kept<M::Type>>,
     // By number; none if the party was cancelled.
     parties: Vec<Option<GetState<M, A>>>,
     // By rising number.
-    out: Vec<Slot<M::Type>>,
+    out: Vec<Slot<Kept<M::Type>>>,
     clock: C,
     alloc: Global,
 }
@@ -60,7 +61,10 @@ impl<M: Manager, F: SyncHook<M>, A: AsyncHook<M>, C: Drop> Model for Trial<M, F,
     ghost use Rattle.deadpool_replay.specs.Image.{image, IsCounted};
     ghost use Rattle.deadpool_replay.specs.RunLaws.{IsWell};
 
-    ghost view = { λ t. record { pool = image t.fixed t.core.desk t.parties.items t.out.items; manager = t.fixed.environment.manager } };
+    ghost view = { λ t. record {
+      pool = image t.fixed t.core.desk t.parties.items t.out.items;
+      manager = t.fixed.environment.manager;
+    } };
 
     ghost invariant = { λ t. record {
       counted : IsCounted t.core.desk t.parties.items t.out.items;
@@ -118,16 +122,16 @@ impl<M: Manager, F: SyncHook<M>, A: AsyncHook<M>, C: Drop> Trial<M, F, A, C> {
     /// What value an object has, if it is out.
     pub fn value(&self, number: usize) -> Option<&M::Type>
         ensures { option_map (λ v. v.now) result
-            ≡ option_map (λ s. s.value) (find_slot number self.now.pool.out) }
+            ≡ option_map (λ s. s.value.value) (find_slot number self.now.pool.out) }
     {
         self.out
             .iter()
             .find(|slot| slot.number == number)
-            .map(|slot| &slot.value)
+            .map(|slot| &slot.value.value)
     }
 
-    /// Makes the moves in turn, and gives the reply to each. If there is no memory for so many replies, no move is made,
-    /// and all of them come back.
+    /// Makes the moves in turn, and gives the reply to each. If there is no memory for so many replies, no move is
+    /// made, and all of them come back.
     pub fn run(
         &mut self,
         moves: Vec<Move<M::Type>>,
@@ -177,13 +181,13 @@ impl<M: Manager, F: SyncHook<M>, A: AsyncHook<M>, C: Drop> Trial<M, F, A, C> {
             Move::Put(number, value) => self.put(number, value),
             Move::Back(number) => self.back(number),
             Move::Take(number) => self.take(number),
-            Move::Resize(limit) => self.resize(limit),
             Move::Retain(kept) => self.retain(&kept),
-            Move::Close => self.close(),
-            Move::Status => self.status(),
-            Move::Clone => self.clone_handle(),
-            Move::DropHandle => self.drop_handle(),
-            Move::Upgrade => self.upgrade(),
+            Move::Resize(limit) => self.make_for_owner(&OwnerStep::Resize { limit }),
+            Move::Close => self.make_for_owner(&OwnerStep::Close),
+            Move::Status => self.make_for_owner(&OwnerStep::Status),
+            Move::Clone => self.make_for_owner(&OwnerStep::CloneHandle),
+            Move::DropHandle => self.make_for_owner(&OwnerStep::DropHandle),
+            Move::Upgrade => self.make_for_owner(&OwnerStep::Upgrade),
         }
     }
 }

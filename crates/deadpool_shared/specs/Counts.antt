@@ -1,6 +1,8 @@
 -- The three counts of a pool, and what one holder has of them.
 use Rattle.std.specs.Prelude.{ℕ, ◌+◌, ◌-◌, ◌≤◌, ⊤, Option, Some, None}
 use Rattle.deadpool_journal.specs.Journaling.{Journaling}
+use Rattle.deadpool_managed.specs.Held.{held_at}
+use Rattle.deadpool_managed.specs.Stages.{Stage}
 use Rattle.deadpool_desk.specs.declared.step.Holding.{Holding}
 use Rattle.deadpool_desk.specs.declared.step.Holding.TheVariants as holding
 use Rattle.deadpool_desk.specs.declared.step.Reply.{Reply}
@@ -34,10 +36,16 @@ abbrev pub had : Option Counts → Counts
 had (Some c) = c
 had None = counts 0 0 0
 
+-- what a get holds at a stage, until it has ended and lost its home
+abbrev pub held_by : {H V C R S : Type 0} → Option H → Stage V C R S → Holding
+held_by (Some home) stage = held_at stage
+held_by None stage = holding.Nothing
+
 -- the counts of all holders after one of them has something else
 abbrev pub shifted : Holding → Holding → Counts → Counts
 shifted old new c =
-    counts (c.going - (counts_of old).going + (counts_of new).going) (c.creations - (counts_of old).creations + (counts_of new).creations)
+    counts (c.going - (counts_of old).going + (counts_of new).going)
+    (c.creations - (counts_of old).creations + (counts_of new).creations)
     (c.outside - (counts_of old).outside + (counts_of new).outside)
 
 -- the counts of a pool

@@ -32,16 +32,20 @@ module _ {T : Type 0} where
   abbrev pub joins : Step → Journaling T → Bool
   joins step j = may_wait step && (j.core.desk.is_open && nat_le j.core.desk.limit (places j.core.desk))
 
-  -- A step is made, and the wakers go with it. Of a new get that has to join the queue there is a place for its waker before, in
-  -- which the waker stands if the get waits. Or there is no memory for that place, and no step is made.
-  abbrev pub MakesLocked : {W : Type 0} → Journaling T → List (Option W) → Step → Option (Slot T) → Option W → Reply → Option (Slot T) → Journaling T → List (Option W) → Option W → Option W → Type 0
+  -- A step is made, and the wakers go with it. Of a new get that has to join the queue there is a place for its waker
+  -- before, in which the waker stands if the get waits. Or there is no memory for that place, and no step is made.
+  abbrev pub MakesLocked : {W : Type 0} → Journaling T → List (Option W) → Step → Option (Slot T) → Option W → Reply
+      → Option (Slot T) → Journaling T → List (Option W) → Option W → Option W → Type 0
   MakesLocked j wakers step was waker reply hand j' wakers' waker' spare =
       (MakesNoted j step was reply hand j'
-      × Follows (ticket_of step) (ticket_after reply) (if joins step j then with_room j.core.next_ticket wakers else wakers) waker spare wakers' waker')
-      ⊎ ((joins step j ≡ true) × (reply ≡ OutOfMemory) × (hand ≡ was) × (j' ≡ j) × (wakers' ≡ wakers) × (waker' ≡ waker) × (spare ≡ None))
+      × Follows (ticket_of step) (ticket_after reply)
+      (if joins step j then with_room j.core.next_ticket wakers else wakers) waker spare wakers' waker')
+      ⊎ ((joins step j ≡ true) × (reply ≡ OutOfMemory) × (hand ≡ was) × (j' ≡ j) × (wakers' ≡ wakers) × (waker' ≡ waker)
+      × (spare ≡ None))
 
   -- The get that is to be told next is named, and its waker is taken out.
-  abbrev pub TellsLocked : {W : Type 0} → Journaling T → List (Option W) → Option W → Journaling T → List (Option W) → Type 0
+  abbrev pub TellsLocked : {W : Type 0} → Journaling T → List (Option W) → Option W → Journaling T → List (Option W)
+      → Type 0
   TellsLocked j wakers waker j' wakers' =
       (named : Option ℕ) × (TellsUnnoted j named j' × Follows named None wakers None waker wakers' None)
 

@@ -1,12 +1,11 @@
 //! What a get asks of its pool, whether it has a handle of its own or borrows one.
 ghost use Rattle.std.specs.Prelude.{◌≡◌, ◌||◌, true, is_some, Some, None, Err, IfOk, IfErr, IfSome};
-ghost use Rattle.std.specs.Option.{ForSome};
 ghost use Rattle.futures.specs.Poll.{IfReady, OnPending};
 ghost use Rattle.futures.specs.Task.{Hears, IsArmed, Keeps};
 ghost use Rattle.deadpool_managed.specs.Held.{held_at};
 ghost use Rattle.deadpool_managed.specs.Phases.{stage_of};
 ghost use Rattle.deadpool_managed.specs.declared.work.Phase.TheVariants.{Unpolled};
-ghost use Rattle.deadpool_shared.specs.Counts.{counts, counts_of, had};
+ghost use Rattle.deadpool_shared.specs.Counts.{counts, counts_of, had, held_by};
 ghost use Rattle.deadpool_shared.specs.Gets.{GivesReady};
 
 use crate::ledgers::Ledgers;
@@ -40,7 +39,7 @@ pub(crate) struct Asking<
     // While it is pending with a deadline.
     alarm: Option<C::Alarm>,
     listener: Listener,
-    ghost backed: { ForSome home (λ _. had shares ≡ counts_of (held_at (stage_of progress.phase progress.slot))) },
+    ghost backed: { had shares ≡ counts_of (held_by home (stage_of progress.phase progress.slot)) },
 }
 
 impl<M: Manager, F: SyncHook<M>, A: AsyncHook<M>, C: Clock, R: Wait + Drop, L: Ledgers> Asking<
@@ -101,7 +100,7 @@ impl<M: Manager, F: SyncHook<M>, A: AsyncHook<M>, C: Clock, R: Wait + Drop, L: L
             ≡ (is_some self.old.home || is_some self.old.refusal)) }
         ensures home { OnPending result (self.new.home ≡ self.old.home) }
         ensures gives { IfReady result (GivesReady W.from_gives
-            (λ o. M.is_ready o.slot.value × (self.old.home ≡ Some o.out.home))) }
+            (λ o. M.is_ready o.slot.value.value × (self.old.home ≡ Some o.out.home))) }
         ensures armed { OnPending result (IsArmed cx.new) }
         ensures heard { OnPending result (Hears cx.new shared.now.lock.source.id) }
         ensures kept { Keeps cx.old cx.new }
@@ -159,12 +158,14 @@ impl<M: Manager, F: SyncHook<M>, A: AsyncHook<M>, C: Clock, R: Wait + Drop, L: L
             listener: _,
         } = self;
         let Some(home) = home else {
+            Shares::hand_in(shares);
             return;
         };
         let mut listener = Listener::new();
         let shared = home.shared();
         let mut seat = Seat::new(shared, shares, &mut listener);
         progress.cancel(&mut seat, &shared.environment);
+        seat.leave();
     }
 }
 
@@ -190,19 +191,20 @@ fn poll_party<
     cx: &mut Context<'_>,
 ) -> Poll<Result<W, PoolError<M::Error>>>
     requires registered { Hears cx.old shared.now.lock.source.id }
+    requires lent { home.old ≡ None }
     requires backed { had shares.old
         ≡ counts_of (held_at (stage_of progress.old.phase progress.old.slot)) }
-    ensures backed { ForSome home.new (λ _.
-        had shares.new ≡ counts_of (held_at (stage_of progress.new.phase progress.new.slot))) }
+    ensures backed { had shares.new
+        ≡ counts_of (held_by home.new (stage_of progress.new.phase progress.new.slot)) }
     ensures stays { OnPending result (home.new ≡ Some owner) }
     ensures gives { IfReady result (GivesReady W.from_gives
-        (λ o. M.is_ready o.slot.value × (Some owner ≡ Some o.out.home))) }
+        (λ o. M.is_ready o.slot.value.value × (Some owner ≡ Some o.out.home))) }
     ensures kept { Keeps cx.old cx.new }
 {
     let mut seat = Seat::new(shared, shares.take(), listener);
     let now = shared.clock.now();
     let came = progress.run(timeouts, &mut seat, &shared.environment, now, cx);
-    *shares = seat.into_shares();
+    Shares::put(shares, seat.into_shares());
     match came {
         Came::More | Came::Pending => {
             see_to_waking(&shared.clock, progress, alarm, cx);
@@ -259,9 +261,10 @@ impl<M: Manager, F: SyncHook<M>, A: AsyncHook<M>, C: Clock, R: Wait + Drop, L: L
             home: _,
             progress: _,
             refusal: _,
-            shares: _,
+            shares,
             alarm: _,
             listener: _,
         } = self;
+        Shares::hand_in(shares);
     }
 }

@@ -16,9 +16,9 @@ use std::sync::Wait;
 
 /// What a pool for threads and tasks is built of: a `PoolBuilder`.
 pub trait Build<M: Manager, F: SyncHook<M>, A: AsyncHook<M>, C: Clock>: Sized {
-    /// Opens the pool for threads and tasks, with one handle; its first object gets the number 0. Each blank has `u64::MAX`
-    /// parts, of which a get takes one. A timeout that is set, zero included, needs a runtime. If the pool is not opened,
-    /// the builder is dropped with all that it has. The manager is asked for nothing.
+    /// Opens the pool for threads and tasks, with one handle; its first object gets the number 0. Each blank has
+    /// `u64::MAX` parts, of which a get takes one. A timeout that is set, zero included, needs a runtime. If the pool
+    /// is not opened, the builder is dropped with all that it has. The manager is asked for nothing.
     fn build<R, L, W>(self, blanks: Blanks, rt: R) -> Result<Pool<M, F, A, C, R, L, W>, BuildError>
     where
         R: Wait + Drop + Send + Sync,

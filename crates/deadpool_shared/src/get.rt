@@ -15,12 +15,12 @@ use std::alloc::AllocError;
 use std::marker::PhantomData;
 use std::sync::Wait;
 
-/// A get, as a future for one object. It counts as a handle of its pool. When it is dropped it gives back what it holds,
-/// and then its handle.
+/// A get, as a future for one object. It counts as a handle of its pool. When it is dropped it gives back what it
+/// holds, and then its handle.
 ///
 /// Nothing happens before its first poll. It ends with `OutOfMemory` if there was no memory for its handle, or for its
-/// entry in the queue, and with `NumbersExhausted` if the pool has handed out all shares or all object numbers. After its
-/// end it stays pending.
+/// entry in the queue, and with `NumbersExhausted` if the pool has handed out all shares or all object numbers. After
+/// its end it stays pending.
 #[derive(Drop)]
 pub struct Get<
     M: Manager,
@@ -99,7 +99,8 @@ where
     ghost needs = { λ get s. IsSomeAnd get.handle (λ handle. s ≡ handle.lock.source.id) };
 
     // A get that has ended gives nothing more. An object goes back to the pool that was asked.
-    ghost gives = { λ get r. ((is_some get.asking.home || is_some get.asking.refusal) ≡ true) × GivesReady W.from_gives (λ o. M.is_ready o.slot.value × (get.asking.home ≡ Some o.out.home)) r };
+    ghost gives = { λ get r. ((is_some get.asking.home || is_some get.asking.refusal) ≡ true)
+        × GivesReady W.from_gives (λ o. M.is_ready o.slot.value.value × (get.asking.home ≡ Some o.out.home)) r };
 
     fn poll(&mut self, cx: &mut Context<'_>) -> Poll<Self::Output> {
         let Some(handle) = &self.handle else {
@@ -111,8 +112,9 @@ where
     }
 }
 
-/// A get that borrows a handle of its pool, as a future for one object. It is no handle of its own, and takes the lock twice
-/// with the return of its object, where a `Get` takes it four times. When it is dropped it gives back what it holds.
+/// A get that borrows a handle of its pool, as a future for one object. It is no handle of its own, and takes the lock
+/// twice with the return of its object, where a `Get` takes it four times. When it is dropped it gives back what it
+/// holds.
 ///
 /// Nothing happens before its first poll. It ends as a `Get` does, and after its end it stays pending.
 #[derive(Drop)]
@@ -193,7 +195,8 @@ where
     ghost needs = { λ get s. s ≡ get.handle.now.lock.source.id };
 
     // A get that has ended gives nothing more. An object goes back to the pool that was asked.
-    ghost gives = { λ get r. ((is_some get.asking.home || is_some get.asking.refusal) ≡ true) × GivesReady W.from_gives (λ o. M.is_ready o.slot.value × (get.asking.home ≡ Some o.out.home)) r };
+    ghost gives = { λ get r. ((is_some get.asking.home || is_some get.asking.refusal) ≡ true)
+        × GivesReady W.from_gives (λ o. M.is_ready o.slot.value.value × (get.asking.home ≡ Some o.out.home)) r };
 
     fn poll(&mut self, cx: &mut Context<'_>) -> Poll<Self::Output> {
         self.asking.poll(self.timeouts, self.handle.shared(), cx)

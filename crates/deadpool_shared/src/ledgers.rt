@@ -63,7 +63,8 @@ impl Model for Blanks {
 
     ghost view = { λ b. record { going = b.going.name; creations = b.creations.name; outside = b.outside.name } };
 
-    ghost invariant = { λ b. (b.going.parts ≡ 2 ^ 64 - 1) × (b.creations.parts ≡ 2 ^ 64 - 1) × (b.outside.parts ≡ 2 ^ 64 - 1) };
+    ghost invariant = { λ b. (b.going.parts ≡ 2 ^ 64 - 1) × (b.creations.parts ≡ 2 ^ 64 - 1)
+        × (b.outside.parts ≡ 2 ^ 64 - 1) };
 }
 
 impl Blanks {

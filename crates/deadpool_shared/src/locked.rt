@@ -1,10 +1,10 @@
 //! What the lock of a pool keeps.
 ghost use Rattle.std.specs.Prelude.{◌≡◌, not, is_some, nat_lt, [], None, IfOk, IfSome};
 ghost use Rattle.deadpool_desk.specs.CoreSteps.{due_now};
-ghost use Rattle.deadpool_desk.specs.Replies.{Brings, IsReplyTo, Leaves, left_by, needed};
+ghost use Rattle.deadpool_desk.specs.Replies.{Brings, IsOwnerReplyTo, IsReplyTo, Leaves, left_by, needed};
 ghost use Rattle.deadpool_desk.specs.declared.step.Holding.{Holding};
 ghost use Rattle.deadpool_journal.specs.Copies.{HasSteps};
-ghost use Rattle.deadpool_journal.specs.Steps.{MakesNoted, StandsNoted, ResizesNoted, RetainsNoted, ClosesNoted, ClonesNoted, DropsHandleNoted, UpgradesNoted};
+ghost use Rattle.deadpool_journal.specs.Steps.{MakesNoted, MakesForOwnerNoted, RetainsNoted};
 ghost use Rattle.deadpool_shared.specs.Counts.{AreIn, IsKnown, counts, counts_of, counted, shifted};
 ghost use Rattle.deadpool_shared.specs.Locked.{MakesLocked, TellsLocked, IsCopy};
 
@@ -14,7 +14,7 @@ use crate::steps::{left_by, may_wait, needed, ticket_after, ticket_of};
 use deadpool_journal::{Journal, Journaled};
 use deadpool_lock::{Wakers, Wakes};
 use deadpool_managed::{
-    Desk, HandleReply, OwnerDesk, Reply, RetainResult, Retainer, Slot, Status, Step,
+    Desk, OwnerDesk, OwnerReply, OwnerStep, Reply, RetainResult, Retainer, Slot, Step,
 };
 use futures::task::Waker;
 use std::alloc::{AllocError, Global};
@@ -55,9 +55,9 @@ impl<T: Drop, L: Ledgers> Locked<T, L> {
         books.hand_out()
     }
 
-    /// Makes a step of a get or an object, whose shares are those of what it holds, and gives the reply. A get that would be
-    /// queued, whose waker finds no memory, makes no step. If it is queued its waker is kept; the one that was kept and is
-    /// not any more is given out.
+    /// Makes a step of a get or an object, whose shares are those of what it holds, and gives the reply. A get that
+    /// would be queued, whose waker finds no memory, makes no step. If it is queued its waker is kept; the one that was
+    /// kept and is not any more is given out.
     #[inline(always)]
     pub fn make(
         &mut self,
@@ -91,30 +91,23 @@ impl<T: Drop, L: Ledgers> Locked<T, L> {
         (reply, spare)
     }
 
-    /// How the pool stands. It is a step: the journal has it.
-    pub fn status(&mut self) -> Status
-        ensures stands { StandsNoted self.old.pool result self.new.pool }
+    /// Makes a step of the pool's owner, and gives the reply. No get's waker comes or goes with it.
+    #[inline(always)]
+    pub fn make_for_owner(&mut self, step: &OwnerStep) -> OwnerReply
+        ensures made { MakesForOwnerNoted self.old.pool step.now result self.new.pool }
+        ensures fits { IsOwnerReplyTo step.now result }
         ensures wakers { self.new.wakers ≡ self.old.wakers }
     {
         let Locked { pool, .. } = self;
-        pool.status()
+        pool.make_for_owner(step)
     }
 
-    /// Gives the pool another limit. If there was no memory for it the limit stays.
-    pub fn resize(&mut self, limit: usize) -> Result<(), AllocError>
-        ensures resized { ResizesNoted self.old.pool limit result self.new.pool }
-        ensures wakers { self.new.wakers ≡ self.old.wakers }
-    {
-        let Locked { pool, .. } = self;
-        pool.resize(limit)
-    }
-
-    /// Asks `retainer` about each idle object, and gives out the values that were removed and how many objects stay. If
-    /// there was no memory for these values, all stay.
+    /// Asks `retainer` about each idle object, and gives out what it left of those that were removed and how many
+    /// objects stay. If there was no memory for what it leaves, all stay.
     pub fn retain<R: Retainer<T>>(
         &mut self,
         retainer: &mut R,
-    ) -> Result<RetainResult<T>, AllocError>
+    ) -> Result<RetainResult<R::Left>, AllocError>
         requires { R.can_call retainer.old }
         ensures can_call { R.can_call retainer.new }
         ensures retained { RetainsNoted R.Retainer
@@ -123,42 +116,6 @@ impl<T: Drop, L: Ledgers> Locked<T, L> {
     {
         let Locked { pool, .. } = self;
         pool.retain(retainer)
-    }
-
-    /// Closes the pool for good. All that is idle goes.
-    pub fn close(&mut self)
-        ensures closed { ClosesNoted self.old.pool self.new.pool }
-        ensures wakers { self.new.wakers ≡ self.old.wakers }
-    {
-        let Locked { pool, .. } = self;
-        pool.close();
-    }
-
-    /// Counts one handle more, if the pool has one left.
-    pub fn clone_handle(&mut self) -> HandleReply
-        ensures cloned { ClonesNoted self.old.pool result self.new.pool }
-        ensures wakers { self.new.wakers ≡ self.old.wakers }
-    {
-        let Locked { pool, .. } = self;
-        pool.clone_handle()
-    }
-
-    /// Counts one handle less. With the last one all that is idle goes.
-    pub fn drop_handle(&mut self) -> HandleReply
-        ensures dropped { DropsHandleNoted self.old.pool result self.new.pool }
-        ensures wakers { self.new.wakers ≡ self.old.wakers }
-    {
-        let Locked { pool, .. } = self;
-        pool.drop_handle()
-    }
-
-    /// Counts one handle more for an owner that has none, and says whether the pool had one left.
-    pub fn upgrade(&mut self) -> bool
-        ensures upgraded { UpgradesNoted self.old.pool result self.new.pool }
-        ensures wakers { self.new.wakers ≡ self.old.wakers }
-    {
-        let Locked { pool, .. } = self;
-        pool.upgrade()
     }
 
     /// It is no step.

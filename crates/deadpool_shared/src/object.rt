@@ -1,6 +1,7 @@
 //! An object that is out.
 ghost use Rattle.std.specs.Prelude.{◌≡◌, IfOk, IfSome};
 ghost use Rattle.deadpool_managed.specs.Answers.{LeavesOrKeeps};
+ghost use Rattle.deadpool_managed.specs.Prepare.{with_value};
 ghost use Rattle.deadpool_desk.specs.declared.step.Holding.{Holding};
 ghost use Rattle.deadpool_shared.specs.Counts.{counts, counts_of};
 
@@ -11,14 +12,13 @@ use crate::shared::Shared;
 use crate::shares::Shares;
 use deadpool_lock::{Home, Listener};
 use deadpool_managed::{
-    AsyncHook, Clock, Desk, Manager, Metrics, ObjectId, Reply, Slot, Step, SyncHook,
+    AsyncHook, Clock, Desk, Kept, Manager, Metrics, ObjectId, Reply, Slot, Step, SyncHook,
 };
 use std::alloc::AllocError;
 use std::ops::{Deref, DerefMut};
 use std::sync::Wait;
 
-// What an object has that has not gone back.
-#[derive(Drop)]
+// What an object has that has not gone back. It cannot be dropped, since its shares cannot.
 pub(crate) struct OutStake<
     M: Manager,
     F: SyncHook<M>,
@@ -48,8 +48,8 @@ impl<M: Manager, F: SyncHook<M>, A: AsyncHook<M>, C: Clock, R: Wait + Drop, L: L
     }
 }
 
-/// An object of a pool, with its value. When it is dropped it goes back to the pool: it is idle from then on, or given up
-/// and detached if the pool has too many objects, or dropped if the pool has no handle left.
+/// An object of a pool, with its value. When it is dropped it goes back to the pool: it is idle from then on, or given
+/// up and detached if the pool has too many objects, or dropped if the pool has no handle left.
 pub struct Object<
     M: Manager,
     F: SyncHook<M>,
@@ -59,7 +59,7 @@ pub struct Object<
     L: Ledgers,
 > {
     pub(crate) out: OutStake<M, F, A, C, R, L>,
-    pub(crate) slot: Slot<M::Type>,
+    pub(crate) slot: Slot<Kept<M::Type>>,
 }
 
 impl<M: Manager, F: SyncHook<M>, A: AsyncHook<M>, C: Clock, R: Wait + Drop, L: Ledgers> Object<
@@ -74,19 +74,17 @@ impl<M: Manager, F: SyncHook<M>, A: AsyncHook<M>, C: Clock, R: Wait + Drop, L: L
     /// pool has a handle left.
     pub fn take(this: Self) -> M::Type
         ensures { LeavesOrKeeps (M.may_detach this.out.home.environment.manager)
-            this.slot.value result }
+            this.slot.value.value result }
     {
         let Self { out, slot } = this;
         let OutStake { home, shares } = out;
         let mut listener = Listener::new();
         let mut seat = Seat::new(home.shared(), Some(shares), &mut listener);
-        let Slot {
-            number: _,
-            mut value,
-            metrics: _,
-        } = slot;
+        let mut value = slot.value.value;
         let mut hand = None;
-        if let Reply::Taken { detach: true } = seat.make(&Step::Take, &mut hand) {
+        let reply = seat.make(&Step::Take, &mut hand);
+        seat.leave();
+        if let Reply::Taken { detach: true } = reply {
             home.shared().environment.manager.detach(&mut value);
         }
         value
@@ -101,13 +99,13 @@ impl<M: Manager, F: SyncHook<M>, A: AsyncHook<M>, C: Clock, R: Wait + Drop, L: L
 
     /// What is known of its past.
     pub fn metrics(this: &Self) -> &Metrics
-        ensures { result.now ≡ this.now.slot.metrics }
+        ensures { result.now ≡ this.now.slot.value.metrics }
     {
-        &this.slot.metrics
+        &this.slot.value.metrics
     }
 
-    /// One more handle of its pool, if the pool has a handle left. `AllocError` says that there was no memory for it, and
-    /// none is counted then.
+    /// One more handle of its pool, if the pool has a handle left. `AllocError` says that there was no memory for it,
+    /// and none is counted then.
     pub fn pool(this: &Self) -> Result<Option<Pool<M, F, A, C, R, L>>, AllocError>
         ensures { IfOk result (λ pool. IfSome pool (λ some. some.handle ≡ this.now.out.home)) }
     {
@@ -123,9 +121,14 @@ impl<M: Manager, F: SyncHook<M>, A: AsyncHook<M>, C: Clock, R: Wait + Drop, L: L
         let mut listener = Listener::new();
         let mut seat = Seat::new(home.shared(), Some(shares), &mut listener);
         let mut hand = Some(slot);
-        if seat.make(&Step::Back, &mut hand) == Reply::Detach {
+        let reply = seat.make(&Step::Back, &mut hand);
+        seat.leave();
+        if reply == Reply::Detach {
             if let Some(mut slot) = hand {
-                home.shared().environment.manager.detach(&mut slot.value);
+                home.shared()
+                    .environment
+                    .manager
+                    .detach(&mut slot.value.value);
             }
         }
     }
@@ -135,10 +138,10 @@ impl<M: Manager, F: SyncHook<M>, A: AsyncHook<M>, C: Clock, R: Wait + Drop, L: L
     for Object<M, F, A, C, R, L> {
     type Target = M::Type;
 
-    ghost deref_gives = { λ o x. x ≡ o.slot.value };
+    ghost deref_gives = { λ o x. x ≡ o.slot.value.value };
 
     fn deref(&self) -> &M::Type {
-        &self.slot.value
+        &self.slot.value.value
     }
 }
 
@@ -147,16 +150,17 @@ impl<M: Manager, F: SyncHook<M>, A: AsyncHook<M>, C: Clock, R: Wait + Drop, L: L
     ghost use Rattle.std.specs.Borrow.{Lends, sem};
     ghost use Rattle.deadpool_shared.specs.contracts.object.Object.{the_row};
 
-    ghost deref_mut_gives = { λ o x. x ≡ o.slot.value };
+    ghost deref_mut_gives = { λ o x. x ≡ o.slot.value.value };
 
     fn deref_mut(&mut self) -> &mut M::Type
         ensures* writes_back { sem 𝓛 (Lends (the_row M.row F.row A.row
             C.row R.row L.row M.Type.row M.Error.row M.Creating.row M.Recycling.row A.State.row
             C.Alarm.row M.Manager F.SyncHook A.AsyncHook L.Ledgers) M.Type.row self.entry result
-            (λ w. record self.old { slot = record self.old.slot { value = w } })) }
-        ensures shows { result.now ≡ self.old.slot.value }
+            (λ w. record self.old { slot = with_value w self.old.slot })) }
+        ensures shows { result.now ≡ self.old.slot.value.value }
     {
         let slot = &mut self.slot;
-        &mut slot.value
+        let kept = &mut slot.value;
+        &mut kept.value
     }
 }

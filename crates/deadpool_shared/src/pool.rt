@@ -12,14 +12,15 @@ use deadpool_builder::PoolBuilder;
 use deadpool_journal::Journal;
 use deadpool_lock::{Handle, Home};
 use deadpool_managed::{
-    AsyncHook, Clock, Manager, Metrics, RetainResult, Retainer, Status, SyncHook, Timeouts,
+    AsyncHook, Clock, Kept, Manager, Metrics, OwnerReply, OwnerStep, RetainResult, Retainer,
+    Status, SyncHook, Timeouts,
 };
 use std::alloc::{AllocError, Global};
 use std::marker::PhantomData;
 use std::sync::Wait;
 
-/// A handle of a pool, which the pool counts: the last one, gets included, takes the idle objects with it. They are dropped
-/// with the lock taken, so such a drop must not use the pool. Objects that are out stay.
+/// A handle of a pool, which the pool counts: the last one, gets included, takes the idle objects with it. They are
+/// dropped with the lock taken, so such a drop must not use the pool. Objects that are out stay.
 ///
 /// What a get gives is a `W`, which is made from the object.
 #[derive(Drop)]
@@ -58,16 +59,20 @@ struct ByPredicate<'a, P, M> {
     manager: &'a M,
 }
 
-impl<M: Manager, P: FnMut(&M::Type, Metrics) -> bool + Drop> Retainer<M::Type>
+impl<M: Manager, P: FnMut(&M::Type, Metrics) -> bool + Drop> Retainer<Kept<M::Type>>
     for ByPredicate<'_, P, M> {
+    type Left = M::Type;
+
     ghost can_call = { λ r. P.IsAlwaysCallable r.predicate };
 
-    fn keeps(&mut self, _number: usize, value: &M::Type, metrics: &Metrics) -> bool {
-        (self.predicate)(value, *metrics)
+    fn keeps(&mut self, _number: usize, kept: &Kept<M::Type>) -> bool {
+        (self.predicate)(&kept.value, kept.metrics)
     }
 
-    fn detach(&mut self, value: &mut M::Type) {
-        self.manager.detach(value);
+    fn detach(&mut self, kept: Kept<M::Type>) -> M::Type {
+        let mut value = kept.value;
+        self.manager.detach(&mut value);
+        value
     }
 }
 
@@ -102,7 +107,7 @@ impl<M: Manager, F: SyncHook<M>, A: AsyncHook<M>, C: Clock, R: Wait + Drop, L: L
         ensures { IfOk result (λ pool. IfSome pool (λ some. some.handle ≡ home.now)) }
     {
         let home = home.clone()?;
-        if home.shared().upgrade() {
+        if home.shared().make_for_owner(&OwnerStep::Upgrade) == OwnerReply::Done {
             return Ok(Some(Pool {
                 handle: Handle::counted(home),
                 of: PhantomData,
@@ -158,15 +163,20 @@ impl<M: Manager, F: SyncHook<M>, A: AsyncHook<M>, C: Clock, R: Wait + Drop, L: L
     }
 
     /// Sets the greatest number of objects. While there are more, idle ones are dropped, the front one first, without a
-    /// detach and with the lock taken: such a drop must not use the pool. A closed pool stays as it is. `AllocError` says
-    /// that there was no memory for so many, and nothing has changed.
+    /// detach and with the lock taken: such a drop must not use the pool. A closed pool stays as it is. `AllocError`
+    /// says that there was no memory for so many, and nothing has changed.
     pub fn resize(&self, limit: usize) -> Result<(), AllocError> {
-        self.handle.shared().resize(limit)
+        let step = OwnerStep::Resize { limit };
+        match self.handle.shared().make_for_owner(&step) {
+            OwnerReply::OutOfMemory => Err(AllocError),
+            _ => Ok(()),
+        }
     }
 
-    /// Asks about each idle object once, front to back, and gives up those that are not kept. The manager detaches one before
-    /// the predicate sees the next. The lock is taken all the while: neither the predicate nor the manager's `detach` may use
-    /// the pool. `AllocError` says that there was no memory for the list of their values, and nothing was asked.
+    /// Asks about each idle object once, front to back, and gives up those that are not kept. The manager detaches one
+    /// before the predicate sees the next. The lock is taken all the while: neither the predicate nor the manager's
+    /// `detach` may use the pool. `AllocError` says that there was no memory for the list of their values, and nothing
+    /// was asked.
     pub fn retain<P: FnMut(&M::Type, Metrics) -> bool + Drop>(
         &self,
         predicate: P,
@@ -194,11 +204,11 @@ impl<M: Manager, F: SyncHook<M>, A: AsyncHook<M>, C: Clock, R: Wait + Drop, L: L
         &self.handle.shared().environment.manager
     }
 
-    /// Closes the pool for good: its limit is 0, those that wait are refused, and the idle objects are dropped without a
-    /// detach and with the lock taken: such a drop must not use the pool. Objects that are out stay, and are given up when
-    /// they come back.
+    /// Closes the pool for good: its limit is 0, those that wait are refused, and the idle objects are dropped without
+    /// a detach and with the lock taken: such a drop must not use the pool. Objects that are out stay, and are given up
+    /// when they come back.
     pub fn close(&self) {
-        self.handle.shared().close();
+        self.handle.shared().make_for_owner(&OwnerStep::Close);
     }
 
     /// Whether the pool was closed.
@@ -211,8 +221,8 @@ impl<M: Manager, F: SyncHook<M>, A: AsyncHook<M>, C: Clock, R: Wait + Drop, L: L
         self.handle.shared().status()
     }
 
-    /// A copy of the pool's journal: the state that the pool opened with, and its first steps since, each with the reply
-    /// that it got. `AllocError` says that there was no memory for the copy.
+    /// A copy of the pool's journal: the state that the pool opened with, and its first steps since, each with the
+    /// reply that it got. `AllocError` says that there was no memory for the copy.
     pub fn journal(&self) -> Result<Journal, AllocError>
         ensures { IfOk result HasSteps }
     {
@@ -249,8 +259,8 @@ impl<M: Manager, F: SyncHook<M>, A: AsyncHook<M>, C: Clock, R: Wait + Drop, L: L
     L,
     W,
 > {
-    /// One handle more, if the pool has one left. `AllocError` says that there was no memory for it, and none is counted
-    /// then.
+    /// One handle more, if the pool has one left. `AllocError` says that there was no memory for it, and none is
+    /// counted then.
     pub fn upgrade(&self) -> Result<Option<Pool<M, F, A, C, R, L, W>>, AllocError>
         ensures { IfOk result (λ pool. IfSome pool (λ some. some.handle ≡ self.now.home)) }
     {

@@ -1,21 +1,22 @@
 //! The lock of a pool, with what one holder has.
 ghost use Rattle.std.specs.Prelude.{◌≡◌};
+ghost use Rattle.deadpool_desk.specs.declared.step.Holding.{Holding};
 ghost use Rattle.deadpool_shared.specs.Counts.{IsKnown, counts_of, had};
 
 use crate::ledgers::Ledgers;
 use crate::shared::Shared;
 use crate::shares::Shares;
 use deadpool_lock::Listener;
-use deadpool_managed::{AsyncHook, Clock, Desk, Manager, Reply, Slot, Step, SyncHook};
+use deadpool_managed::{AsyncHook, Clock, Desk, Kept, Manager, Reply, Slot, Step, SyncHook};
 use std::marker::Model;
 use std::sync::Wait;
 
-/// The lock of a pool, which is lent it, with the shares of one get or object, and what the get hears by. Each step is one
-/// section of the lock. After it, with the lock given back, the wakers are called of the gets that it made due.
+/// The lock of a pool, which is lent it, with the shares of one get or object, and what the get hears by. Each step is
+/// one section of the lock. After it, with the lock given back, the wakers are called of the gets that it made due.
 ///
 /// A get without shares is handed out some as it enters. Contracts see a seat as its shares. A step that lowers a
-/// count asks that the shares have what it lowers, and is then never answered `Unknown`.
-#[derive(Drop)]
+/// count asks that the shares have what it lowers, and is then never answered `Unknown`. A seat cannot be dropped,
+/// since its shares cannot.
 pub struct Seat<
     'a,
     M: Manager,
@@ -41,17 +42,17 @@ impl<'a, M: Manager, F: SyncHook<M>, A: AsyncHook<M>, C: Clock, R: Wait + Drop, 
 }
 
 impl<'a, M: Manager, F: SyncHook<M>, A: AsyncHook<M>, C: Clock, R: Wait + Drop, L: Ledgers> Desk<
-    M::Type,
+    Kept<M::Type>,
 > for Seat<'a, M, F, A, C, R, L> {
     ghost holds = { λ seat holding. seat ≡ counts_of holding };
 
     ghost makes = { λ _ step _ reply _ _. IsKnown step reply };
 
     #[inline(always)]
-    fn make(&mut self, step: &Step, hand: &mut Option<Slot<M::Type>>) -> Reply {
+    fn make(&mut self, step: &Step, hand: &mut Option<Slot<Kept<M::Type>>>) -> Reply {
         let mut section = self.shared.lock.begin();
         if self.shares.is_none() {
-            self.shares = section.kept().hand_out();
+            Shares::put(&mut self.shares, section.kept().hand_out());
         }
         let (reply, spare) = match &mut self.shares {
             Some(shares) => section
@@ -92,6 +93,13 @@ impl<'a, M: Manager, F: SyncHook<M>, A: AsyncHook<M>, C: Clock, R: Wait + Drop, 
             shares,
             listener,
         }
+    }
+
+    // Uses up a seat whose holder has given back what it had.
+    pub(crate) fn leave(self)
+        requires nothing { self ≡ counts_of Holding.Nothing }
+    {
+        Shares::hand_in(self.into_shares());
     }
 
     // What is left with the seat's holder.

@@ -1,5 +1,6 @@
 //! What the handles of a pool share.
 ghost use Rattle.std.specs.Prelude.{IfOk};
+ghost use Rattle.deadpool_desk.specs.Replies.{IsOwnerReplyTo};
 ghost use Rattle.deadpool_journal.specs.Copies.{HasSteps};
 
 use crate::ledgers::Ledgers;
@@ -7,7 +8,8 @@ use crate::locked::Locked;
 use deadpool_journal::Journal;
 use deadpool_lock::{Counted, StepLock};
 use deadpool_managed::{
-    AsyncHook, Clock, Environment, Manager, RetainResult, Retainer, Status, SyncHook, Timeouts,
+    AsyncHook, Clock, Environment, Kept, Manager, OwnerReply, OwnerStep, RetainResult, Retainer,
+    Status, SyncHook, Timeouts,
 };
 use futures::task::Source;
 use std::alloc::AllocError;
@@ -27,7 +29,7 @@ pub struct Shared<
     /// Those of a get that is started without its own.
     pub timeouts: Timeouts,
     pub clock: C,
-    pub lock: StepLock<Locked<M::Type, L>, R>,
+    pub lock: StepLock<Locked<Kept<M::Type>, L>, R>,
 }
 
 impl<M: Manager, F: SyncHook<M>, A: AsyncHook<M>, C: Clock, R: Wait + Drop, L: Ledgers> Shared<
@@ -38,17 +40,24 @@ impl<M: Manager, F: SyncHook<M>, A: AsyncHook<M>, C: Clock, R: Wait + Drop, L: L
     R,
     L,
 > {
-    /// Whether there is one handle more, as one is left.
-    pub fn upgrade(&self) -> bool {
-        let mut step = self.lock.begin();
-        let is_counted = step.kept().upgrade();
-        self.lock.end(step);
-        is_counted
+    /// Makes a step of the pool's owner, and gives the reply. Idle objects that go are dropped with the lock taken.
+    /// Gets that the step made due are told.
+    #[inline(always)]
+    pub fn make_for_owner(&self, step: &OwnerStep) -> OwnerReply
+        ensures { IsOwnerReplyTo step.now result }
+    {
+        let mut locked = self.lock.begin();
+        let reply = locked.kept().make_for_owner(step);
+        self.lock.end(locked);
+        reply
     }
 
     /// How the pool stands, which the journal notes. It makes nobody due.
     pub fn status(&self) -> Status {
-        self.lock.look().status()
+        match self.lock.look().make_for_owner(&OwnerStep::Status) {
+            OwnerReply::Stands(status) => status,
+            _ => unreachable!(),
+        }
     }
 
     /// Whether the pool was closed. It is no step.
@@ -63,26 +72,11 @@ impl<M: Manager, F: SyncHook<M>, A: AsyncHook<M>, C: Clock, R: Wait + Drop, L: L
         self.lock.look().journal()
     }
 
-    /// Closes the pool. What is idle is dropped with the lock taken.
-    pub fn close(&self) {
-        let mut step = self.lock.begin();
-        step.kept().close();
-        self.lock.end(step);
-    }
-
-    /// Sets the limit. What is given up is dropped with the lock taken.
-    pub fn resize(&self, limit: usize) -> Result<(), AllocError> {
-        let mut step = self.lock.begin();
-        let resized = step.kept().resize(limit);
-        self.lock.end(step);
-        resized
-    }
-
     /// Gives up the idle objects that are not kept. The retainer is asked with the lock taken.
-    pub fn retain<K: Retainer<M::Type>>(
+    pub fn retain<K: Retainer<Kept<M::Type>>>(
         &self,
         retainer: &mut K,
-    ) -> Result<RetainResult<M::Type>, AllocError>
+    ) -> Result<RetainResult<K::Left>, AllocError>
         requires { K.can_call retainer.old }
         ensures { K.can_call retainer.new }
     {
@@ -102,14 +96,10 @@ impl<M: Manager, F: SyncHook<M>, A: AsyncHook<M>, C: Clock, R: Wait + Drop, L: L
     }
 
     fn clone_handle(&self) {
-        let mut step = self.lock.begin();
-        step.kept().clone_handle();
-        self.lock.end(step);
+        self.make_for_owner(&OwnerStep::CloneHandle);
     }
 
     fn drop_handle(&self) {
-        let mut step = self.lock.begin();
-        step.kept().drop_handle();
-        self.lock.end(step);
+        self.make_for_owner(&OwnerStep::DropHandle);
     }
 }

@@ -1,15 +1,16 @@
 //! What is known of the three counts of a pool: three ledgers.
 ghost use Rattle.std.specs.Prelude.{◌≡◌, ◌≤◌, ◌<◌, ◌-◌, is_some, nat_lt, IfSome};
-ghost use Rattle.deadpool_shared.specs.Counts.{counts, counts_of, shifted};
+ghost use Rattle.deadpool_shared.specs.Counts.{counts, counts_of, had, shifted};
 ghost use Rattle.deadpool_desk.specs.declared.step.Holding.{Holding};
 
 use crate::ledgers::{Blanks, Creations, Going, Ledgers, Outside};
 use deadpool_managed::Holding;
 use std::marker::Model;
+use std::mem;
 use std::sync::ledger::{Book, Share};
 
-/// What one holder has of the three counts. It takes no bytes.
-#[derive(Drop)]
+/// What one holder has of the three counts. It takes no bytes. It cannot be dropped: `hand_in` alone takes it, from a
+/// holder that has nothing, so that no holder is let go of before the step by which it gives back what it has.
 pub struct Shares<L: Ledgers> {
     going: Share<Going<L>>,
     creations: Share<Creations<L>>,
@@ -25,6 +26,32 @@ impl<L: Ledgers> Model for Shares<L> {
     ghost view = { λ s. counts s.going.amount s.creations.amount s.outside.amount };
 
     ghost invariant = { λ s. (s.going.parts ≡ 1) × (s.creations.parts ≡ 1) × (s.outside.parts ≡ 1) };
+}
+
+impl<L: Ledgers> Shares<L> {
+    /// Uses up the shares of a holder that has nothing, if it was handed out some.
+    #[inline(always)]
+    pub fn hand_in(shares: Option<Self>)
+        requires nothing { had shares ≡ counts_of Holding.Nothing }
+    {
+        if let Some(
+            Shares {
+                going: _,
+                creations: _,
+                outside: _,
+            },
+        ) = shares
+        {}
+    }
+
+    /// Puts what a holder has in its place, where nothing is.
+    #[inline(always)]
+    pub fn put(place: &mut Option<Self>, shares: Option<Self>)
+        requires nothing { had place.old ≡ counts_of Holding.Nothing }
+        ensures { place.new ≡ shares }
+    {
+        Shares::hand_in(mem::replace(place, shares));
+    }
 }
 
 /// The totals of all shares, and the parts that nobody has. Each ledger has `u64::MAX` parts.
@@ -47,7 +74,9 @@ impl<L: Ledgers> Model for Books<L> {
 
     ghost view = { λ b. record { totals = counts b.going.total b.creations.total b.outside.total; left = b.left } };
 
-    ghost invariant = { λ b. (b.going_left.parts ≡ b.left) × (b.creations_left.parts ≡ b.left) × (b.outside_left.parts ≡ b.left) × (b.going_left.amount ≡ 0) × (b.creations_left.amount ≡ 0) × (b.outside_left.amount ≡ 0) };
+    ghost invariant = { λ b. (b.going_left.parts ≡ b.left) × (b.creations_left.parts ≡ b.left)
+        × (b.outside_left.parts ≡ b.left) × (b.going_left.amount ≡ 0) × (b.creations_left.amount ≡ 0)
+        × (b.outside_left.amount ≡ 0) };
 }
 
 // How many places, creations and objects a holder has.

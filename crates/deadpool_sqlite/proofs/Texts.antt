@@ -8,7 +8,8 @@ use Rattle.sqlite_tied.specs.Compute.{everything}
 use Rattle.sqlite.specs.declared.error.Error.{Error}
 use Rattle.sqlite.specs.Listing.{understood}
 use Rattle.sqlite.specs.Clock.{timed}
-use Rattle.sqlite.specs.State.{State, Executes, ExecutesIn, KeepsCommit, Shown, QueriesRow, ShowsRows, IsUnchanged, IsRolledBack, IsNotRun, RunsCommand, FailsToQuery, FailsToShow, shows_rows}
+use Rattle.sqlite.specs.State.{State, Executes, ExecutesIn, KeepsCommit, Shown, QueriesRow, ShowsRows, IsUnchanged}
+use Rattle.sqlite.specs.State.{IsRolledBack, IsNotRun, RunsCommand, FailsToQuery, FailsToShow, shows_rows}
 use Rattle.sqlite.proofs.Callers.{IsPlain, command_of, runs_as}
 
 pub same_keeps : (s : State) → KeepsCommit s s
@@ -33,7 +34,8 @@ module _ (old new : State) (cause : Error) where
   not_run_keeps sql params (inl h) = unchanged_keeps old new h.1
   not_run_keeps sql params (inr h) = undone_keeps old new h.3
 
-  command_keeps : (sql : List ℕ) (c : _) (params : Row) → RunsCommand old new sql c params (Err cause) → KeepsCommit old new
+  command_keeps : (sql : List ℕ) (c : _) (params : Row) → RunsCommand old new sql c params (Err cause)
+      → KeepsCommit old new
   command_keeps sql c params (inl h) = unchanged_keeps old new h.1
   command_keeps sql c params (inr h) = undone_keeps old new h.3
 
@@ -45,7 +47,8 @@ module _ (old new : State) (cause : Error) where
     | inr runs ↦ command_keeps sql h.0 _ (rw runs at h.2)
   ]
 
-  show_keeps : (sql : List ℕ) (c : _) (params : Row) (returning : _) → FailsToShow old new sql c params cause returning → KeepsCommit old new
+  show_keeps : (sql : List ℕ) (c : _) (params : Row) (returning : _) → FailsToShow old new sql c params cause returning
+      → KeepsCommit old new
   show_keeps sql c params None h = unchanged_keeps old new h.3
   show_keeps sql c params (Some what) h = command_keeps sql c params h
 
@@ -61,8 +64,11 @@ rollback_plain : (schema : Schema) → IsPlain (understood schema rollback_text)
 unfolding understood everything
 rollback_plain schema = (refl, refl)
 
-pub rollback_undoes : (old new : State) (count : ℕ) → Executes rollback_text [] old new (Ok count) → IsRolledBack old new
-rollback_undoes old new count h = (runs_as rollback_text [] old new old.now.schema refl Rollback (rollback_is old.now.schema) (rollback_plain old.now.schema) count h).1
+pub rollback_undoes : (old new : State) (count : ℕ) → Executes rollback_text [] old new (Ok count)
+    → IsRolledBack old new
+rollback_undoes old new count h =
+    (runs_as rollback_text [] old new old.now.schema refl Rollback (rollback_is old.now.schema)
+    (rollback_plain old.now.schema) count h).1
 
 pub rollback_keeps : (old new : State) (count : ℕ) → Executes rollback_text [] old new (Ok count) → KeepsCommit old new
 rollback_keeps old new count h = undone_keeps old new (rollback_undoes old new count h)
@@ -93,7 +99,8 @@ answer_keeps old new row h = unchanged_keeps old new (answer_unchanged old new r
 pub answer_is_open : (old new : State) (row : Row) → QueriesRow query_text [] old new (Ok row) → IsTrue new.is_open
 answer_is_open old new row h = (answer_unchanged old new row h).0.is_open
 
-pub no_answer_keeps : (old new : State) (cause : Error) → QueriesRow query_text [] old new (Err cause) → KeepsCommit old new
+pub no_answer_keeps : (old new : State) (cause : Error) → QueriesRow query_text [] old new (Err cause)
+    → KeepsCommit old new
 unfolding QueriesRow FailsToQuery
 no_answer_keeps old new cause (inl (inl h)) = not_run_keeps old new cause query_text [] h
 no_answer_keeps old new cause (inl (inr h)) = show_keeps old new cause query_text h.0 _ h.0.returning h.2

@@ -23,10 +23,12 @@ module _ {S : Type 0} (store : Ghosts S) (method : RecyclingMethod) where
   -- A recycling ends at its first poll. One that is refused is refused with a message that says why.
   abbrev pub Ends : Held S → Poll (Result (Unit {0}) (RecycleError Error)) → Held S → Type 0
   Ends conn (Ready (Ok done)) left = Accepts store method conn left
-  Ends conn (Ready (Err (Message text))) left = (refusal : Refusal) × ((cow_str_bytes text ≡ refusal_text refusal) × Refuses store method refusal conn left)
+  Ends conn (Ready (Err (Message text))) left =
+      (refusal : Refusal) × ((cow_str_bytes text ≡ refusal_text refusal) × Refuses store method refusal conn left)
   Ends conn (Ready (Err (Backend cause))) left = ⊥
   Ends conn Pending left = ⊥
 
   -- Whether it is accepted or refused, nothing is committed.
   abbrev pub Recycles : Held S → Poll (Result (Unit {0}) (RecycleError Error)) → Held S → Type 0
-  Recycles conn answer left = (HasCleanDisk (state store left) → KeepsCommit (state store conn) (state store left)) × Ends conn answer left
+  Recycles conn answer left = (HasCleanDisk (state store left) → KeepsCommit (state store conn) (state store left))
+      × Ends conn answer left

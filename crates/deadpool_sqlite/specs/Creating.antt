@@ -19,11 +19,14 @@ module _ {S : Type 0} (store : Ghosts S) where
   abbrev pub FailsToPrepare : List ℕ → Held S → Error → Type 0
   FailsToPrepare batch opened cause =
       (left : Held S) × (HasRun batch opened left (Err cause)
-      ⊎ (HasRun batch opened left (Ok tt) × (IsTrue (state store left).in_transaction × (cause ≡ SqliteFailure TransactionState))))
+      ⊎ (HasRun batch opened left (Ok tt)
+      × (IsTrue (state store left).in_transaction × (cause ≡ SqliteFailure TransactionState))))
 
-  -- A creation ends at its first poll: the whole batch has run with no fault on a connection that was opened, or the error
-  -- is that of the open or of the batch.
+  -- A creation ends at its first poll: the whole batch has run with no fault on a connection that was opened, or the
+  -- error is that of the open or of the batch.
   abbrev pub Creates : (Result (Held S) Error → Type 0) → List ℕ → Poll (Result (Held S) Error) → Type 0
-  Creates may_open batch (Ready (Ok left)) = (opened : Held S) × (may_open (Ok opened) × HasRun batch opened left (Ok tt))
-  Creates may_open batch (Ready (Err cause)) = may_open (Err cause) ⊎ ((opened : Held S) × (may_open (Ok opened) × FailsToPrepare batch opened cause))
+  Creates may_open batch (Ready (Ok left)) =
+      (opened : Held S) × (may_open (Ok opened) × HasRun batch opened left (Ok tt))
+  Creates may_open batch (Ready (Err cause)) =
+      may_open (Err cause) ⊎ ((opened : Held S) × (may_open (Ok opened) × FailsToPrepare batch opened cause))
   Creates may_open batch Pending = ⊥

@@ -21,12 +21,15 @@ module _ {S : Type 0} (store : Ghosts S) (method : RecyclingMethod) where
     pub before : Held S
     pub same : (state store conn).in_transaction ≡ false → before ≡ conn
     pub cause : Error
-    pub failed : HasCleanDisk (state store left) → QueriesRow (codes "SELECT 1") [] (state store before) (state store left) (Err cause)
+    pub failed : HasCleanDisk (state store left)
+        → QueriesRow (codes "SELECT 1") [] (state store before) (state store left) (Err cause)
 
   -- Why it is refused. On a clean disk no transaction stays open after a rollback.
   abbrev pub Refuses : Refusal → Held S → Held S → Type 0
   Refuses NotRolledBack conn left =
       IsTrue (state store conn).in_transaction
-      × ((cause : Error) × (HasCleanDisk (state store left) → Executes (codes "ROLLBACK") [] (state store conn) (state store left) (Err cause)))
+      × ((cause : Error) × (HasCleanDisk (state store left)
+      → Executes (codes "ROLLBACK") [] (state store conn) (state store left) (Err cause)))
   Refuses QueryFailed conn left = FailsToAnswer conn left
-  Refuses StaysOpen conn left = IsTrue (state store conn).in_transaction × (IsTrue (state store left).in_transaction × (¬ HasCleanDisk (state store left)))
+  Refuses StaysOpen conn left = IsTrue (state store conn).in_transaction
+      × (IsTrue (state store left).in_transaction × (¬ HasCleanDisk (state store left)))

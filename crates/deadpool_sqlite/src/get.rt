@@ -31,14 +31,14 @@ pub type GetConnection<B, C, R, L> = Get<
     PooledConnection<B, C, R, L>,
 >;
 
-/// Polls a get. The connection that it hands out has no transaction open, and so, while its store is open, it shows what
-/// was committed.
+/// Polls a get. The connection that it hands out has no transaction open, and so, while its store is open, it shows
+/// what was committed.
 pub fn poll_connection<B: Source, C: Clock, R: Wait + Drop, L: Ledgers>(
     get: &mut GetConnection<B, C, R, L>,
     cx: &mut Context<'_>,
 ) -> Poll<Result<PooledConnection<B, C, R, L>, PoolError<Error>>>
     ensures settled { IfReadyOk result
-        (λ object. IsSettled (state B.Storage.Store object.slot.value)) }
+        (λ object. IsSettled (state B.Storage.Store object.slot.value.value)) }
     ensures armed { OnPending result (IsArmed cx.new) }
     ensures kept { Keeps cx.old cx.new }
 {

@@ -14,8 +14,8 @@ use sqlite::{Alter, Connection, Error, ErrorCode};
 /// The manager of a pool whose objects are connections to SQLite databases. It hands out those alone that have no
 /// transaction open.
 ///
-/// A creation answers the error of the source's open, or the error of the batch, or `TransactionState` if the batch leaves
-/// a transaction open. A recycling never answers an error of the database: it refuses with a message.
+/// A creation answers the error of the source's open, or the error of the batch, or `TransactionState` if the batch
+/// leaves a transaction open. A recycling never answers an error of the database: it refuses with a message.
 #[derive(Drop)]
 pub struct SqliteManager<B: Source> {
     pub source: B,
@@ -49,11 +49,13 @@ impl<B: Source> Manager for SqliteManager<B> {
 
     ghost is_ready = { λ conn. IsSettled (state B.Storage.Store conn) };
 
-    ghost may_poll_create = { λ manager _ answer _. Creates B.Storage.Store (B.may_open manager.source) (string_bytes manager.batch) answer };
+    ghost may_poll_create = { λ manager _ answer _.
+        Creates B.Storage.Store (B.may_open manager.source) (string_bytes manager.batch) answer };
 
     ghost may_recycle = { λ _ conn _ _ left. left ≡ conn };
 
-    ghost may_poll_recycle = { λ manager _ conn _ answer _ left. Recycles B.Storage.Store manager.method conn answer left };
+    ghost may_poll_recycle = { λ manager _ conn _ answer _ left.
+        Recycles B.Storage.Store manager.method conn answer left };
 
     ghost may_detach = { λ _ conn left. left ≡ conn };
 

@@ -1,5 +1,5 @@
-//! A managed pool as a program with threads writes it: its ledgers are opened here, its threads are started here, and a thread
-//! waits for an object by what it keeps.
+//! A managed pool as a program with threads writes it: its ledgers are opened here, its threads are started here, and a
+//! thread waits for an object by what it keeps.
 #![tactic(auto)]
 
 mod host;

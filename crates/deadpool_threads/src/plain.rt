@@ -2,7 +2,7 @@
 ghost use Rattle.std.specs.Prelude.{◌≡◌, ⊤, Result, IfOk};
 ghost use Rattle.deadpool_managed.specs.Answers.{LeavesOrKeeps};
 ghost use Rattle.deadpool_parts.specs.declared.errors.RecycleError.{RecycleError};
-ghost use Rattle.deadpool_desk.specs.declared.metrics.Metrics.{Metrics};
+ghost use Rattle.deadpool_managed.specs.declared.metrics.Metrics.{Metrics};
 ghost use Rattle.deadpool_threads.specs.Answered.{IsReadyWith};
 
 use deadpool_managed::{Manager, Metrics, NoHook, RecycleResult};
@@ -28,7 +28,8 @@ pub trait PlainManager: Drop {
     ghost may_create: { Self → Result Self.Type Self.Error → Type 0 } = { λ _ _. ⊤ };
 
     // Holds of each answer to a recycling at a value, with the value that it leaves.
-    ghost may_recycle: { Self → Self.Type → Metrics → Result (Unit {0}) (RecycleError Self.Error) → Self.Type → Type 0 } = { λ _ _ _ _ _. ⊤ };
+    ghost may_recycle: { Self → Self.Type → Metrics → Result (Unit {0}) (RecycleError Self.Error) → Self.Type
+        → Type 0 } = { λ _ _ _ _ _. ⊤ };
 
     // Holds of each value that `detach` may leave.
     ghost may_detach: { Self → Self.Type → Self.Type → Type 0 } = { λ _ _ _. ⊤ };
@@ -68,7 +69,8 @@ impl<P: PlainManager> Manager for Plain<P> {
 
     ghost may_recycle = { λ _ value _ _ left. left ≡ value };
 
-    ghost may_poll_recycle = { λ manager _ value metrics polled _ left. IsReadyWith polled (λ answer. P.may_recycle manager.0 value metrics answer left) };
+    ghost may_poll_recycle = { λ manager _ value metrics polled _ left.
+        IsReadyWith polled (λ answer. P.may_recycle manager.0 value metrics answer left) };
 
     ghost may_detach = { λ manager value left. LeavesOrKeeps (P.may_detach manager.0) value left };
 

@@ -15,8 +15,8 @@ use std::io;
 use std::random::RandomSource;
 use std::sync::Wait;
 
-/// What a thread waits by, one future at a time. A thread makes one and keeps it: it polls in a task that is kept, and sleeps
-/// while it waits.
+/// What a thread waits by, one future at a time. A thread makes one and keeps it: it polls in a task that is kept, and
+/// sleeps while it waits.
 #[derive(Drop)]
 pub struct Waiter {
     // In which each future is polled first.
@@ -52,7 +52,8 @@ impl Waiter {
         waiting.wait(rt, future)
     }
 
-    /// An object of a managed pool, with the pool's timeouts. It comes of one that is ready. `OutOfMemory` also says that there was no memory to wait by.
+    /// An object of a managed pool, with the pool's timeouts. It comes of one that is ready. `OutOfMemory` also says
+    /// that there was no memory to wait by.
     pub fn get<M, F, A, C, R, L, W>(
         &mut self,
         rt: &R,
@@ -67,13 +68,14 @@ impl Waiter {
         L: Ledgers,
         W: From<Object<M, F, A, C, R, L>>,
         ensures gives { GivesReady W.from_gives (λ object.
-            M.is_ready object.slot.value × (object.out.home ≡ pool.now.handle)) result }
+            M.is_ready object.slot.value.value × (object.out.home ≡ pool.now.handle)) result }
     {
         let mut waiting = self.begin();
         waiting.get(rt, pool)
     }
 
-    /// An object of an unmanaged pool, with the pool's timeout. `OutOfMemory` also says that there was no memory to wait by.
+    /// An object of an unmanaged pool, with the pool's timeout. `OutOfMemory` also says that there was no memory to
+    /// wait by.
     pub fn get_unmanaged<T: Drop, C: Clock, R: Wait + Drop>(
         &mut self,
         rt: &R,

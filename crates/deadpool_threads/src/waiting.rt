@@ -61,7 +61,7 @@ impl<'a> Waiting<'a> {
         L: Ledgers,
         W: From<Object<M, F, A, C, R, L>>,
         ensures gives { GivesReady W.from_gives (λ object.
-            M.is_ready object.slot.value × (object.out.home ≡ pool.now.handle)) result }
+            M.is_ready object.slot.value.value × (object.out.home ≡ pool.now.handle)) result }
     {
         let mut get = pool.get_ref();
         get.exchange_listener(self.listener);

@@ -19,10 +19,12 @@ abbrev pub first_moment : {W : Type 0} → List (Place × W) → Option ℕ
 first_moment [] = None
 first_moment (first ∷ others) = Some first.0.0
 
--- what a timer's thread is told at a moment, and what is left of the alarms: the first one rings if it is due, or if the timer
--- was stopped
+-- what a timer's thread is told at a moment, and what is left of the alarms: the first one rings if it is due, or if
+-- the timer was stopped
 abbrev pub Tells : (is_stopped : Bool) → (old new : List (Place × Waker)) → (now : ℕ) → Next → Type 0
-Tells is_stopped old new now (next.Wake waker) = (place : Place) × (old ≡ (place, waker) ∷ new) × (is_stopped ≡ false → place.0 ≤ now)
-Tells is_stopped old new now (next.Until at) = (new ≡ old) × (first_moment old ≡ Some at.0) × (now < at.0) × (is_stopped ≡ false)
+Tells is_stopped old new now (next.Wake waker) =
+    (place : Place) × (old ≡ (place, waker) ∷ new) × (is_stopped ≡ false → place.0 ≤ now)
+Tells is_stopped old new now (next.Until at) =
+    (new ≡ old) × (first_moment old ≡ Some at.0) × (now < at.0) × (is_stopped ≡ false)
 Tells is_stopped old new now next.Wait = (new ≡ old) × (old ≡ []) × (is_stopped ≡ false)
 Tells is_stopped old new now next.End = (new ≡ old) × (old ≡ []) × (is_stopped ≡ true)

@@ -46,8 +46,8 @@ impl Alarms {
         }
     }
 
-    /// Sets one alarm more, and gives its place. If there is no memory for it, or the timer was stopped, nothing changes and
-    /// the waker comes back.
+    /// Sets one alarm more, and gives its place. If there is no memory for it, or the timer was stopped, nothing
+    /// changes and the waker comes back.
     pub fn set(&mut self, at: Moment, waker: Waker) -> Result<Place, Waker>
         ensures moment { IfOk result (λ place. place.0 ≡ at.0) }
         ensures runs { IfOk result (λ _. self.old.is_stopped ≡ false) }
@@ -93,7 +93,8 @@ impl Alarms {
         }
     }
 
-    /// What the thread does next at this moment. Once the timer was stopped, all that are set ring, one after the other.
+    /// What the thread does next at this moment. Once the timer was stopped, all that are set ring, one after the
+    /// other.
     pub fn next(&mut self, now: Moment) -> Next
         ensures tells { Tells self.old.is_stopped
             self.old.wakers.entries self.new.wakers.entries now.0 result }

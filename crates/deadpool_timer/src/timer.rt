@@ -40,7 +40,8 @@ impl<R: Wait + SystemClock + Drop> Shared<R> {
     }
 }
 
-/// A thread that wakes tasks at their deadlines. Dropping the timer ends the thread and waits for it; all alarms ring then.
+/// A thread that wakes tasks at their deadlines. Dropping the timer ends the thread and waits for it; all alarms ring
+/// then.
 pub struct Timer<R: Wait + Threads + SystemClock + Drop> {
     shared: Arc<Shared<R>, Global>,
     thread: JoinHandle<()>,
@@ -90,8 +91,8 @@ impl<R: Wait + Threads + SystemClock + Drop> Drop for Timer<R> {
 
 /// The system's monotonic clock, with the alarms of a timer. Its moments count from a start of the system's own.
 ///
-/// When its timer is dropped each task that waits with a deadline is woken once. From then on the clock goes on telling the
-/// time and wakes nobody: a wait that is polled after its deadline ends, and nothing else has it polled.
+/// When its timer is dropped each task that waits with a deadline is woken once. From then on the clock goes on telling
+/// the time and wakes nobody: a wait that is polled after its deadline ends, and nothing else has it polled.
 #[derive(Drop)]
 pub struct TimerClock<R: Wait + SystemClock + Drop> {
     shared: Arc<Shared<R>, Global>,

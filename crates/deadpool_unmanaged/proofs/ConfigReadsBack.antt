@@ -3,4 +3,7 @@ use Rattle.deadpool_parts.proofs.ReadsBack.{read_size-written, read_timeout-writ
 use Rattle.deadpool_unmanaged.specs.Config.{ReadsWritten}
 
 pub reads_written : ReadsWritten
-reads_written s fits = rw (read_size-written s.max_size fits.max_size, read_timeout-written_timeout s.timeout fits.timeout)
+reads_written s fits = rw (
+  read_size-written s.max_size fits.max_size,
+  read_timeout-written_timeout s.timeout fits.timeout,
+)

@@ -24,10 +24,15 @@ pub record FitsPoolConfig (s : Settings) : Type 0 where
 
 -- faults are looked for in the size and then in the timeout
 abbrev pub read_config : Data → Result Settings ConfigError
-read_config d = result_and_then (λ n. result_map (λ t. record { max_size = n; timeout = t }) (read_timeout (get (codes "timeout") d))) (read_max_size d)
+read_config d =
+    result_and_then
+    (λ n. result_map (λ t. record { max_size = n; timeout = t }) (read_timeout (get (codes "timeout") d)))
+    (read_max_size d)
 
 abbrev pub written_config : Settings → Data
-written_config s = object (member (codes "max_size") (number (unsigned s.max_size)) (member (codes "timeout") (written_timeout s.timeout) no_members))
+written_config s =
+    object (member (codes "max_size") (number (unsigned s.max_size))
+    (member (codes "timeout") (written_timeout s.timeout) no_members))
 
 -- each configuration in range is read as it was written
 abbrev pub ReadsWritten : Type 0

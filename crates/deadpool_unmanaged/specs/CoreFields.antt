@@ -1,12 +1,10 @@
 -- The state that the fields of a core are, and what they keep.
-use Rattle.std.specs.Prelude.{◌≡◌, ◌+◌, ◌≤◌, not, List, length, vec_capacity}
-use Rattle.deadpool_gate.specs.Gate.{Waiter, granted_tickets, waiting_tickets, untold_tickets}
-use Rattle.deadpool_gate.specs.Queue.{Queue}
+use Rattle.std.specs.Prelude.{◌≡◌, ◌≤◌, not, vec_capacity}
+use Rattle.deadpool_gate.specs.Gate.{untold_tickets}
+use Rattle.deadpool_unmanaged.specs.Kept.{IsKept}
+use Rattle.deadpool_unmanaged.specs.Lines.{queue_of}
 use Rattle.deadpool_unmanaged.specs.State.{State, CoreState}
-use Rattle.deadpool_unmanaged.specs.declared.state.PoolState.TheInside.{Inside}
-
-abbrev pub queue_of : List Waiter → Queue
-queue_of ws = record { granted = granted_tickets ws; waiting = waiting_tickets ws }
+use Rattle.deadpool_unmanaged.specs.declared.state.Core.TheInside.{Inside}
 
 module _ {T : Type 0} where
   abbrev pub state_of : Inside T → State T
@@ -31,8 +29,8 @@ module _ {T : Type 0} where
     next_add = c.adds.next_ticket;
   }
 
-  -- the two lines close together, and there is room for each object and for each that may come
+  -- the two lines close together, there is room for each object and for each that may come, and the state is settled
   pub record IsSound (c : Inside T) : Type 0 where
     pub together : c.adds.is_closed ≡ c.gets.is_closed
-    pub held : length c.idle.items + c.outside + length (granted_tickets c.adds.waiters) ≤ c.limit
     pub reserve : c.limit ≤ vec_capacity c.idle
+    pub kept : IsKept (state_of c)

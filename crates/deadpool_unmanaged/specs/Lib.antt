@@ -1,9 +1,13 @@
 -- The unmanaged pool on one thread. In the order in which it can be read.
 
--- The pool's state without names, the steps that `Core` makes of it, and what holds between two of them.
+-- The pool's state without names, the steps that `Core` makes of it, which replies they have, and what holds between
+-- two of them.
 pub mod State
 pub mod StateSteps
+pub mod Replies
 pub mod Kept
+-- A line as a queue of tickets.
+pub mod Lines
 -- What a pool counts.
 pub mod Counts
 -- A get and an add that are polled over it, and when a poll joins a queue.

@@ -1,5 +1,6 @@
 -- The state of an unmanaged pool without names: tickets in its queues, and a count of the objects that are out.
-use Rattle.std.specs.Prelude.{ℕ, ◌+◌, ◌-◌, ◌≤◌, Bool, true, ◌||◌, ◌&&◌, ◌==◌, List, [], length, take, slice_get, Option, is_some}
+use Rattle.std.specs.Prelude.{ℕ, ◌+◌, ◌-◌, ◌≤◌, Bool, true, ◌||◌, ◌&&◌, ◌==◌, List, [], length, take, slice_get, Option}
+use Rattle.std.specs.Prelude.{is_some}
 use Rattle.deadpool_gate.specs.Waking.{next_due}
 use Rattle.deadpool_parts.specs.declared.status.Status.{Status}
 use Rattle.deadpool_gate.specs.Queue.{Queue, nobody, members, served}

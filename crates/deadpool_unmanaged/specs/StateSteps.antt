@@ -1,25 +1,21 @@
--- The steps of a pool without names, each by its reply: when the reply comes, and the state after it.
-use Rattle.std.specs.Prelude.{◌≡◌, ℕ, ◌+◌, ◌-◌, ◌<◌, min, Bool, true, false, ◌&&◌, ◌==◌, nat_lt, if◌then◌else◌, [], ◌∷◌, ◌++◌, Option, Some}
+-- The steps of a pool without names: when each reply comes, and the state after it. Those of a get, an add or an object
+-- are one table.
+use Rattle.std.specs.Prelude.{◌≡◌, ℕ, ⊤, ◌+◌, ◌-◌, ◌<◌, min, Bool, true, false, ◌&&◌, ◌==◌, nat_lt, if◌then◌else◌, []}
+use Rattle.std.specs.Prelude.{◌∷◌, ◌++◌, Option, Some, None}
+use Rattle.std.specs.Option.{option_or}
 use Rattle.deadpool_gate.specs.Numbers.{has_number, without_number, most_handles}
 use Rattle.deadpool_gate.specs.Queue.{is_listed, joined, without}
 use Rattle.deadpool_gate.specs.Waking.{still_untold}
-use Rattle.deadpool_unmanaged.specs.State.{State, free_objects, free_room, settled, due_get, due_add, last_idle, other_idle}
-use Rattle.deadpool_unmanaged.specs.declared.steps.GetEnterReply.{GetEnterReply}
-use Rattle.deadpool_unmanaged.specs.declared.steps.GetEnterReply.TheVariants as get
-use Rattle.deadpool_unmanaged.specs.declared.steps.GetAskReply.{GetAskReply}
-use Rattle.deadpool_unmanaged.specs.declared.steps.GetAskReply.TheVariants as get_ask
-use Rattle.deadpool_unmanaged.specs.declared.steps.AddEnterReply.{AddEnterReply}
-use Rattle.deadpool_unmanaged.specs.declared.steps.AddEnterReply.TheVariants as add
-use Rattle.deadpool_unmanaged.specs.declared.steps.AddAskReply.{AddAskReply}
-use Rattle.deadpool_unmanaged.specs.declared.steps.AddAskReply.TheVariants as add_ask
-use Rattle.deadpool_parts.specs.declared.replies.StepReply.{StepReply}
-use Rattle.deadpool_parts.specs.declared.replies.StepReply.TheVariants as step
-use Rattle.deadpool_unmanaged.specs.declared.steps.BackReply.{BackReply}
-use Rattle.deadpool_unmanaged.specs.declared.steps.BackReply.TheVariants as back
-use Rattle.deadpool_unmanaged.specs.declared.steps.TakeReply.{TakeReply}
-use Rattle.deadpool_unmanaged.specs.declared.steps.TakeReply.TheVariants as taking
 use Rattle.deadpool_parts.specs.declared.replies.HandleReply.{HandleReply}
 use Rattle.deadpool_parts.specs.declared.replies.HandleReply.TheVariants as handle
+use Rattle.deadpool_unmanaged.specs.State.{State, CoreState, IsFull, free_objects, free_room, settled, due_get, due_add}
+use Rattle.deadpool_unmanaged.specs.State.{last_idle, other_idle}
+use Rattle.deadpool_unmanaged.specs.declared.step.Reply.{Reply}
+use Rattle.deadpool_unmanaged.specs.declared.step.Reply.TheVariants.{Object, Stored, Closed, Full, Waiting, OutOfMemory}
+use Rattle.deadpool_unmanaged.specs.declared.step.Reply.TheVariants.{Expired, Done, Kept, Dropped, Taken, Unknown}
+use Rattle.deadpool_unmanaged.specs.declared.step.Step.{Step}
+use Rattle.deadpool_unmanaged.specs.declared.step.Step.TheVariants.{GetEnter, GetAsk, GetCancel, AddEnter, AddAsk}
+use Rattle.deadpool_unmanaged.specs.declared.step.Step.TheVariants.{AddCancel, Back, Take}
 
 module _ {T : Type 0} where
   -- the next object goes out
@@ -43,69 +39,86 @@ module _ {T : Type 0} where
   abbrev pub with_add : ℕ → State T → State T
   with_add ticket d = record d { adds = joined ticket d.adds; untold_adds = d.untold_adds ++ ticket ∷ [] }
 
+  -- a step with its reply, and the object that is taken or given, if there is one
+  abbrev pub Does : State T → Step → Option T → Reply → State T → Type 0
   -- a get that is not in the queue yet
-  abbrev pub GetEnters : State T → Bool → GetEnterReply T → State T → Type 0
-  GetEnters d wait get.Closed d' = (d.is_open ≡ false) × (d' ≡ d)
-  GetEnters d wait (get.Object value) d' = (d.is_open ≡ true) × (0 < free_objects d) × (last_idle d.idle ≡ Some value) × (d' ≡ settled (handed d))
-  GetEnters d wait get.Full d' = (d.is_open ≡ true) × (free_objects d ≡ 0) × (wait ≡ false) × (d' ≡ d)
-  GetEnters d wait (get.Waiting ticket) d' =
-      (d.is_open ≡ true) × (free_objects d ≡ 0) × (wait ≡ true) × (is_listed ticket d.gets ≡ false) × (d' ≡ with_get ticket d)
-  GetEnters d wait get.OutOfMemory d' = (d.is_open ≡ true) × (free_objects d ≡ 0) × (wait ≡ true) × (d' ≡ d)
-
+  Does d (GetEnter wait) None Closed d' = (d.is_open ≡ false) × (d' ≡ d)
+  Does d (GetEnter wait) (Some value) Object d' =
+      (d.is_open ≡ true) × (0 < free_objects d) × (last_idle d.idle ≡ Some value) × (d' ≡ settled (handed d))
+  Does d (GetEnter wait) None Full d' = (d.is_open ≡ true) × (free_objects d ≡ 0) × (wait ≡ false) × (d' ≡ d)
+  Does d (GetEnter wait) None (Waiting ticket) d' =
+      (d.is_open ≡ true) × (free_objects d ≡ 0) × (wait ≡ true) × (is_listed ticket d.gets ≡ false)
+      × (d' ≡ with_get ticket d)
+  Does d (GetEnter wait) None OutOfMemory d' = (d.is_open ≡ true) × (free_objects d ≡ 0) × (wait ≡ true) × (d' ≡ d)
   -- A get in the queue. In an open pool one that was granted an object finds none only if nothing is idle.
-  abbrev pub GetAsks : State T → ℕ → Bool → GetAskReply T → State T → Type 0
-  GetAsks d ticket expired get_ask.Unknown d' = (is_listed ticket d.gets ≡ false) × (d' ≡ d)
-  GetAsks d ticket expired get_ask.Closed d' =
-      (is_listed ticket d.gets ≡ true) × (d.is_open ≡ true → (has_number ticket d.gets.granted ≡ true) × (d.idle ≡ [])) × (d' ≡ without_get ticket d)
-  GetAsks d ticket expired (get_ask.Object value) d' =
-      (d.is_open ≡ true) × (has_number ticket d.gets.granted ≡ true) × (last_idle d.idle ≡ Some value) × (d' ≡ settled (handed (without_get ticket d)))
-  GetAsks d ticket expired get_ask.Expired d' =
-      (d.is_open ≡ true) × (has_number ticket d.gets.granted ≡ false) × (has_number ticket d.gets.waiting ≡ true) × (expired ≡ true)
+  Does d (GetAsk ticket expired) None Unknown d' = (is_listed ticket d.gets ≡ false) × (d' ≡ d)
+  Does d (GetAsk ticket expired) None Closed d' =
+      (is_listed ticket d.gets ≡ true) × (d.is_open ≡ true → (has_number ticket d.gets.granted ≡ true) × (d.idle ≡ []))
+      × (d' ≡ without_get ticket d)
+  Does d (GetAsk ticket expired) (Some value) Object d' =
+      (d.is_open ≡ true) × (has_number ticket d.gets.granted ≡ true) × (last_idle d.idle ≡ Some value)
+      × (d' ≡ settled (handed (without_get ticket d)))
+  Does d (GetAsk ticket expired) None Expired d' =
+      (d.is_open ≡ true) × (has_number ticket d.gets.granted ≡ false) × (has_number ticket d.gets.waiting ≡ true)
+      × (expired ≡ true)
       × (d' ≡ settled (without_get ticket d))
-  GetAsks d ticket expired get_ask.Waiting d' =
-      (d.is_open ≡ true) × (has_number ticket d.gets.granted ≡ false) × (has_number ticket d.gets.waiting ≡ true) × (expired ≡ false) × (d' ≡ d)
-
+  Does d (GetAsk ticket expired) None (Waiting same) d' =
+      (d.is_open ≡ true) × (has_number ticket d.gets.granted ≡ false) × (has_number ticket d.gets.waiting ≡ true)
+      × (expired ≡ false)
+      × (same ≡ ticket) × (d' ≡ d)
   -- a get gives back what it was granted, or its wait
-  abbrev pub GetCancels : State T → ℕ → StepReply → State T → Type 0
-  GetCancels d ticket step.Unknown d' = (is_listed ticket d.gets ≡ false) × (d' ≡ d)
-  GetCancels d ticket step.Done d' = (is_listed ticket d.gets ≡ true) × (d' ≡ settled (without_get ticket d))
-
+  Does d (GetCancel ticket) None Unknown d' = (is_listed ticket d.gets ≡ false) × (d' ≡ d)
+  Does d (GetCancel ticket) None Done d' = (is_listed ticket d.gets ≡ true) × (d' ≡ settled (without_get ticket d))
   -- an add that is not in the queue yet
-  abbrev pub AddEnters : State T → T → Bool → AddEnterReply T → State T → Type 0
-  AddEnters d value wait (add.Closed given) d' = (d.is_open ≡ false) × (given ≡ value) × (d' ≡ d)
-  AddEnters d value wait add.Stored d' = (d.is_open ≡ true) × (0 < free_room d) × (d' ≡ settled (stored value d))
-  AddEnters d value wait (add.Full given) d' = (d.is_open ≡ true) × (free_room d ≡ 0) × (wait ≡ false) × (given ≡ value) × (d' ≡ d)
-  AddEnters d value wait (add.Waiting ticket given) d' =
-      (d.is_open ≡ true) × (free_room d ≡ 0) × (wait ≡ true) × (is_listed ticket d.adds ≡ false) × (given ≡ value)
+  Does d (AddEnter wait) (Some value) Closed d' = (d.is_open ≡ false) × (d' ≡ d)
+  Does d (AddEnter wait) (Some value) Stored d' =
+      (d.is_open ≡ true) × (0 < free_room d) × (d' ≡ settled (stored value d))
+  Does d (AddEnter wait) (Some value) Full d' = (d.is_open ≡ true) × (free_room d ≡ 0) × (wait ≡ false) × (d' ≡ d)
+  Does d (AddEnter wait) (Some value) (Waiting ticket) d' =
+      (d.is_open ≡ true) × (free_room d ≡ 0) × (wait ≡ true) × (is_listed ticket d.adds ≡ false)
       × (d' ≡ with_add ticket d)
-  AddEnters d value wait (add.OutOfMemory given) d' = (d.is_open ≡ true) × (free_room d ≡ 0) × (wait ≡ true) × (given ≡ value) × (d' ≡ d)
-
+  Does d (AddEnter wait) (Some value) OutOfMemory d' = (d.is_open ≡ true) × (free_room d ≡ 0) × (wait ≡ true) × (d' ≡ d)
   -- an add in the queue
-  abbrev pub AddAsks : State T → ℕ → T → AddAskReply T → State T → Type 0
-  AddAsks d ticket value (add_ask.Unknown given) d' = (is_listed ticket d.adds ≡ false) × (given ≡ value) × (d' ≡ d)
-  AddAsks d ticket value (add_ask.Closed given) d' = (d.is_open ≡ false) × (is_listed ticket d.adds ≡ true) × (given ≡ value) × (d' ≡ without_add ticket d)
-  AddAsks d ticket value add_ask.Stored d' =
-      (d.is_open ≡ true) × (has_number ticket d.adds.granted ≡ true) × (d' ≡ settled (stored value (without_add ticket d)))
-  AddAsks d ticket value (add_ask.Waiting given) d' =
-      (d.is_open ≡ true) × (has_number ticket d.adds.granted ≡ false) × (has_number ticket d.adds.waiting ≡ true) × (given ≡ value) × (d' ≡ d)
-
+  Does d (AddAsk ticket) (Some value) Unknown d' = (is_listed ticket d.adds ≡ false) × (d' ≡ d)
+  Does d (AddAsk ticket) (Some value) Closed d' =
+      (d.is_open ≡ false) × (is_listed ticket d.adds ≡ true) × (d' ≡ without_add ticket d)
+  Does d (AddAsk ticket) (Some value) Stored d' =
+      (d.is_open ≡ true) × (has_number ticket d.adds.granted ≡ true)
+      × (d' ≡ settled (stored value (without_add ticket d)))
+  Does d (AddAsk ticket) (Some value) (Waiting same) d' =
+      (d.is_open ≡ true) × (has_number ticket d.adds.granted ≡ false) × (has_number ticket d.adds.waiting ≡ true)
+      × (same ≡ ticket) × (d' ≡ d)
   -- an add gives back the room that it was granted, or its wait
-  abbrev pub AddCancels : State T → ℕ → StepReply → State T → Type 0
-  AddCancels d ticket step.Unknown d' = (is_listed ticket d.adds ≡ false) × (d' ≡ d)
-  AddCancels d ticket step.Done d' = (is_listed ticket d.adds ≡ true) × (d' ≡ settled (without_add ticket d))
-
+  Does d (AddCancel ticket) None Unknown d' = (is_listed ticket d.adds ≡ false) × (d' ≡ d)
+  Does d (AddCancel ticket) None Done d' = (is_listed ticket d.adds ≡ true) × (d' ≡ settled (without_add ticket d))
   -- an object comes back
-  abbrev pub TakesBack : State T → T → BackReply T → State T → Type 0
-  TakesBack d value (back.Unknown given) d' = (d.outside ≡ 0) × (given ≡ value) × (d' ≡ d)
-  TakesBack d value (back.Dropped given) d' =
-      (0 < d.outside) × ((d.is_open && nat_lt 0 d.handles) ≡ false) × (given ≡ value) × (d' ≡ settled (record d { outside = d.outside - 1 }))
-  TakesBack d value back.Kept d' =
-      (0 < d.outside) × (d.is_open ≡ true) × (0 < d.handles) × (d' ≡ settled (stored value (record d { outside = d.outside - 1 })))
-
+  Does d Back (Some value) Unknown d' = (d.outside ≡ 0) × (d' ≡ d)
+  Does d Back (Some value) Dropped d' =
+      (0 < d.outside) × ((d.is_open && nat_lt 0 d.handles) ≡ false)
+      × (d' ≡ settled (record d { outside = d.outside - 1 }))
+  Does d Back (Some value) Kept d' =
+      (0 < d.outside) × (d.is_open ≡ true) × (0 < d.handles)
+      × (d' ≡ settled (stored value (record d { outside = d.outside - 1 })))
   -- an object that is out leaves for good
-  abbrev pub Takes : State T → TakeReply → State T → Type 0
-  Takes d taking.Unknown d' = (d.outside ≡ 0) × (d' ≡ d)
-  Takes d taking.Taken d' = (0 < d.outside) × (d' ≡ settled (record d { outside = d.outside - 1 }))
+  Does d Take None Unknown d' = (d.outside ≡ 0) × (d' ≡ d)
+  Does d Take None Taken d' = (0 < d.outside) × (d' ≡ settled (record d { outside = d.outside - 1 }))
+  Does d _ _ _ d' = ⊥
+
+  -- Who joins a queue has its next ticket. Memory is wanting only where that queue had no room.
+  abbrev pub Queues : CoreState T → Step → Reply → Type 0
+  Queues c (GetEnter wait) (Waiting ticket) = ticket ≡ c.next_get
+  Queues c (GetEnter wait) OutOfMemory = IsFull c.gets_room c.pool.gets
+  Queues c (AddEnter wait) (Waiting ticket) = ticket ≡ c.next_add
+  Queues c (AddEnter wait) OutOfMemory = IsFull c.adds_room c.pool.adds
+  Queues c _ _ = ⊤
+
+  -- a core's step with the object that is taken or given
+  abbrev pub Steps : CoreState T → Step → Option T → Reply → CoreState T → Type 0
+  Steps c step object reply c' = Does c.pool step object reply c'.pool × Queues c step reply
+
+  -- the same, with what was in the hand, and what is in it then
+  abbrev pub Makes : CoreState T → Step → Option T → Reply → Option T → CoreState T → Type 0
+  Makes c step was reply hand c' = Steps c step (option_or was hand) reply c'
 
   -- the pool closes, and nothing stays idle
   abbrev pub closed_pool : State T → State T

@@ -1,7 +1,8 @@
 -- What `{}` writes for an error.
 use Rattle.std.specs.Prelude.{ℕ, List, codes}
 use Rattle.deadpool_unmanaged.specs.declared.error.PoolError.{PoolError}
-use Rattle.deadpool_unmanaged.specs.declared.error.PoolError.TheVariants.{Timeout, Closed, NoRuntimeSpecified, OutOfMemory}
+use Rattle.deadpool_unmanaged.specs.declared.error.PoolError.TheVariants.{Timeout, Closed, NoRuntimeSpecified}
+use Rattle.deadpool_unmanaged.specs.declared.error.PoolError.TheVariants.{OutOfMemory}
 
 abbrev pub pool_error_text : PoolError → List ℕ
 pool_error_text Timeout = codes "Timeout occurred while waiting for an object to become available"

@@ -1,12 +1,12 @@
 //! An add, as a state that its owner polls.
 ghost use Rattle.std.specs.Prelude.{◌≡◌, IfSome, option_map};
-ghost use Rattle.deadpool_unmanaged.specs.Adds.{PollsAdd, CancelsAdd, held_by, ticket_of, stage_entered, turn_entered, stage_asked, turn_asked, IsWithoutMemory};
+ghost use Rattle.deadpool_unmanaged.specs.Adds.{PollsAdd, CancelsAdd, held_by, ticket_of, stage_after, turn_after};
+ghost use Rattle.deadpool_unmanaged.specs.Adds.{IsWithoutMemory};
 ghost use Rattle.deadpool_unmanaged.specs.Queueing.{add_joins};
 ghost use Rattle.deadpool_unmanaged.specs.State.{IsFull};
 
-use crate::PoolError;
-use crate::settled::Core;
-use crate::steps::{AddAskReply, AddEnterReply};
+use crate::state::Core;
+use crate::{PoolError, Reply, Step};
 use deadpool_gate::gate::Ticket;
 use futures::task::Poll;
 use std::marker::Model;
@@ -21,9 +21,9 @@ pub enum AddStage<T> {
     Finished,
 }
 
-/// An add, as a state that its owner polls. Dropping it drops its object and gives nothing back: `cancel` does that. It is
-/// to be polled and cancelled with the same core: with another it still has its entry in the first one's queue, and may be
-/// taken for an add in the other's.
+/// An add, as a state that its owner polls. Dropping it drops its object and gives nothing back: `cancel` does that. It
+/// is to be polled and cancelled with the same core: with another it still has its entry in the first one's queue, and
+/// may be taken for an add in the other's.
 #[derive(Drop)]
 pub struct AddState<T> {
     stage: AddStage<T>,
@@ -86,8 +86,8 @@ impl<T: Drop> AddState<T> {
         }
     }
 
-    /// Whether a poll would join the queue now, if there is memory for its entry: it was not polled yet, and there is no room
-    /// for it.
+    /// Whether a poll would join the queue now, if there is memory for its entry: it was not polled yet, and there is
+    /// no room for it.
     pub fn would_queue(&self, core: &Core<T>) -> bool
         ensures { result ≡ add_joins self.now core.now.pool }
     {
@@ -107,52 +107,36 @@ impl<T: Drop> AddState<T> {
     {
         match mem::replace(&mut self.stage, AddStage::Finished) {
             AddStage::Unpolled(value) => {
-                let reply = core.add_enter(value, true);
-                self.after_entered(reply)
+                let mut hand = Some(value);
+                let reply = core.make(&Step::AddEnter { wait: true }, &mut hand);
+                self.after(reply, hand)
             }
             AddStage::Queued(ticket, value) => {
-                let reply = core.add_ask(ticket, value);
-                self.after_asked(ticket, reply)
+                let mut hand = Some(value);
+                let reply = core.make(&Step::AddAsk { ticket }, &mut hand);
+                self.after(reply, hand)
             }
             AddStage::Finished => Poll::Pending,
         }
     }
 
-    fn after_entered(&mut self, reply: AddEnterReply<T>) -> Poll<Result<(), (T, PoolError)>>
+    // What the reply to its step says, with what is left in the hand then. The object that is stored is not.
+    fn after(&mut self, reply: Reply, hand: Option<T>) -> Poll<Result<(), (T, PoolError)>>
         requires { self.old ≡ AddStage.Finished }
-        ensures stage { self.new ≡ stage_entered reply }
-        ensures turn { result ≡ turn_entered reply }
+        ensures stage { self.new ≡ stage_after reply hand }
+        ensures turn { result ≡ turn_after reply hand }
     {
+        let Some(value) = hand else {
+            return Poll::Ready(Ok(()));
+        };
         match reply {
-            AddEnterReply::Stored => Poll::Ready(Ok(())),
-            AddEnterReply::Closed(value) => Poll::Ready(Err((value, PoolError::Closed))),
-            AddEnterReply::Full(value) => Poll::Ready(Err((value, PoolError::Timeout))),
-            AddEnterReply::Waiting(ticket, value) => {
+            Reply::Waiting(ticket) => {
                 self.stage = AddStage::Queued(ticket, value);
                 Poll::Pending
             }
-            AddEnterReply::OutOfMemory(value) => Poll::Ready(Err((value, PoolError::OutOfMemory))),
-        }
-    }
-
-    fn after_asked(
-        &mut self,
-        ticket: Ticket,
-        reply: AddAskReply<T>,
-    ) -> Poll<Result<(), (T, PoolError)>>
-        requires { self.old ≡ AddStage.Finished }
-        ensures stage { self.new ≡ stage_asked ticket reply }
-        ensures turn { result ≡ turn_asked reply }
-    {
-        match reply {
-            AddAskReply::Stored => Poll::Ready(Ok(())),
-            AddAskReply::Closed(value) | AddAskReply::Unknown(value) => {
-                Poll::Ready(Err((value, PoolError::Closed)))
-            }
-            AddAskReply::Waiting(value) => {
-                self.stage = AddStage::Queued(ticket, value);
-                Poll::Pending
-            }
+            Reply::Full => Poll::Ready(Err((value, PoolError::Timeout))),
+            Reply::OutOfMemory => Poll::Ready(Err((value, PoolError::OutOfMemory))),
+            _ => Poll::Ready(Err((value, PoolError::Closed))),
         }
     }
 
@@ -164,7 +148,7 @@ impl<T: Drop> AddState<T> {
         let AddState { stage } = self;
         match stage {
             AddStage::Queued(ticket, value) => {
-                core.add_cancel(ticket);
+                core.make(&Step::AddCancel { ticket }, &mut None);
                 Some(value)
             }
             AddStage::Unpolled(value) => Some(value),

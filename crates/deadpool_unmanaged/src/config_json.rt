@@ -14,8 +14,8 @@ use serde_json::{Value, json};
 use std::alloc::{AllocError, Global};
 
 impl PoolConfig {
-    /// The configuration that a value is, or the first fault in it: in `max_size`, then in `timeout`. There is no runtime in
-    /// it.
+    /// The configuration that a value is, or the first fault in it: in `max_size`, then in `timeout`. There is no
+    /// runtime in it.
     pub fn from_json(value: &Value) -> Result<Self, ConfigError>
         ensures read { result_map settings_of result ≡ read_config (view value.now) }
         ensures runtime { IfOk result (λ config. config.runtime ≡ None) }

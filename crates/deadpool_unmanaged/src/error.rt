@@ -1,8 +1,8 @@
 //! Why a get or an add was refused. The error's text is the `output` of its `Display`.
 use std::fmt;
 
-/// Why a get ended without an object, or an add with its object. It then holds nothing of the pool's, if each of its polls
-/// was with the same core.
+/// Why a get ended without an object, or an add with its object. It then holds nothing of the pool's, if each of its
+/// polls was with the same core.
 #[derive(Clone, Copy, Debug, PartialEq, Eq)]
 pub enum PoolError {
     /// Nothing was free, and the wait is over.

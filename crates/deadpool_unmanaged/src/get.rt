@@ -1,12 +1,11 @@
 //! A get, as a state that its owner polls.
 ghost use Rattle.std.specs.Prelude.{◌≡◌, IfSome};
-ghost use Rattle.deadpool_unmanaged.specs.Gets.{PollsGet, CancelsGet, ticket_of, deadline_of, stage_entered, turn_entered, stage_asked, turn_asked};
+ghost use Rattle.deadpool_unmanaged.specs.Gets.{PollsGet, CancelsGet, ticket_of, deadline_of, stage_after, turn_after};
 ghost use Rattle.deadpool_unmanaged.specs.Queueing.{get_joins};
 ghost use Rattle.deadpool_unmanaged.specs.State.{IsFull};
 
-use crate::settled::Core;
-use crate::steps::{GetAskReply, GetEnterReply};
-use crate::{Moment, PoolError, Runtime};
+use crate::state::Core;
+use crate::{Moment, PoolError, Reply, Runtime, Step};
 use deadpool_gate::gate::Ticket;
 use deadpool_parts::deadline::{cannot_wait, deadline_after, is_reached};
 use futures::task::Poll;
@@ -24,9 +23,9 @@ pub enum GetStage {
     Finished,
 }
 
-/// A get, as a state that its owner polls. Dropping it gives nothing back: `cancel` does. It is to be polled and cancelled
-/// with the same core: with another it still has its entry in the first one's queue, and may be taken for a get in the
-/// other's.
+/// A get, as a state that its owner polls. Dropping it gives nothing back: `cancel` does. It is to be polled and
+/// cancelled with the same core: with another it still has its entry in the first one's queue, and may be taken for a
+/// get in the other's.
 #[derive(Drop)]
 pub struct GetState {
     stage: GetStage,
@@ -43,8 +42,8 @@ impl Model for GetState {
 }
 
 impl GetState {
-    /// A get that was not polled yet, which may wait so long; none set is without an end. Nothing happens before its first
-    /// poll.
+    /// A get that was not polled yet, which may wait so long; none set is without an end. Nothing happens before its
+    /// first poll.
     pub fn new(wait: Option<Duration>) -> Self
         ensures { result ≡ GetStage.Unpolled wait }
     {
@@ -90,8 +89,8 @@ impl GetState {
         }
     }
 
-    /// Whether a poll would join the queue now, if there is memory for its entry: it was not polled yet, may wait, and nothing is
-    /// free for it.
+    /// Whether a poll would join the queue now, if there is memory for its entry: it was not polled yet, may wait, and
+    /// nothing is free for it.
     pub fn would_queue<T: Drop>(
         &self,
         core: &Core<T>,
@@ -110,8 +109,9 @@ impl GetState {
         }
     }
 
-    /// Asks the pool for an object, with at most one step. A wait above zero needs a runtime, which is looked for before the
-    /// pool is asked. A get that joins the queue has the ticket that `next_get` told. A get that has ended stays pending.
+    /// Asks the pool for an object, with at most one step. A wait above zero needs a runtime, which is looked for
+    /// before the pool is asked. A get that joins the queue has the ticket that `next_get` told. A get that has ended
+    /// stays pending.
     pub fn poll<T: Drop>(
         &mut self,
         core: &mut Core<T>,
@@ -130,56 +130,40 @@ impl GetState {
                     return Poll::Ready(Err(PoolError::NoRuntimeSpecified));
                 }
                 let deadline = deadline_after(now, wait);
-                let reply = core.get_enter(!is_reached(deadline, now));
-                self.after_entered(deadline, reply)
+                let wait = !is_reached(deadline, now);
+                let mut hand = None;
+                let reply = core.make(&Step::GetEnter { wait }, &mut hand);
+                self.after(deadline, reply, hand)
             }
             GetStage::Queued(ticket, deadline) => {
-                let reply = core.get_ask(ticket, is_reached(deadline, now));
-                self.after_asked(ticket, deadline, reply)
+                let expired = is_reached(deadline, now);
+                let mut hand = None;
+                let reply = core.make(&Step::GetAsk { ticket, expired }, &mut hand);
+                self.after(deadline, reply, hand)
             }
             GetStage::Finished => Poll::Pending,
         }
     }
 
-    fn after_entered<T: Drop>(
+    // What the reply to its step says, with what is in the hand then.
+    fn after<T: Drop>(
         &mut self,
         deadline: Option<Moment>,
-        reply: GetEnterReply<T>,
+        reply: Reply,
+        hand: Option<T>,
     ) -> Poll<Result<T, PoolError>>
         requires { self.old ≡ GetStage.Finished }
-        ensures stage { self.new ≡ stage_entered deadline reply }
-        ensures turn { result ≡ turn_entered reply }
+        ensures stage { self.new ≡ stage_after deadline reply }
+        ensures turn { result ≡ turn_after reply hand }
     {
         match reply {
-            GetEnterReply::Object(value) => Poll::Ready(Ok(value)),
-            GetEnterReply::Closed => Poll::Ready(Err(PoolError::Closed)),
-            GetEnterReply::Full => Poll::Ready(Err(PoolError::Timeout)),
-            GetEnterReply::Waiting(ticket) => {
+            Reply::Waiting(ticket) => {
                 self.stage = GetStage::Queued(ticket, deadline);
                 Poll::Pending
             }
-            GetEnterReply::OutOfMemory => Poll::Ready(Err(PoolError::OutOfMemory)),
-        }
-    }
-
-    fn after_asked<T: Drop>(
-        &mut self,
-        ticket: Ticket,
-        deadline: Option<Moment>,
-        reply: GetAskReply<T>,
-    ) -> Poll<Result<T, PoolError>>
-        requires { self.old ≡ GetStage.Finished }
-        ensures stage { self.new ≡ stage_asked ticket deadline reply }
-        ensures turn { result ≡ turn_asked reply }
-    {
-        match reply {
-            GetAskReply::Object(value) => Poll::Ready(Ok(value)),
-            GetAskReply::Closed | GetAskReply::Unknown => Poll::Ready(Err(PoolError::Closed)),
-            GetAskReply::Expired => Poll::Ready(Err(PoolError::Timeout)),
-            GetAskReply::Waiting => {
-                self.stage = GetStage::Queued(ticket, deadline);
-                Poll::Pending
-            }
+            Reply::Full | Reply::Expired => Poll::Ready(Err(PoolError::Timeout)),
+            Reply::OutOfMemory => Poll::Ready(Err(PoolError::OutOfMemory)),
+            _ => Poll::Ready(hand.ok_or(PoolError::Closed)),
         }
     }
 
@@ -190,7 +174,7 @@ impl GetState {
         let GetState { stage } = self;
         match stage {
             GetStage::Queued(ticket, _) => {
-                core.get_cancel(ticket);
+                core.make(&Step::GetCancel { ticket }, &mut None);
             }
             GetStage::Unpolled(_) | GetStage::Finished => {}
         }

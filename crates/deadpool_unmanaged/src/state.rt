@@ -1,20 +1,37 @@
-//! The state of an unmanaged pool on one thread: a line for objects, a line for room, and the idle objects.
-ghost use Rattle.std.specs.Prelude.{◌≡◌, ℕ, ◌<◌, ◌≤◌, ◌==◌, nat_lt, not, [], length, vec_capacity, IfOk, IfSome, IfNone, option_copied, slice_get};
-ghost use Rattle.deadpool_unmanaged.specs.State.{IsFull, has_due, free_objects, free_room, get_would_queue, add_would_queue, opened, settled, status_of, last_idle};
-ghost use Rattle.deadpool_unmanaged.specs.StateSteps.{GetEnters, GetAsks, GetCancels, AddEnters, AddAsks, AddCancels, TakesBack, Takes, TakesGetWake, TakesAddWake, Clones, DropsHandle, Upgrades, handed, stored, closed_pool};
+//! The core of an unmanaged pool: a line for objects, a line for room, and the idle objects; and each step that a get,
+//! an add or an object makes.
+//!
+//! `line` settles one of the two lines. `counted` has what a core says of itself, and `owner` the steps of the pool's
+//! owner.
+ghost use Rattle.std.specs.Prelude.{◌≡◌, ◌-◌, ◌<◌, ◌≤◌, not, [], ◌++◌, None, length, vec_capacity, IfOk, IsSome};
+ghost use Rattle.std.specs.Option.{option_to_list};
+ghost use Rattle.deadpool_gate.specs.Gate.{granted_tickets, untold_tickets};
+ghost use Rattle.deadpool_gate.specs.Queue.{served};
+ghost use Rattle.deadpool_unmanaged.specs.Kept.{IsKept};
+ghost use Rattle.deadpool_unmanaged.specs.Lines.{queue_of};
+ghost use Rattle.deadpool_unmanaged.specs.State.{has_due, last_idle, opened, other_idle};
+ghost use Rattle.deadpool_unmanaged.specs.Replies.{Brings, IsReplyTo, Leaves};
+ghost use Rattle.deadpool_unmanaged.specs.StateSteps.{Makes, Steps, TakesGetWake, TakesAddWake};
 
 mod counted;
+mod line;
+mod owner;
 
-use crate::steps::{AddAskReply, AddEnterReply, BackReply, GetAskReply, GetEnterReply, TakeReply};
-use crate::{HandleReply, Status, StepReply};
+use crate::{Reply, Step};
 use deadpool_gate::gate::{Ask, Entry, Gate, Ticket, Withdrawn};
+use line::settle;
 use std::alloc::{AllocError, Global};
 use std::marker::Model;
 
-/// A pool's state. In the middle of a step somebody may wait for what is free: a step that puts something in or gives
-/// something back settles at its end. `Core` makes whole steps over it.
+/// The state of an unmanaged pool on one thread. A step that puts something in or gives something back ends with the
+/// settling: the earliest gets that wait are granted the objects that are free, and the earliest adds the free room. So
+/// in an open pool nobody waits for what is free. In an open pool with a handle, an object or room that was granted is
+/// nobody else's until its party has asked or cancelled.
+///
+/// No step tells a get or an add in the queue that its wait has ended. Who owns the core asks `take_get_wake` and
+/// `take_add_wake` whom to tell.
 #[derive(Drop)]
-pub(crate) struct PoolState<T> {
+pub struct Core<T> {
     // Gets ask for objects, and adds for room.
     gets: Gate,
     adds: Gate,
@@ -26,7 +43,7 @@ pub(crate) struct PoolState<T> {
     handles: u64,
 }
 
-impl<T> Model for PoolState<T> {
+impl<T> Model for Core<T> {
     ghost use Rattle.deadpool_unmanaged.specs.State.{CoreState};
 
     ghost Value = { CoreState T };
@@ -38,30 +55,65 @@ impl<T> Model for PoolState<T> {
     ghost invariant = { IsSound };
 }
 
-impl<T: Drop> PoolState<T> {
-    /// With nothing idle, and room for so many objects.
-    pub fn new(alloc: Global, max_size: usize) -> Result<PoolState<T>, AllocError>
-        ensures { IfOk result (λ state. state.pool ≡ opened max_size []) }
+// The next object goes out.
+#[inline(always)]
+fn take_last<T>(idle: &mut Vec<T>) -> Option<T>
+    ensures value { result ≡ last_idle idle.old.items }
+    ensures others { idle.new.items ≡ other_idle idle.old.items }
+    ensures room { vec_capacity idle.old ≤ vec_capacity idle.new }
+{
+    idle.pop()
+}
+
+// The object in the hand joins the idle ones, where there is room for it, and the earliest get that waits is granted
+// it.
+#[inline(always)]
+fn store<T: Drop>(idle: &mut Vec<T>, gets: &mut Gate, hand: &mut Option<T>)
+    requires room { length idle.old.items < vec_capacity idle.old }
+    requires hand { IsSome hand.old }
+    ensures idle { idle.new.items ≡ idle.old.items ++ option_to_list hand.old }
+    ensures room { vec_capacity idle.old ≤ vec_capacity idle.new }
+    ensures hand { hand.new ≡ None }
+    ensures gets { queue_of gets.new.waiters ≡ served (not gets.old.is_closed)
+        (length idle.new.items - length (granted_tickets gets.old.waiters))
+        (queue_of gets.old.waiters) }
+    ensures untold { untold_tickets gets.new.waiters ≡ untold_tickets gets.old.waiters }
+    ensures closed { gets.new.is_closed ≡ gets.old.is_closed }
+{
+    let Some(value) = hand.take() else {
+        unreachable!();
+    };
+    match idle.push(value) {
+        Ok(()) => settle(gets, idle.len()),
+        Err(_) => unreachable!(),
+    }
+}
+
+impl<T: Drop> Core<T> {
+    /// An open pool with nothing idle and one handle. It has room for `max_size` objects from now on: only
+    /// those that enter are answered `OutOfMemory`, for an entry in a queue that has no room left.
+    pub fn new(alloc: Global, max_size: usize) -> Result<Core<T>, AllocError>
+        ensures { IfOk result (λ core. core.pool ≡ opened max_size []) }
     {
         let idle = Vec::with_capacity(alloc, max_size)?;
-        Ok(PoolState::open(alloc, idle, max_size))
+        Ok(Core::open(alloc, idle, max_size))
     }
 
-    /// With these objects idle, and room for no more.
-    pub fn from_items(alloc: Global, items: Vec<T>) -> PoolState<T>
+    /// An open pool with one handle, in which these objects are idle, the last to go out first, and no more fit.
+    pub fn from_items(alloc: Global, items: Vec<T>) -> Core<T>
         ensures { result.pool ≡ opened (length items.items) items.items }
     {
         let limit = items.len();
-        PoolState::open(alloc, items, limit)
+        Core::open(alloc, items, limit)
     }
 
     // An open pool with these objects idle and one handle.
-    fn open(alloc: Global, idle: Vec<T>, limit: usize) -> PoolState<T>
+    fn open(alloc: Global, idle: Vec<T>, limit: usize) -> Core<T>
         requires few { length idle.items ≤ limit }
         requires room { limit ≤ vec_capacity idle }
         ensures { result.pool ≡ opened limit idle.items }
     {
-        PoolState {
+        Core {
             gets: Gate::new(alloc),
             adds: Gate::new(alloc),
             idle,
@@ -71,329 +123,197 @@ impl<T: Drop> PoolState<T> {
         }
     }
 
-    /// Whether the pool has closed.
-    pub fn is_closed(&self) -> bool
-        ensures { result ≡ not self.now.pool.is_open }
+    /// What is true of every core. The call does nothing.
+    pub fn laws(&self)
+        ensures { IsKept self.now.pool }
     {
-        self.gets.is_closed()
+        let _ = &self.gets;
     }
 
-    /// The number of the ticket that the next get has.
-    pub fn next_get(&self) -> usize
-        ensures { result ≡ self.now.next_get }
-    {
-        self.gets.next_number()
-    }
-
-    /// The number of the ticket that the next add has.
-    pub fn next_add(&self) -> usize
-        ensures { result ≡ self.now.next_add }
-    {
-        self.adds.next_number()
-    }
-
-    /// The next get that is due to be told and was not.
+    /// The earliest get in the queue whose wait has ended, by an object or by the closing, and that was not named
+    /// before. It stays in the queue until it asks or cancels. Nothing else changes.
     pub fn take_get_wake(&mut self) -> Option<Ticket>
         ensures { TakesGetWake self.old.pool result self.new.pool }
     {
         self.gets.take_wake()
     }
 
-    /// The next add that is due to be told and was not.
+    /// The earliest add in the queue whose wait has ended, by room or by the closing, and that was not named before. It
+    /// stays in the queue until it asks or cancels. Nothing else changes.
     pub fn take_add_wake(&mut self) -> Option<Ticket>
         ensures { TakesAddWake self.old.pool result self.new.pool }
     {
         self.adds.take_wake()
     }
 
-    /// Whether there is a get or an add of these.
+    /// Whether `take_get_wake` or `take_add_wake` would name somebody.
     pub fn is_wake_due(&self) -> bool
         ensures { result ≡ has_due self.now.pool }
     {
         self.gets.is_wake_due() || self.adds.is_wake_due()
     }
 
-    /// Whether a handle is left.
-    pub fn has_handle(&self) -> bool
-        ensures { result ≡ nat_lt 0 self.now.pool.handles }
+    /// Makes one step. The object that it takes or gives is in `hand`. `OutOfMemory` comes only if the queue had no
+    /// room left.
+    #[inline(always)]
+    pub fn make(&mut self, step: &Step, hand: &mut Option<T>) -> Reply
+        requires { Brings step.now hand.old }
+        ensures made { Makes self.old step.now hand.old result hand.new self.new }
+        ensures fits { IsReplyTo step.now result }
+        ensures hand { Leaves result hand.old hand.new }
     {
-        self.handles > 0
-    }
-
-    /// Whether just one handle is left.
-    pub fn is_last_handle(&self) -> bool
-        ensures { result ≡ (self.now.pool.handles == 1) }
-    {
-        self.handles == 1
-    }
-
-    /// The idle object at this position. The last is the next to go out.
-    pub fn idle_at(&self, at: usize) -> Option<&T>
-        ensures { option_copied result ≡ slice_get self.now.pool.idle at }
-    {
-        self.idle.get(at)
-    }
-
-    // How many idle objects no get was granted.
-    fn free_objects(&self) -> usize
-        ensures { result ≡ free_objects self.now.pool }
-    {
-        self.idle.len().saturating_sub(self.gets.granted())
-    }
-
-    // How much room no add was granted.
-    fn free_room(&self) -> usize
-        ensures { result ≡ free_room self.now.pool }
-    {
-        let used = self.idle.len() + self.outside + self.adds.granted();
-        self.limit.saturating_sub(used)
-    }
-
-    /// Whether a get that is willing to wait would join the queue.
-    pub fn get_would_queue(&self) -> bool
-        ensures { result ≡ get_would_queue self.now.pool }
-    {
-        !self.gets.is_closed() && self.free_objects() == 0
-    }
-
-    /// Whether an add would join the queue.
-    pub fn add_would_queue(&self) -> bool
-        ensures { result ≡ add_would_queue self.now.pool }
-    {
-        !self.gets.is_closed() && self.free_room() == 0
-    }
-
-    // Grants the free objects to the earliest gets that wait, and the free room to the earliest adds.
-    fn settle(&mut self)
-        ensures { self.new.pool ≡ settled self.old.pool }
-    {
-        if self.gets.waiting() > 0 || self.adds.waiting() > 0 {
-            let objects = self.free_objects();
-            let room = self.free_room();
-            self.gets.settle(objects);
-            self.adds.settle(room);
+        match step {
+            Step::GetEnter { wait } => self.get_enter(*wait, hand),
+            Step::GetAsk { ticket, expired } => self.get_ask(*ticket, *expired, hand),
+            Step::GetCancel { ticket } => self.get_cancel(*ticket),
+            Step::AddEnter { wait } => self.add_enter(*wait, hand),
+            Step::AddAsk { ticket } => self.add_ask(*ticket, hand),
+            Step::AddCancel { ticket } => self.add_cancel(*ticket),
+            Step::Back => self.back(hand),
+            Step::Take => self.take(),
         }
     }
 
-    // The next object goes out.
-    fn take_last(&mut self) -> Option<T>
-        ensures value { result ≡ last_idle self.old.pool.idle }
-        ensures some { IfSome result (λ _. self.new.pool ≡ handed self.old.pool) }
-        ensures none { IfNone result (self.new.pool ≡ self.old.pool) }
-    {
-        let value = self.idle.pop()?;
-        self.outside += 1;
-        Some(value)
-    }
-
-    // An object joins the idle ones. There is room for it.
-    fn store(&mut self, value: T)
-        requires { 0 < free_room self.old.pool }
-        ensures { self.new.pool ≡ settled (stored value self.old.pool) }
-    {
-        match self.idle.push(value) {
-            Ok(()) => self.settle(),
-            Err(_) => unreachable!(),
-        }
-    }
-
-    /// A new get has an object, joins its queue, or is refused.
-    pub fn get_enter(&mut self, wait: bool) -> GetEnterReply<T>
-        ensures enters { GetEnters self.old.pool wait result self.new.pool }
-        ensures memory { result ≡ GetEnterReply.OutOfMemory
-            → IsFull self.old.gets_room self.old.pool.gets }
-        ensures number { (ticket : ℕ)
-            → result ≡ GetEnterReply.Waiting ticket → ticket ≡ self.old.next_get }
+    // It has an object, joins the queue, or is refused.
+    #[inline(always)]
+    fn get_enter(&mut self, wait: bool, hand: &mut Option<T>) -> Reply
+        requires { hand.old ≡ None }
+        ensures made { Steps self.old (Step.GetEnter wait) hand.new result self.new }
+        ensures hand { Leaves result hand.old hand.new }
     {
         let objects = self.free_objects();
         match self.gets.enter(objects, wait) {
-            Entry::Granted => match self.take_last() {
+            Entry::Granted => match take_last(&mut self.idle) {
                 Some(value) => {
-                    self.settle();
-                    GetEnterReply::Object(value)
+                    *hand = Some(value);
+                    self.outside += 1;
+                    Reply::Object
                 }
                 None => unreachable!(),
             },
-            Entry::Closed => GetEnterReply::Closed,
-            Entry::Full => GetEnterReply::Full,
-            Entry::Waiting(ticket) => GetEnterReply::Waiting(ticket),
-            Entry::OutOfMemory => GetEnterReply::OutOfMemory,
+            Entry::Closed => Reply::Closed,
+            Entry::Full => Reply::Full,
+            Entry::Waiting(ticket) => Reply::Waiting(ticket),
+            Entry::OutOfMemory => Reply::OutOfMemory,
         }
     }
 
-    /// A queued get has an object, stays, or leaves the queue.
-    pub fn get_ask(&mut self, ticket: Ticket, expired: bool) -> GetAskReply<T>
-        ensures { GetAsks self.old.pool ticket expired result self.new.pool }
+    // It has an object, stays, or leaves the queue.
+    fn get_ask(&mut self, ticket: Ticket, expired: bool, hand: &mut Option<T>) -> Reply
+        requires { hand.old ≡ None }
+        ensures made { Steps self.old (Step.GetAsk ticket expired) hand.new result self.new }
+        ensures hand { Leaves result hand.old hand.new }
     {
         match self.gets.ask(ticket) {
-            Ask::Granted => match self.take_last() {
+            Ask::Granted => match take_last(&mut self.idle) {
                 Some(value) => {
-                    self.settle();
-                    GetAskReply::Object(value)
+                    *hand = Some(value);
+                    self.outside += 1;
+                    Reply::Object
                 }
-                None => GetAskReply::Closed,
+                None => Reply::Closed,
             },
-            Ask::Closed => GetAskReply::Closed,
-            Ask::Unknown => GetAskReply::Unknown,
+            Ask::Closed => Reply::Closed,
+            Ask::Unknown => Reply::Unknown,
             Ask::Waiting => {
                 if expired {
                     self.gets.withdraw(ticket);
-                    self.settle();
-                    GetAskReply::Expired
+                    Reply::Expired
                 } else {
-                    GetAskReply::Waiting
+                    Reply::Waiting(ticket)
                 }
             }
         }
     }
 
-    /// A queued get leaves. What it was granted goes to the next.
-    pub fn get_cancel(&mut self, ticket: Ticket) -> StepReply
-        ensures { GetCancels self.old.pool ticket result self.new.pool }
+    // What it was granted goes to the next.
+    fn get_cancel(&mut self, ticket: Ticket) -> Reply
+        ensures { Steps self.old (Step.GetCancel ticket) None result self.new }
     {
-        match self.gets.withdraw(ticket) {
-            Withdrawn::Unknown => StepReply::Unknown,
-            _ => {
-                self.settle();
-                StepReply::Done
-            }
+        if let Withdrawn::Unknown = self.gets.withdraw(ticket) {
+            return Reply::Unknown;
         }
+        settle(&mut self.gets, self.idle.len());
+        Reply::Done
     }
 
-    /// A new add leaves its object, joins its queue, or has the object back.
-    pub fn add_enter(&mut self, value: T, wait: bool) -> AddEnterReply<T>
-        ensures enters { AddEnters self.old.pool value wait result self.new.pool }
-        ensures memory { result ≡ AddEnterReply.OutOfMemory value
-            → IsFull self.old.adds_room self.old.pool.adds }
-        ensures number { (ticket : ℕ)
-            → result ≡ AddEnterReply.Waiting ticket value → ticket ≡ self.old.next_add }
+    // It leaves its object, joins the queue, or has the object back.
+    #[inline(always)]
+    fn add_enter(&mut self, wait: bool, hand: &mut Option<T>) -> Reply
+        requires { IsSome hand.old }
+        ensures made { Steps self.old (Step.AddEnter wait) hand.old result self.new }
+        ensures hand { Leaves result hand.old hand.new }
     {
         let room = self.free_room();
         match self.adds.enter(room, wait) {
             Entry::Granted => {
-                self.store(value);
-                AddEnterReply::Stored
+                store(&mut self.idle, &mut self.gets, hand);
+                Reply::Stored
             }
-            Entry::Closed => AddEnterReply::Closed(value),
-            Entry::Full => AddEnterReply::Full(value),
-            Entry::Waiting(ticket) => AddEnterReply::Waiting(ticket, value),
-            Entry::OutOfMemory => AddEnterReply::OutOfMemory(value),
+            Entry::Closed => Reply::Closed,
+            Entry::Full => Reply::Full,
+            Entry::Waiting(ticket) => Reply::Waiting(ticket),
+            Entry::OutOfMemory => Reply::OutOfMemory,
         }
     }
 
-    /// A queued add leaves its object, stays, or has the object back.
-    pub fn add_ask(&mut self, ticket: Ticket, value: T) -> AddAskReply<T>
-        ensures { AddAsks self.old.pool ticket value result self.new.pool }
+    // It leaves its object, stays, or has the object back.
+    fn add_ask(&mut self, ticket: Ticket, hand: &mut Option<T>) -> Reply
+        requires { IsSome hand.old }
+        ensures made { Steps self.old (Step.AddAsk ticket) hand.old result self.new }
+        ensures hand { Leaves result hand.old hand.new }
     {
         match self.adds.ask(ticket) {
             Ask::Granted => {
-                self.store(value);
-                AddAskReply::Stored
+                store(&mut self.idle, &mut self.gets, hand);
+                Reply::Stored
             }
-            Ask::Closed => AddAskReply::Closed(value),
-            Ask::Waiting => AddAskReply::Waiting(value),
-            Ask::Unknown => AddAskReply::Unknown(value),
+            Ask::Closed => Reply::Closed,
+            Ask::Waiting => Reply::Waiting(ticket),
+            Ask::Unknown => Reply::Unknown,
         }
     }
 
-    /// A queued add leaves. What it was granted goes to the next.
-    pub fn add_cancel(&mut self, ticket: Ticket) -> StepReply
-        ensures { AddCancels self.old.pool ticket result self.new.pool }
+    // What it was granted goes to the next.
+    fn add_cancel(&mut self, ticket: Ticket) -> Reply
+        ensures { Steps self.old (Step.AddCancel ticket) None result self.new }
     {
-        match self.adds.withdraw(ticket) {
-            Withdrawn::Unknown => StepReply::Unknown,
-            _ => {
-                self.settle();
-                StepReply::Done
-            }
+        if let Withdrawn::Unknown = self.adds.withdraw(ticket) {
+            return Reply::Unknown;
         }
+        settle(&mut self.adds, self.limit - self.idle.len() - self.outside);
+        Reply::Done
     }
 
-    /// An object comes back: it is idle, or the pool has no use for it.
-    pub fn back(&mut self, value: T) -> BackReply<T>
-        ensures { TakesBack self.old.pool value result self.new.pool }
+    // It is idle, or the pool has no use for it.
+    #[inline(always)]
+    fn back(&mut self, hand: &mut Option<T>) -> Reply
+        requires { IsSome hand.old }
+        ensures made { Steps self.old Step.Back hand.old result self.new }
+        ensures hand { Leaves result hand.old hand.new }
     {
         if self.outside == 0 {
-            return BackReply::Unknown(value);
+            return Reply::Unknown;
         }
         self.outside -= 1;
         if self.gets.is_closed() || self.handles == 0 {
-            self.settle();
-            return BackReply::Dropped(value);
+            settle(&mut self.adds, self.limit - self.idle.len() - self.outside);
+            return Reply::Dropped;
         }
-        self.store(value);
-        BackReply::Kept
+        store(&mut self.idle, &mut self.gets, hand);
+        Reply::Kept
     }
 
-    /// An object leaves for good, and its room is free.
-    pub fn take(&mut self) -> TakeReply
-        ensures { Takes self.old.pool result self.new.pool }
+    // Its room is free.
+    #[inline(always)]
+    fn take(&mut self) -> Reply
+        ensures { Steps self.old Step.Take None result self.new }
     {
         if self.outside == 0 {
-            return TakeReply::Unknown;
+            return Reply::Unknown;
         }
         self.outside -= 1;
-        self.settle();
-        TakeReply::Taken
-    }
-
-    /// Refuses those that wait, and drops what is idle.
-    pub fn close(&mut self)
-        ensures { self.new.pool ≡ closed_pool self.old.pool }
-    {
-        self.gets.close();
-        self.adds.close();
-        self.idle.clear();
-    }
-
-    /// How the pool stands.
-    pub fn status(&self) -> Status
-        ensures { result ≡ status_of self.now.pool }
-    {
-        let available = self.idle.len();
-        Status {
-            max_size: self.limit,
-            size: available + self.outside,
-            available,
-            waiting: self.gets.waiting() + self.gets.granted(),
-        }
-    }
-
-    /// One handle more, if one is left.
-    pub fn clone_handle(&mut self) -> HandleReply
-        ensures { Clones self.old.pool result self.new.pool }
-    {
-        if self.handles == 0 {
-            return HandleReply::NoHandle;
-        }
-        self.handles = self.handles.saturating_add(1);
-        HandleReply::Done
-    }
-
-    /// One handle less. The last takes what is idle with it.
-    pub fn drop_handle(&mut self) -> HandleReply
-        ensures { DropsHandle self.old.pool result self.new.pool }
-    {
-        if self.handles == 0 {
-            return HandleReply::NoHandle;
-        }
-        if self.handles < u64::MAX {
-            self.handles -= 1;
-        }
-        if self.handles == 0 {
-            self.idle.clear();
-            self.settle();
-        }
-        HandleReply::Done
-    }
-
-    /// Whether there is one handle more, as one is left.
-    pub fn upgrade(&mut self) -> bool
-        ensures { Upgrades self.old.pool result self.new.pool }
-    {
-        match self.clone_handle() {
-            HandleReply::Done => true,
-            HandleReply::NoHandle => false,
-        }
+        settle(&mut self.adds, self.limit - self.idle.len() - self.outside);
+        Reply::Taken
     }
 }

@@ -1,10 +1,13 @@
 -- A step of the core is a move of its pool, whether the pool settles then or stays as it is.
 use Rattle.deadpool_unmanaged_replay.proofs.Basics.{◌≡◌, ℕ, List, Bool, sym, ap, ◌∙◌, subst, Option, Runtime}
-use Rattle.deadpool_unmanaged_replay.proofs.Words.{image, IsCounted, IsWell, NobodyWaits, Gives, unsettled, moved, Pool, settle, State, settled, Item, Move, Reply, Visitor}
-use Rattle.deadpool_unmanaged_replay.proofs.{Lawful.moved_lawful, Settling.settle-none, Settling.settles, Settling.counted-settled, Well.moved_well}
+use Rattle.deadpool_unmanaged_replay.proofs.Words.{image, IsCounted, IsWell, NobodyWaits, Gives, unsettled, moved, Pool}
+use Rattle.deadpool_unmanaged_replay.proofs.Words.{settle, State, settled, Item, Move, Reply, Visitor}
+use Rattle.deadpool_unmanaged_replay.proofs.{Lawful.moved_lawful, Settling.settle-none, Settling.settles}
+use Rattle.deadpool_unmanaged_replay.proofs.{Settling.counted-settled, Well.moved_well}
 
 -- what a trial keeps by a move, all but its capacities, and that it is one
-pub record Follows {V : Type 0} (m : Move V) (p : Pool V) (answer : Reply V) (d : State (Item V)) (visitors : List (Option (Visitor V))) (out : List (Item V)) (q : Pool V) : Type 0 where
+pub record Follows {V : Type 0} (m : Move V) (p : Pool V) (answer : Reply V) (d : State (Item V))
+    (visitors : List (Option (Visitor V))) (out : List (Item V)) (q : Pool V) : Type 0 where
   pub gives : Gives m p answer q
   pub counted : IsCounted d visitors out
   pub well : IsWell q
@@ -12,7 +15,8 @@ pub record Follows {V : Type 0} (m : Move V) (p : Pool V) (answer : Reply V) (d 
 
 module _ {V : Type 0} (m : Move V) (p : Pool V) (well : IsWell p) (answer : Reply V) where
   -- what is answered so is well
-  follows : (found : Bool) (d : State (Item V)) (visitors : List (Option (Visitor V))) (out : List (Item V)) (q : Pool V) → moved found m p ≡ (answer, q) → IsCounted d visitors out
+  follows : (found : Bool) (d : State (Item V)) (visitors : List (Option (Visitor V))) (out : List (Item V))
+      (q : Pool V) → moved found m p ≡ (answer, q) → IsCounted d visitors out
       → Follows m p answer d visitors out q
   follows found d visitors out q is counted =
       let led = moved_well found m p well in
@@ -25,23 +29,30 @@ module _ {V : Type 0} (m : Move V) (p : Pool V) (well : IsWell p) (answer : Repl
         limit = sym (ap (λ (r : Pool V). r.limit) after) ∙ limit.1;
       }
 
-  module _ (runtime : Option Runtime) (most next : ℕ) (e : State (Item V)) (visitors : List (Option (Visitor V))) (out : List (Item V)) (counted : IsCounted e visitors out)
+  module _ (runtime : Option Runtime) (most next : ℕ) (e : State (Item V)) (visitors : List (Option (Visitor V)))
+      (out : List (Item V)) (counted : IsCounted e visitors out)
       (found : Bool) (makes : unsettled found m p ≡ (answer, image runtime most next e visitors out)) where
     img : State (Item V) → Pool V
     img d = image runtime most next d visitors out
 
     -- a step that ends with the settling
-    pub by_settling : (d : State (Item V)) → d ≡ settled e → Follows m p answer d visitors out (image runtime most next d visitors out)
+    pub by_settling : (d : State (Item V)) → d ≡ settled e
+        → Follows m p answer d visitors out (image runtime most next d visitors out)
     unfolding img
     by_settling d is =
         let all = follows found (settled e) visitors out (image runtime most next (settled e) visitors out)
-        (ap (λ (x : Reply V × Pool V). (x.0, settle x.1)) makes ∙ ap (λ (q : Pool V). (answer, q)) (sym (settles runtime most next e visitors out counted)))
+        (ap (λ (x : Reply V × Pool V). (x.0, settle x.1)) makes
+        ∙ ap (λ (q : Pool V). (answer, q)) (sym (settles runtime most next e visitors out counted)))
         (counted-settled e visitors out counted) in
-        subst (λ (c : State (Item V)). Follows m p answer c visitors out (image runtime most next c visitors out)) (sym is) all
+        subst (λ (c : State (Item V)). Follows m p answer c visitors out (image runtime most next c visitors out))
+        (sym is) all
 
     -- a step after which nobody waits
-    pub by_resting : (d : State (Item V)) → d ≡ e → NobodyWaits (image runtime most next e visitors out) → Follows m p answer d visitors out (image runtime most next d visitors out)
+    pub by_resting : (d : State (Item V)) → d ≡ e → NobodyWaits (image runtime most next e visitors out)
+        → Follows m p answer d visitors out (image runtime most next d visitors out)
     by_resting d is nobody =
         let all = follows found e visitors out (image runtime most next e visitors out)
-        (ap (λ (x : Reply V × Pool V). (x.0, settle x.1)) makes ∙ ap (λ (q : Pool V). (answer, q)) (settle-none (image runtime most next e visitors out) nobody)) counted in
-        subst (λ (c : State (Item V)). Follows m p answer c visitors out (image runtime most next c visitors out)) (sym is) all
+        (ap (λ (x : Reply V × Pool V). (x.0, settle x.1)) makes
+        ∙ ap (λ (q : Pool V). (answer, q)) (settle-none (image runtime most next e visitors out) nobody)) counted in
+        subst (λ (c : State (Item V)). Follows m p answer c visitors out (image runtime most next c visitors out))
+        (sym is) all

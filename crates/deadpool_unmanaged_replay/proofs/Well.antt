@@ -1,7 +1,17 @@
 -- Each move leads from a pool that is well to one, so the laws hold of every run.
-use Rattle.deadpool_unmanaged_replay.proofs.Basics.{◌≡◌, ℕ, ◌+◌, ◌-◌, ◌<◌, ◌≤◌, List, [], ◌∷◌, Bool, true, false, length, refl, sym, ap, ◌∙◌, subst, arith, inl, inr, Option, Some, None, slice_get, cases_Bool, eqb_tells, has_number, all_states, Neighbours, Later, Queue, members, served, IsOnce-append}
-use Rattle.deadpool_unmanaged_replay.proofs.Words.{unsettled, moved, Pool, Party, new_get, queued_get, new_add, queued_add, finished, IsWell, OpensWell, IsNumbered, CountsOn, IsLined, HasRoomForAll, IsListedOnce, Succeeds, EachState, EachStep, EachLater, EachMove, EndsWell, NoneReturns, copies, asks_for_object, asks_for_room, named, OthersStayInPool, OthersStayQueued, OthersStand, Move, Reply, served_within, members-served}
-use Rattle.deadpool_unmanaged_replay.proofs.{Lawful.opened_lawful, Lawful.moved_lawful, Lined.moves_lined, Lined.moves_stay, PassesMoves.unsettled_passes, Runs.runs_have, Runs.Each-more}
+use Rattle.deadpool_unmanaged_replay.proofs.Basics.{◌≡◌, ℕ, ◌+◌, ◌-◌, ◌<◌, ◌≤◌, List, [], ◌∷◌, Bool, true, false}
+use Rattle.deadpool_unmanaged_replay.proofs.Basics.{length, refl, sym, ap, ◌∙◌, subst, arith, inl, inr, Option, Some}
+use Rattle.deadpool_unmanaged_replay.proofs.Basics.{None, slice_get, cases_Bool, eqb_tells, has_number, all_states}
+use Rattle.deadpool_unmanaged_replay.proofs.Basics.{Neighbours, Later, Queue, members, served, IsOnce-append}
+use Rattle.deadpool_unmanaged_replay.proofs.Words.{unsettled, moved, Pool, Party, new_get, queued_get, new_add}
+use Rattle.deadpool_unmanaged_replay.proofs.Words.{queued_add, finished, IsWell, OpensWell, IsNumbered, CountsOn}
+use Rattle.deadpool_unmanaged_replay.proofs.Words.{IsLined, HasRoomForAll, IsListedOnce, Succeeds, EachState, EachStep}
+use Rattle.deadpool_unmanaged_replay.proofs.Words.{EachLater, EachMove, EndsWell, NoneReturns, copies, asks_for_object}
+use Rattle.deadpool_unmanaged_replay.proofs.Words.{asks_for_room, named, OthersStayInPool, OthersStayQueued}
+use Rattle.deadpool_unmanaged_replay.proofs.Words.{OthersStand, Move, Reply, served_within, members-served}
+use Rattle.deadpool_unmanaged_replay.proofs.{Lawful.opened_lawful, Lawful.moved_lawful, Lined.moves_lined}
+use Rattle.deadpool_unmanaged_replay.proofs.{Lined.moves_stay, PassesMoves.unsettled_passes, Runs.runs_have}
+use Rattle.deadpool_unmanaged_replay.proofs.{Runs.Each-more}
 
 module _ {V : Type 0} where
   -- who asks for an object does not ask for room
@@ -19,7 +29,8 @@ module _ {V : Type 0} where
   numbered_after p q numbered counts = record {
     once = λ n.
         elim (eqb_tells n p.next) [
-          | inl same ↦ let fresh = numbered.drawn p.next (omega arith) in rw same.1 (omega (arith, fresh, counts.next, counts.step))
+          | inl same ↦ let fresh = numbered.drawn p.next (omega arith) in
+              rw same.1 (omega (arith, fresh, counts.next, counts.step))
           | inr other ↦ omega (arith, counts.others n other.0, numbered.once n)
         ];
     drawn = λ n past.
@@ -28,12 +39,14 @@ module _ {V : Type 0} where
               let fresh = numbered.drawn p.next (omega arith) in
               let at_next : q.next ≤ p.next = rw same.1 at past in
               rw same.1 (omega (arith, fresh, counts.next, at_next))
-          | inr other ↦ let gone = numbered.drawn n (omega (arith, counts.rising, past)) in omega (arith, counts.others n other.0, gone)
+          | inr other ↦ let gone = numbered.drawn n (omega (arith, counts.rising, past)) in
+              omega (arith, counts.others n other.0, gone)
         ];
   }
 
   -- a queue that is served has the same members
-  lined_served : (asks : Option (Option (Party V)) → Bool) (is_open : Bool) (free : ℕ) (q : Queue) (parties : List (Option (Party V))) → IsLined asks q parties → IsLined asks (served is_open free q) parties
+  lined_served : (asks : Option (Option (Party V)) → Bool) (is_open : Bool) (free : ℕ) (q : Queue)
+      (parties : List (Option (Party V))) → IsLined asks q parties → IsLined asks (served is_open free q) parties
   lined_served asks is_open free q parties lined =
       let same = members-served is_open free q in
       record { once = rw same lined.once; marks = λ n. ap (has_number n) same ∙ lined.marks n }
@@ -49,7 +62,8 @@ module _ {V : Type 0} where
     adds = record { once = tt; marks = λ n. refl };
   }
 
-  pub moved_well : (found : Bool) (m : Move V) (p : Pool V) → IsWell p → IsWell (moved found m p).1 × Succeeds p (moved found m p).1
+  pub moved_well : (found : Bool) (m : Move V) (p : Pool V) → IsWell p
+      → IsWell (moved found m p).1 × Succeeds p (moved found m p).1
   moved_well found m p well =
       let q = (unsettled found m p).1 in
       let pass = unsettled_passes p well found m in
@@ -58,7 +72,8 @@ module _ {V : Type 0} where
       let k = pass.counts in (
         record {
           lawful = (moved_lawful found m p well.lawful).0;
-          numbered = let after = numbered_after p q well.numbered k in record { once = after.once; drawn = after.drawn };
+          numbered = let after = numbered_after p q well.numbered k in
+              record { once = after.once; drawn = after.drawn };
           promises = λ is some. served_within q.is_open (length q.idle) q.gets (pass.promises is some);
           closed = pass.closed;
           gets = lined_served asks_for_object q.is_open _ q.gets q.parties gets.0;
@@ -66,7 +81,12 @@ module _ {V : Type 0} where
         },
         record {
           counts = record { rising = k.rising; next = k.next; step = k.step; others = k.others };
-          queues = record { gets = rw (members-served q.is_open (length q.idle - length q.gets.granted) q.gets) gets.1; adds = rw (members-served q.is_open (q.limit - (length q.idle + length q.out) - length q.adds.granted) q.adds) adds.1 };
+          queues = record {
+            gets = rw (members-served q.is_open (length q.idle - length q.gets.granted) q.gets) gets.1;
+            adds =
+                rw (members-served q.is_open (q.limit - (length q.idle + length q.out) - length q.adds.granted) q.adds)
+                adds.1;
+          };
         },
       )
 
@@ -78,8 +98,10 @@ module _ {V : Type 0} where
       let gets = members-served q.is_open (length q.idle - length q.gets.granted) q.gets in
       let adds = members-served q.is_open (q.limit - (length q.idle + length q.out) - length q.adds.granted) q.adds in
       record {
-        gets = λ n was gone. moves_stay asks_for_object (named m) p.gets q.gets p.parties q.parties pass.gets n was (ap (has_number n) (sym gets) ∙ gone);
-        adds = λ n was gone. moves_stay asks_for_room (named m) p.adds q.adds p.parties q.parties pass.adds n was (ap (has_number n) (sym adds) ∙ gone);
+        gets = λ n was gone. moves_stay asks_for_object (named m) p.gets q.gets p.parties q.parties pass.gets n was
+            (ap (has_number n) (sym gets) ∙ gone);
+        adds = λ n was gone. moves_stay asks_for_room (named m) p.adds q.adds p.parties q.parties pass.adds n was
+            (ap (has_number n) (sym adds) ∙ gone);
       }
 
   pub moved_parties : (found : Bool) (m : Move V) (p : Pool V) → IsWell p → OthersStand m p (moved found m p).1
@@ -89,7 +111,8 @@ module _ {V : Type 0} where
   moved_objects found m p well = let pass = unsettled_passes p well found m in pass.stays
 
   -- what each move keeps
-  pub each_move : (P : Move V → Pool V → Pool V → Type 0) → ((found : Bool) (m : Move V) (p : Pool V) → IsWell p → P m p (moved found m p).1) → EachMove P
+  pub each_move : (P : Move V → Pool V → Pool V → Type 0)
+      → ((found : Bool) (m : Move V) (p : Pool V) → IsWell p → P m p (moved found m p).1) → EachMove P
   each_move P keeps m p passed answer well (q, (one, (found, is))) =
       let after = ap (λ (x : Reply V × Pool V). x.1) is in
       let held : P m p q = subst (λ (r : Pool V). P m p r) after (keeps found m p well) in
@@ -101,22 +124,26 @@ module _ {V : Type 0} where
       let have = runs_have IsWell Succeeds moved_well moves p after passed answers well ran in
       Each-more IsWell P implies (all_states p passed) have.0
 
-  Neighbours-more : (P more : Pool V → Pool V → Type 0) → ((p q : Pool V) → P p q → more p q) → (ps : List (Pool V)) → Neighbours P ps → Neighbours more ps
+  Neighbours-more : (P more : Pool V → Pool V → Type 0) → ((p q : Pool V) → P p q → more p q) → (ps : List (Pool V))
+      → Neighbours P ps → Neighbours more ps
   Neighbours-more P more implies [] all = tt
   Neighbours-more P more implies (p ∷ []) all = tt
   Neighbours-more P more implies (p ∷ q ∷ ps) all = (implies p q all.0, Neighbours-more P more implies (q ∷ ps) all.1)
 
   -- what leads from one to the next, and so on, leads to each later one
-  Later-of : (P : Pool V → Pool V → Type 0) → ((p q r : Pool V) → P p q → P q r → P p r) → (ps : List (Pool V)) → Neighbours P ps → Later P ps
+  Later-of : (P : Pool V → Pool V → Type 0) → ((p q r : Pool V) → P p q → P q r → P p r) → (ps : List (Pool V))
+      → Neighbours P ps → Later P ps
   Later-of P leads [] all = tt
   Later-of P leads (p ∷ []) all = (tt, tt)
   Later-of P leads (p ∷ q ∷ ps) all =
       let rest = Later-of P leads (q ∷ ps) all.1 in
       ((all.0, Each-more (P q) (P p) (λ r k. leads p q r all.0 k) ps rest.0), rest)
 
-  Later-more : (P more : Pool V → Pool V → Type 0) → ((p q : Pool V) → P p q → more p q) → (ps : List (Pool V)) → Later P ps → Later more ps
+  Later-more : (P more : Pool V → Pool V → Type 0) → ((p q : Pool V) → P p q → more p q) → (ps : List (Pool V))
+      → Later P ps → Later more ps
   Later-more P more implies [] all = tt
-  Later-more P more implies (p ∷ ps) all = (Each-more (P p) (more p) (implies p) ps all.0, Later-more P more implies ps all.1)
+  Later-more P more implies (p ∷ ps) all =
+      (Each-more (P p) (more p) (implies p) ps all.0, Later-more P more implies ps all.1)
 
   pub each_step : (P : Pool V → Pool V → Type 0) → ((p q : Pool V) → Succeeds p q → P p q) → EachStep P
   each_step P implies moves p after passed answers well ran =
@@ -155,17 +182,20 @@ module _ {V : Type 0} where
   none_returns moves p after passed answers well ran =
       let have = runs_have IsWell Succeeds moved_well moves p after passed answers well ran in
       let steps = Neighbours-more Succeeds Leaves succeeds_leaves (all_states p passed) have.1 in
-      Later-more Leaves NoneReturns (λ q r k n drawn none. let fewer = k.fewer n drawn in omega (arith, fewer, none)) (all_states p passed) (Later-of Leaves leaves_on (all_states p passed) steps)
+      Later-more Leaves NoneReturns (λ q r k n drawn none. let fewer = k.fewer n drawn in omega (arith, fewer, none))
+      (all_states p passed) (Later-of Leaves leaves_on (all_states p passed) steps)
 
   pub ends_well : EndsWell V
-  ends_well moves p after passed answers well ran = let have = runs_have IsWell Succeeds moved_well moves p after passed answers well ran in have.2
+  ends_well moves p after passed answers well ran = let have =
+      runs_have IsWell Succeeds moved_well moves p after passed answers well ran in have.2
 
   pub listed_once : (p : Pool V) → IsWell p → IsListedOnce p
   listed_once p well =
       IsOnce-append (members p.gets) (members p.adds) well.gets.once well.adds.once
       (λ n h.
       elim (cases_Bool (has_number n (members p.adds))) [
-        | inl both ↦ absurd (let apart = asks_once (slice_get p.parties n) (sym (well.gets.marks n) ∙ h) in let differ : true ≡ false = sym both ∙ well.adds.marks n ∙ apart in cc)
+        | inl both ↦ absurd (let apart = asks_once (slice_get p.parties n) (sym (well.gets.marks n) ∙ h) in
+            let differ : true ≡ false = sym both ∙ well.adds.marks n ∙ apart in cc)
         | inr apart ↦ apart
       ])
 

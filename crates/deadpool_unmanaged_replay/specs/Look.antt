@@ -10,9 +10,11 @@ module _ {V : Type 0} where
   -- where a party stands; one in a queue was granted what it asks for, or waits
   abbrev pub look_at : Bool → Bool → Party V → Look
   look_at get_is_granted add_is_granted (new_get wait) = look.NewGet
-  look_at get_is_granted add_is_granted (queued_get deadline) = if get_is_granted then look.GrantedGet else look.QueuedGet
+  look_at get_is_granted add_is_granted (queued_get deadline) =
+      if get_is_granted then look.GrantedGet else look.QueuedGet
   look_at get_is_granted add_is_granted (new_add item) = look.NewAdd item.number
-  look_at get_is_granted add_is_granted (queued_add item) = if add_is_granted then look.GrantedAdd item.number else look.QueuedAdd item.number
+  look_at get_is_granted add_is_granted (queued_add item) =
+      if add_is_granted then look.GrantedAdd item.number else look.QueuedAdd item.number
   look_at get_is_granted add_is_granted finished = look.Finished
 
   -- of a number that no party has, or whose party was cancelled, nothing is seen

@@ -1,9 +1,12 @@
 -- Moves, and the runs of an unmanaged pool.
-use Rattle.std.specs.Prelude.{◌≡◌, ◌+◌, ◌<◌, ◌≤◌, Bool, true, false, List, [], ◌∷◌, ◌++◌, length, Option, Some, if◌then◌else◌, nat_lt, ◌==◌, slice_get}
+use Rattle.std.specs.Prelude.{◌≡◌, ◌+◌, ◌<◌, ◌≤◌, Bool, true, false, List, [], ◌∷◌, ◌++◌, length, Option, Some}
+use Rattle.std.specs.Prelude.{if◌then◌else◌, nat_lt, ◌==◌, slice_get}
 use Rattle.deadpool_gate.specs.Numbers.{largest_usize}
 use Rattle.deadpool_parts.specs.Runs.{Runs}
-use Rattle.deadpool_unmanaged_replay.specs.Pool.{Pool, Party, new_get, new_add, size, free_objects, free_room, settle, status_of}
-use Rattle.deadpool_unmanaged_replay.specs.Steps.{find_item, poll, cancelled, try_get, try_store, back, take_out, closed, cloned, handle_dropped}
+use Rattle.deadpool_unmanaged_replay.specs.Pool.{Pool, Party, new_get, new_add, size, free_objects, free_room, settle}
+use Rattle.deadpool_unmanaged_replay.specs.Pool.{status_of}
+use Rattle.deadpool_unmanaged_replay.specs.Steps.{find_item, poll, cancelled, try_get, try_store, back, take_out}
+use Rattle.deadpool_unmanaged_replay.specs.Steps.{closed, cloned, handle_dropped}
 use Rattle.deadpool_unmanaged_replay.specs.declared.moves.Item.{Item}
 use Rattle.deadpool_unmanaged_replay.specs.declared.moves.Move.{Move}
 use Rattle.deadpool_unmanaged_replay.specs.declared.moves.Move.TheVariants as move
@@ -37,7 +40,8 @@ module _ {V : Type 0} where
   abbrev pub upgrade : Pool V → Reply V × Pool V
   upgrade p = if p.handles == 0 then (reply.Upgraded false, p) else (reply.Upgraded true, cloned p)
 
-  -- What one move makes, before anybody is granted anything. `found` says whether there is memory for an entry in a queue.
+  -- What one move makes, before anybody is granted anything. `found` says whether there is memory for an entry in a
+  -- queue.
   abbrev pub unsettled : Bool → Move V → Pool V → Reply V × Pool V
   unsettled found (move.Get wait) p = by_handle (by_newcomer (started (new_get wait))) p
   unsettled found (move.Add v) p = by_handle (by_newcomer (by_number (λ item. started (new_add item)) v)) p

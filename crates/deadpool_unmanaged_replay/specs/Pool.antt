@@ -1,4 +1,5 @@
--- The state of an unmanaged pool, in lists. Every count is a length, but for the handles and the numbers that were drawn.
+-- The state of an unmanaged pool, in lists. Every count is a length, but for the handles and the numbers that were
+-- drawn.
 use Rattle.std.specs.Prelude.{ℕ, ◌+◌, ◌-◌, Bool, true, List, [], length, Option}
 use Rattle.std.specs.declared.time.Duration.{Duration}
 use Rattle.deadpool_parts.specs.declared.moment.Moment.{Moment}

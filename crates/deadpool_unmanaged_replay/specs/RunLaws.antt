@@ -1,6 +1,7 @@
--- What is true of every state of every run that begins well, of each two neighbours in it, of each state and each later one,
--- and of each move.
-use Rattle.std.specs.Prelude.{◌≡◌, ◌≢◌, ℕ, ◌+◌, ◌-◌, ◌<◌, ◌≤◌, Bool, true, false, ◌==◌, List, [], ◌∷◌, ◌++◌, length, Option, Some, None, if◌then◌else◌, slice_get}
+-- What is true of every state of every run that begins well, of each two neighbours in it, of each state and each later
+-- one, and of each move.
+use Rattle.std.specs.Prelude.{◌≡◌, ◌≢◌, ℕ, ◌+◌, ◌-◌, ◌<◌, ◌≤◌, Bool, true, false, ◌==◌, List, [], ◌∷◌, ◌++◌, length}
+use Rattle.std.specs.Prelude.{Option, Some, None, if◌then◌else◌, slice_get}
 use Rattle.std.specs.List.{filter, filter_map}
 use Rattle.deadpool_gate.specs.Numbers.{has_number}
 use Rattle.deadpool_gate.specs.Orders.{IsOnce, KeepsOrder}
@@ -74,7 +75,8 @@ module _ {V : Type 0} where
   MarksQueued asks q parties = (n : ℕ) → has_number n (members q) ≡ asks (slice_get parties n)
 
   -- and nobody is there twice
-  pub record IsLined (asks : Option (Option (Party V)) → Bool) (q : Queue) (parties : List (Option (Party V))) : Type 0 where
+  pub record IsLined (asks : Option (Option (Party V)) → Bool) (q : Queue) (parties : List (Option (Party V))) :
+      Type 0 where
     pub once : IsOnce (members q)
     pub marks : MarksQueued asks q parties
 
@@ -166,7 +168,8 @@ module _ {V : Type 0} where
 
   -- every other party is as it was
   abbrev pub OthersStand : Move V → Pool V → Pool V → Type 0
-  OthersStand m p q = (n : ℕ) (party : Option (Party V)) → named m ≢ Some n → slice_get p.parties n ≡ Some party → slice_get q.parties n ≡ Some party
+  OthersStand m p q = (n : ℕ) (party : Option (Party V)) → named m ≢ Some n → slice_get p.parties n ≡ Some party
+      → slice_get q.parties n ≡ Some party
 
 -- a new pool is well
 abbrev pub OpensWell : Type 0 → Type 0
@@ -189,7 +192,8 @@ EachLater {V} P = (moves : List (Move V)) (p after : Pool V) (passed : List (Lis
 
 -- P holds of each move, a state that is well, and the one that the move leads to
 abbrev pub EachMove : {V : Type 0} → (Move V → Pool V → Pool V → Type 0) → Type 0
-EachMove {V} P = (m : Move V) (p : Pool V) (passed : List (Pool V)) (answer : Reply V) → IsWell p → MakesMove p m passed answer → Neighbours (P m) (p ∷ passed)
+EachMove {V} P = (m : Move V) (p : Pool V) (passed : List (Pool V)) (answer : Reply V) → IsWell p
+    → MakesMove p m passed answer → Neighbours (P m) (p ∷ passed)
 
 -- every such run ends well
 abbrev pub EndsWell : Type 0 → Type 0

@@ -1,5 +1,5 @@
--- Scripts: what is done to an unmanaged pool, line by line, and the reply to each line. The values are numbers, and memory is
--- always found.
+-- Scripts: what is done to an unmanaged pool, line by line, and the reply to each line. The values are numbers, and
+-- memory is always found.
 use Rattle.std.specs.Prelude.{◌≡◌, ℕ, ◌/◌, ◌%◌, true, List, [], ◌∷◌, map, Option, Some, None}
 use Rattle.std.specs.Option.{option_map}
 use Rattle.std.specs.declared.time.Duration.{Duration}

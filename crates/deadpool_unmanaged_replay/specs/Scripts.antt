@@ -1,12 +1,16 @@
 -- Worked scripts. Each equation is a script with the reply to each line, and holds by computing.
 use Rattle.std.specs.Prelude.{[], ◌∷◌, Some, None, true, false, refl}
 use Rattle.deadpool_parts.specs.declared.moment.Runtime.TheVariants.{Clock}
-use Rattle.deadpool_unmanaged_replay.specs.Script.{Plays, ◌⇒◌, new_pool, get, poll, party, pending, added, failed, refused, taken, ok, stands, object, plain}
+use Rattle.deadpool_unmanaged_replay.specs.Script.{Plays, ◌⇒◌, new_pool, get, poll, party, pending, added, failed}
+use Rattle.deadpool_unmanaged_replay.specs.Script.{refused, taken, ok, stands, object, plain}
 use Rattle.deadpool_unmanaged.specs.declared.error.PoolError.TheVariants.{Timeout, Closed, NoRuntimeSpecified}
-use Rattle.deadpool_unmanaged_replay.specs.declared.moves.Move.TheVariants.{Add, TryGet, TryAdd, Cancel, Back, Take, Close, Status, Clone, DropHandle, Upgrade}
-use Rattle.deadpool_unmanaged_replay.specs.declared.moves.Reply.TheVariants.{NoSuch, NoHandle, Cancelled, Kept, Dropped, Upgraded}
+use Rattle.deadpool_unmanaged_replay.specs.declared.moves.Move.TheVariants.{Add, TryGet, TryAdd, Cancel, Back, Take}
+use Rattle.deadpool_unmanaged_replay.specs.declared.moves.Move.TheVariants.{Close, Status, Clone, DropHandle, Upgrade}
+use Rattle.deadpool_unmanaged_replay.specs.declared.moves.Reply.TheVariants.{NoSuch, NoHandle, Cancelled, Kept, Dropped}
+use Rattle.deadpool_unmanaged_replay.specs.declared.moves.Reply.TheVariants.{Upgraded}
 
--- An add waits for room and gets it. The object that was added last goes out first. A close refuses the add that it granted.
+-- An add waits for room and gets it. The object that was added last goes out first. A close refuses the add that it
+-- granted.
 pub add-and-remove : Plays (new_pool 2 None) (
     TryAdd 1 ⇒ added 0 ∷
     TryAdd 2 ⇒ added 1 ∷

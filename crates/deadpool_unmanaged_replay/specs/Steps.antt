@@ -1,5 +1,6 @@
 -- The steps of an unmanaged pool, before anybody is granted anything.
-use Rattle.std.specs.Prelude.{ℕ, ◌+◌, ◌-◌, min, Bool, false, not, ◌==◌, List, [], ◌∷◌, ◌++◌, Option, Some, None, if◌then◌else◌, nat_lt, slice_set}
+use Rattle.std.specs.Prelude.{ℕ, ◌+◌, ◌-◌, min, Bool, false, not, ◌==◌, List, [], ◌∷◌, ◌++◌, Option, Some, None}
+use Rattle.std.specs.Prelude.{if◌then◌else◌, nat_lt, slice_set}
 use Rattle.deadpool_parts.specs.Numbered.{with_numbered, find_numbered, without_numbered}
 use Rattle.std.specs.declared.time.Duration.{Duration}
 use Rattle.deadpool_parts.specs.Moments.{deadline_after, is_reached, cannot_wait}
@@ -7,8 +8,10 @@ use Rattle.deadpool_gate.specs.Numbers.{has_number, most_handles}
 use Rattle.deadpool_parts.specs.declared.moment.Moment.{Moment}
 use Rattle.deadpool_gate.specs.Queue.{joined, without}
 use Rattle.deadpool_unmanaged.specs.State.{last_idle, other_idle}
-use Rattle.deadpool_unmanaged_replay.specs.Pool.{Pool, Party, new_get, queued_get, new_add, queued_add, finished, free_objects, free_room}
-use Rattle.deadpool_unmanaged.specs.declared.error.PoolError.TheVariants.{Timeout, Closed, NoRuntimeSpecified, OutOfMemory}
+use Rattle.deadpool_unmanaged_replay.specs.Pool.{Pool, Party, new_get, queued_get, new_add, queued_add, finished}
+use Rattle.deadpool_unmanaged_replay.specs.Pool.{free_objects, free_room}
+use Rattle.deadpool_unmanaged.specs.declared.error.PoolError.TheVariants.{Timeout, Closed, NoRuntimeSpecified}
+use Rattle.deadpool_unmanaged.specs.declared.error.PoolError.TheVariants.{OutOfMemory}
 use Rattle.deadpool_unmanaged_replay.specs.declared.moves.Item.{Item}
 use Rattle.deadpool_unmanaged_replay.specs.declared.moves.Reply.{Reply}
 use Rattle.deadpool_unmanaged_replay.specs.declared.moves.Reply.TheVariants as reply
@@ -57,7 +60,8 @@ module _ {V : Type 0} where
   abbrev pub store : Item V → Pool V → Reply V × Pool V
   store item p = (reply.Added item.number, record p { idle = p.idle ++ item ∷ [] })
 
-  -- A get's first poll. A free object goes out at once. With none the get joins the queue, if it may wait and memory is found.
+  -- A get's first poll. A free object goes out at once. With none the get joins the queue, if it may wait and memory is
+  -- found.
   abbrev pub enter_get : Bool → ℕ → Option Duration → Moment → Pool V → Reply V × Pool V
   enter_get found n wait now p =
       let deadline = deadline_after now wait in

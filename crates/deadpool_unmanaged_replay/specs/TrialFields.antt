@@ -25,24 +25,40 @@ use Rattle.deadpool_unmanaged_replay.specs.declared.trial.Visitor.TheVariants as
 use Rattle.deadpool_unmanaged_replay.specs.declared.trial.Turn.{Turn}
 use Rattle.deadpool_unmanaged_replay.specs.declared.trial.Turn.TheVariants as turn
 use Rattle.deadpool_unmanaged.specs.declared.error.PoolError.TheVariants.{Closed, Timeout}
-use Rattle.deadpool_unmanaged.specs.declared.steps.AddEnterReply.{AddEnterReply}
-use Rattle.deadpool_unmanaged.specs.declared.steps.AddEnterReply.TheVariants as add
-use Rattle.deadpool_unmanaged.specs.declared.steps.BackReply.{BackReply}
-use Rattle.deadpool_unmanaged.specs.declared.steps.BackReply.TheVariants as back
+use Rattle.deadpool_unmanaged.specs.declared.step.Reply.{Reply as CoreReply}
+use Rattle.deadpool_unmanaged.specs.declared.step.Reply.TheVariants as core
 use Rattle.deadpool_parts.specs.declared.replies.HandleReply.{HandleReply}
 use Rattle.deadpool_parts.specs.declared.replies.HandleReply.TheVariants as handle
 
 -- what is seen of a get at a stage; one in the queue by its ticket
 abbrev pub look_at_get : Queue → GetStage → Look
 look_at_get gets (getting.Unpolled wait) = look.NewGet
-look_at_get gets (getting.Queued ticket deadline) = if has_number ticket gets.granted then look.GrantedGet else look.QueuedGet
+look_at_get gets (getting.Queued ticket deadline) =
+    if has_number ticket gets.granted then look.GrantedGet else look.QueuedGet
 look_at_get gets getting.Finished = look.Finished
 
+-- one that does not wait is refused so, and why
+abbrev pub IsRefusal : CoreReply → Type 0
+IsRefusal core.Closed = ⊤
+IsRefusal core.Full = ⊤
+IsRefusal _ = ⊥
+
+abbrev pub refusal_of : CoreReply → PoolError
+refusal_of core.Full = Timeout
+refusal_of _ = Closed
+
+-- the pool knew of the object that came back
+abbrev pub IsKnown : CoreReply → Type 0
+IsKnown core.Kept = ⊤
+IsKnown core.Dropped = ⊤
+IsKnown _ = ⊥
+
 module _ {V : Type 0} where
-  -- the same of an add
+  -- what is seen of an add
   abbrev pub look_at_add : Queue → AddStage (Item V) → Look
   look_at_add adds (adding.Unpolled item) = look.NewAdd item.number
-  look_at_add adds (adding.Queued ticket item) = if has_number ticket adds.granted then look.GrantedAdd item.number else look.QueuedAdd item.number
+  look_at_add adds (adding.Queued ticket item) =
+      if has_number ticket adds.granted then look.GrantedAdd item.number else look.QueuedAdd item.number
   look_at_add adds adding.Finished = look.Finished
 
   -- what a get's poll comes to
@@ -74,28 +90,19 @@ module _ {V : Type 0} where
   reply_to (turn.Failed cause) = reply.Failed cause
   reply_to (turn.Refused cause v) = reply.Refused cause v
 
-  -- an add that does not wait is stored or refused
-  abbrev pub IsAtOnce : AddEnterReply (Item V) → Type 0
-  IsAtOnce (add.Waiting ticket item) = ⊥
-  IsAtOnce (add.OutOfMemory item) = ⊥
-  IsAtOnce _ = ⊤
+  -- an add that does not wait has stored its object, or has it back and is refused
+  abbrev pub IsAtOnce : CoreReply → Option (Item V) → Type 0
+  IsAtOnce answer None = ⊤
+  IsAtOnce answer (Some item) = IsRefusal answer
 
-  abbrev pub reply_to_try_add : ℕ → AddEnterReply (Item V) → Reply V
-  reply_to_try_add number add.Stored = reply.Added number
-  reply_to_try_add number (add.Closed item) = reply.Refused Closed item.value
-  reply_to_try_add number (add.Full item) = reply.Refused Timeout item.value
-  reply_to_try_add number (add.Waiting ticket item) = reply.Pending
-  reply_to_try_add number (add.OutOfMemory item) = reply.Pending
+  abbrev pub reply_to_try_add : ℕ → CoreReply → Option (Item V) → Reply V
+  reply_to_try_add number answer None = reply.Added number
+  reply_to_try_add number answer (Some item) = reply.Refused (refusal_of answer) item.value
 
-  -- the pool knew of the object that came back
-  abbrev pub IsKnown : BackReply (Item V) → Type 0
-  IsKnown (back.Unknown item) = ⊥
-  IsKnown _ = ⊤
-
-  abbrev pub reply_to_back : BackReply (Item V) → Reply V
-  reply_to_back back.Kept = reply.Kept
-  reply_to_back (back.Dropped item) = reply.Dropped
-  reply_to_back (back.Unknown item) = reply.NoSuch
+  abbrev pub reply_to_back : CoreReply → Reply V
+  reply_to_back core.Kept = reply.Kept
+  reply_to_back core.Dropped = reply.Dropped
+  reply_to_back _ = reply.NoSuch
 
   -- a step that needs a handle is done, or there is none
   abbrev pub reply_to_handle : HandleReply → Reply V
@@ -103,7 +110,8 @@ module _ {V : Type 0} where
   reply_to_handle handle.NoHandle = reply.NoHandle
 
   -- one poll of a get: what it comes to, the visitor and the state after it
-  pub record PolledGet (runtime : Option Runtime) (now : Moment) (stage : GetStage) (d : State (Item V)) (came_to : Option (Turn V)) (after : Option (Visitor V)) (d' : State (Item V)) : Type 0 where
+  pub record PolledGet (runtime : Option Runtime) (now : Moment) (stage : GetStage) (d : State (Item V))
+      (came_to : Option (Turn V)) (after : Option (Visitor V)) (d' : State (Item V)) : Type 0 where
     pub polled : Poll (Result (Item V) PoolError)
     pub left : GetStage
     pub polls : PollsGet runtime now stage d polled left d'
@@ -111,7 +119,8 @@ module _ {V : Type 0} where
     pub visitor_is : after ≡ Some (visitor.Get left)
 
   -- the same of an add
-  pub record PolledAdd (stage : AddStage (Item V)) (d : State (Item V)) (came_to : Option (Turn V)) (after : Option (Visitor V)) (d' : State (Item V)) : Type 0 where
+  pub record PolledAdd (stage : AddStage (Item V)) (d : State (Item V)) (came_to : Option (Turn V))
+      (after : Option (Visitor V)) (d' : State (Item V)) : Type 0 where
     pub polled : Poll (Result (Unit {0}) (Item V × PoolError))
     pub left : AddStage (Item V)
     pub polls : PollsAdd stage d polled left d'
@@ -119,9 +128,11 @@ module _ {V : Type 0} where
     pub visitor_is : after ≡ Some (visitor.Add left)
 
   -- a poll of a party that was cancelled changes nothing
-  abbrev pub PollsVisitor : Option Runtime → Moment → Option (Visitor V) → State (Item V) → Option (Turn V) → Option (Visitor V) → State (Item V) → Type 0
+  abbrev pub PollsVisitor : Option Runtime → Moment → Option (Visitor V) → State (Item V) → Option (Turn V)
+      → Option (Visitor V) → State (Item V) → Type 0
   PollsVisitor runtime now None d came_to after d' = (came_to ≡ None) × (after ≡ None) × (d' ≡ d)
-  PollsVisitor runtime now (Some (visitor.Get stage)) d came_to after d' = PolledGet runtime now stage d came_to after d'
+  PollsVisitor runtime now (Some (visitor.Get stage)) d came_to after d' =
+      PolledGet runtime now stage d came_to after d'
   PollsVisitor runtime now (Some (visitor.Add stage)) d came_to after d' = PolledAdd stage d came_to after d'
 
   abbrev pub CancelsVisitor : Visitor V → State (Item V) → State (Item V) → Type 0

@@ -1,6 +1,9 @@
-//! What is true of every state of every run from a pool that is well, of each two neighbours in it, of each state and each
-//! later one, and of each move, memory found or not. A function here does nothing: its contract is the law.
-ghost use Rattle.deadpool_unmanaged_replay.specs.RunLaws.{OpensWell, EachState, EachStep, EachLater, EachMove, EndsWell, IsNumbered, CountsOn, NoneReturns, KeepsPromises, HasRoomForAll, IsEmptyIfClosed, HasTheQueued, IsListedOnce, KeepsQueues, OthersStayInPool, OthersStayQueued, OthersStand};
+//! What is true of every state of every run from a pool that is well, of each two neighbours in it, of each state and
+//! each later one, and of each move, memory found or not. A function here does nothing: its contract is the law.
+ghost use Rattle.deadpool_unmanaged_replay.specs.RunLaws.{OpensWell, EachState, EachStep, EachLater, EachMove};
+ghost use Rattle.deadpool_unmanaged_replay.specs.RunLaws.{EndsWell, IsNumbered, CountsOn, NoneReturns, KeepsPromises};
+ghost use Rattle.deadpool_unmanaged_replay.specs.RunLaws.{HasRoomForAll, IsEmptyIfClosed, HasTheQueued, IsListedOnce};
+ghost use Rattle.deadpool_unmanaged_replay.specs.RunLaws.{KeepsQueues, OthersStayInPool, OthersStayQueued, OthersStand};
 
 /// A new pool is well.
 pub fn opened_is_well<T>()
@@ -12,8 +15,8 @@ pub fn run_ends_well<T>()
     ensures { EndsWell T }
 {}
 
-/// No number stands twice among the objects that are idle, out or still to be added, and only numbers that were drawn stand
-/// there.
+/// No number stands twice among the objects that are idle, out or still to be added, and only numbers that were drawn
+/// stand there.
 pub fn numbers_stand_once<T>()
     ensures { EachState (IsNumbered {V = T}) }
 {}
@@ -39,14 +42,14 @@ pub fn closed_is_empty<T>()
     ensures { EachState (IsEmptyIfClosed {V = T}) }
 {}
 
-/// In each queue are those that stand as queued there: no get and no add that waits drops out of its queue, and nobody else is
-/// in it.
+/// In each queue are those that stand as queued there: no get and no add that waits drops out of its queue, and nobody
+/// else is in it.
 pub fn queues_have_the_queued<T>()
     ensures { EachState (HasTheQueued {V = T}) }
 {}
 
-/// Those that were granted an object, followed by those that wait for one, change only by removals and by one party at the
-/// end. So do the adds.
+/// Those that were granted an object, followed by those that wait for one, change only by removals and by one party at
+/// the end. So do the adds.
 pub fn queues_keep_order<T>()
     ensures { EachStep (KeepsQueues {V = T}) }
 {}
@@ -57,8 +60,8 @@ pub fn no_waiter_is_lost<T>()
     ensures parties { EachMove (OthersStand {V = T}) }
 {}
 
-/// An object that is idle, out or still to be added leaves only by a move that may take it: by a poll or a cancel of the add
-/// that brings it, by its own return or take, or by a close or the drop of the last handle while it is idle.
+/// An object that is idle, out or still to be added leaves only by a move that may take it: by a poll or a cancel of
+/// the add that brings it, by its own return or take, or by a close or the drop of the last handle while it is idle.
 pub fn no_object_is_lost<T>()
     ensures { EachMove (OthersStayInPool {V = T}) }
 {}

@@ -3,9 +3,9 @@ use deadpool_parts::tables::Numbered;
 use deadpool_unmanaged::{Moment, PoolError, Status};
 use std::time::Duration;
 
-/// An object: its number in its trial, and its value. Numbers are drawn from 0 on, over all the runs of the trial: one for
-/// each value whose own move is answered `Started`, `Added` or `Refused`. A move with another answer, as `Exhausted`, draws
-/// none.
+/// An object: its number in its trial, and its value. Numbers are drawn from 0 on, over all the runs of the trial: one
+/// for each value whose own move is answered `Started`, `Added` or `Refused`. A move with another answer, as
+/// `Exhausted`, draws none.
 #[derive(Drop)]
 pub struct Item<T> {
     pub number: usize,

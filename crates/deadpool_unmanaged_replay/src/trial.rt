@@ -1,13 +1,19 @@
 //! An unmanaged pool on one thread, with its parties and the objects that are out.
-ghost use Rattle.std.specs.Prelude.{◌≡◌, ◌≢◌, ◌==◌, ◌<◌, ◌≤◌, ◌+◌, [], List, length, MatchResult, IfOk, Option, vec_len, vec_capacity};
+ghost use Rattle.std.specs.Prelude.{◌≡◌, ◌≢◌, ◌==◌, ◌<◌, ◌≤◌, ◌+◌, [], List, length, MatchResult, IfOk, Option};
+ghost use Rattle.std.specs.Prelude.{vec_len, vec_capacity, None};
 ghost use Rattle.std.specs.Option.{option_map};
 ghost use Rattle.deadpool_gate.specs.Numbers.{largest_usize};
 ghost use Rattle.deadpool_parts.specs.Runs.{all_states, Each};
+ghost use Rattle.deadpool_unmanaged.specs.StateSteps.{Does};
+ghost use Rattle.deadpool_unmanaged.specs.declared.step.Step.TheVariants.{Take};
 ghost use Rattle.deadpool_unmanaged_replay.specs.Moves.{Gives, PoolRuns, NobodyWaits, IsWithinLimit};
 ghost use Rattle.deadpool_unmanaged_replay.specs.Pool.{Pool, opened};
 ghost use Rattle.deadpool_unmanaged_replay.specs.RunLaws.{IsWell};
 ghost use Rattle.deadpool_unmanaged_replay.specs.Steps.{find_item};
-ghost use Rattle.deadpool_unmanaged_replay.specs.TrialFields.{PollsVisitor, PolledGet, PolledAdd, CancelsVisitor, IsAtOnce, IsKnown, given, reply_to, reply_to_back, reply_to_handle, reply_to_try_add};
+ghost use Rattle.deadpool_unmanaged_replay.specs.TrialFields.{PollsVisitor, PolledGet, PolledAdd, CancelsVisitor};
+ghost use Rattle.deadpool_unmanaged_replay.specs.TrialFields.{IsAtOnce, IsRefusal, IsKnown, given, refusal_of};
+ghost use Rattle.deadpool_unmanaged_replay.specs.TrialFields.{reply_to, reply_to_back, reply_to_handle};
+ghost use Rattle.deadpool_unmanaged_replay.specs.TrialFields.{reply_to_try_add};
 ghost use Rattle.deadpool_unmanaged_replay.specs.declared.trial.Visitor.TheVariants as visitor;
 ghost use Rattle.deadpool_unmanaged_replay.specs.declared.moves.Move.TheVariants as move;
 
@@ -16,8 +22,7 @@ mod seen;
 use crate::{Item, Move, Reply};
 use deadpool_parts::tables::{append, put_in, take_out};
 use deadpool_unmanaged::{
-    AddEnterReply, AddState, BackReply, Core, GetEnterReply, GetState, HandleReply, Moment,
-    PoolError, Runtime, TakeReply,
+    AddState, Core, GetState, HandleReply, Moment, PoolError, Reply as CoreReply, Runtime, Step,
 };
 use futures::task::Poll;
 use std::alloc::{AllocError, Global};
@@ -41,8 +46,8 @@ pub(crate) enum Turn<T> {
     Refused(PoolError, T),
 }
 
-/// An unmanaged pool on one thread, with its parties and the objects that are out. No clock is asked: each poll says its
-/// moment.
+/// An unmanaged pool on one thread, with its parties and the objects that are out. No clock is asked: each poll says
+/// its moment.
 #[derive(Drop)]
 pub struct Trial<T> {
     core: Core<Item<T>>,
@@ -115,8 +120,8 @@ impl<T: Drop> Trial<T> {
             .map(|item| &item.value)
     }
 
-    /// Makes the moves in turn, and gives the reply to each. If there is no memory for so many replies, no move is made,
-    /// and all of them come back.
+    /// Makes the moves in turn, and gives the reply to each. If there is no memory for so many replies, no move is
+    /// made, and all of them come back.
     pub fn run(&mut self, moves: Vec<Move<T>>) -> Result<Vec<Reply<T>>, Vec<Move<T>>>
         ensures run { MatchResult result
             (λ replies. (passed : List (List (Pool T)))
@@ -208,15 +213,15 @@ impl<T: Drop> Trial<T> {
         if !self.core.has_handle() {
             return Reply::NoHandle;
         }
-        match self.core.get_enter(false) {
-            GetEnterReply::Object(item) => {
+        let mut hand = None;
+        let reply = self.core.make(&Step::GetEnter { wait: false }, &mut hand);
+        match hand {
+            Some(item) => {
                 let number = item.number;
                 put_in(&mut self.out, item);
                 Reply::Object(number)
             }
-            GetEnterReply::Closed => Reply::Failed(PoolError::Closed),
-            GetEnterReply::Full => Reply::Failed(PoolError::Timeout),
-            GetEnterReply::Waiting(_) | GetEnterReply::OutOfMemory => unreachable!(),
+            None => Reply::Failed(refusal(reply)),
         }
     }
 
@@ -231,8 +236,9 @@ impl<T: Drop> Trial<T> {
             Err(value) => return Reply::Exhausted(value),
         };
         let number = item.number;
-        let reply = self.core.add_enter(item, false);
-        after_try_add(number, reply)
+        let mut hand = Some(item);
+        let reply = self.core.make(&Step::AddEnter { wait: false }, &mut hand);
+        after_try_add(number, reply, hand)
     }
 
     fn cancel(&mut self, party: usize) -> Reply<T>
@@ -256,7 +262,7 @@ impl<T: Drop> Trial<T> {
         match take_out(&mut self.out, number) {
             None => Reply::NoSuch,
             Some(item) => {
-                let reply = self.core.back(item);
+                let reply = self.core.make(&Step::Back, &mut Some(item));
                 after_back(reply)
             }
         }
@@ -268,7 +274,7 @@ impl<T: Drop> Trial<T> {
         match take_out(&mut self.out, number) {
             None => Reply::NoSuch,
             Some(item) => {
-                let reply = self.core.take();
+                let reply = leave(&mut self.core);
                 after_take(item, reply)
             }
         }
@@ -389,39 +395,57 @@ fn cancel_visitor<T: Drop>(visitor: Visitor<T>, core: &mut Core<Item<T>>)
     }
 }
 
-// The reply to an object that was handed in with this number, by an add that did not wait.
-fn after_try_add<T: Drop>(number: usize, reply: AddEnterReply<Item<T>>) -> Reply<T>
-    requires { IsAtOnce reply }
-    ensures { result ≡ reply_to_try_add number reply }
+// Why one that does not wait is refused.
+fn refusal(reply: CoreReply) -> PoolError
+    requires { IsRefusal reply }
+    ensures { result ≡ refusal_of reply }
 {
     match reply {
-        AddEnterReply::Stored => Reply::Added(number),
-        AddEnterReply::Closed(item) => Reply::Refused(PoolError::Closed, item.value),
-        AddEnterReply::Full(item) => Reply::Refused(PoolError::Timeout, item.value),
-        AddEnterReply::Waiting(_, _) | AddEnterReply::OutOfMemory(_) => unreachable!(),
+        CoreReply::Closed => PoolError::Closed,
+        CoreReply::Full => PoolError::Timeout,
+        _ => unreachable!(),
+    }
+}
+
+// The reply to an object that was handed in with this number, by an add that did not wait. It is in the hand if it was
+// refused.
+fn after_try_add<T: Drop>(number: usize, reply: CoreReply, hand: Option<Item<T>>) -> Reply<T>
+    requires { IsAtOnce reply hand }
+    ensures { result ≡ reply_to_try_add number reply hand }
+{
+    match hand {
+        None => Reply::Added(number),
+        Some(item) => Reply::Refused(refusal(reply), item.value),
     }
 }
 
 // The reply to an object that came back, of which the pool knew.
-fn after_back<T: Drop>(reply: BackReply<Item<T>>) -> Reply<T>
+fn after_back<T: Drop>(reply: CoreReply) -> Reply<T>
     requires { IsKnown reply }
     ensures { result ≡ reply_to_back reply }
 {
     match reply {
-        BackReply::Kept => Reply::Kept,
-        BackReply::Dropped(_) => Reply::Dropped,
-        BackReply::Unknown(_) => unreachable!(),
+        CoreReply::Kept => Reply::Kept,
+        CoreReply::Dropped => Reply::Dropped,
+        _ => unreachable!(),
     }
 }
 
+// The step of an object that leaves for good.
+fn leave<T: Drop>(core: &mut Core<T>) -> CoreReply
+    ensures { Does core.old.pool Take None result core.new.pool }
+{
+    core.make(&Step::Take, &mut None)
+}
+
 // The reply to an object that left, of which the pool knew.
-fn after_take<T: Drop>(item: Item<T>, reply: TakeReply) -> Reply<T>
-    requires { reply ≢ TakeReply.Unknown }
+fn after_take<T: Drop>(item: Item<T>, reply: CoreReply) -> Reply<T>
+    requires { reply ≡ CoreReply.Taken }
     ensures { result ≡ Reply.Taken item.value }
 {
     match reply {
-        TakeReply::Taken => Reply::Taken(item.value),
-        TakeReply::Unknown => unreachable!(),
+        CoreReply::Taken => Reply::Taken(item.value),
+        _ => unreachable!(),
     }
 }
 

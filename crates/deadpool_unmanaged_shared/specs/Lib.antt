@@ -5,3 +5,4 @@ pub use Rattle.deadpool_unmanaged.specs.Gets
 pub use Rattle.deadpool_unmanaged.specs.Adds
 pub use Rattle.deadpool_unmanaged.specs.State
 pub use Rattle.deadpool_unmanaged.specs.StateSteps
+pub use Rattle.deadpool_unmanaged.specs.Replies

@@ -8,7 +8,8 @@ use Rattle.deadpool_gate.specs.Waking.{still_untold}
 use Rattle.deadpool_parts.specs.declared.moment.Moment.{Moment}
 use Rattle.deadpool_parts.specs.declared.moment.Runtime.{Runtime}
 use Rattle.deadpool_unmanaged.specs.State.{State, due_get, due_add}
-use Rattle.deadpool_unmanaged.specs.StateSteps.{GetEnters, AddEnters}
+use Rattle.deadpool_unmanaged.specs.StateSteps.{Does}
+use Rattle.deadpool_unmanaged.specs.Replies.{Leaves}
 use Rattle.deadpool_unmanaged.specs.Queueing.{get_joins, add_joins}
 use Rattle.deadpool_unmanaged.specs.Gets as gets
 use Rattle.deadpool_unmanaged.specs.Adds as adds
@@ -18,16 +19,18 @@ use Rattle.deadpool_unmanaged.specs.declared.error.PoolError.{PoolError}
 use Rattle.deadpool_unmanaged.specs.declared.error.PoolError.TheVariants.{OutOfMemory}
 use Rattle.deadpool_unmanaged.specs.declared.get.GetStage.{GetStage}
 use Rattle.deadpool_unmanaged.specs.declared.get.GetStage.TheVariants as getting
-use Rattle.deadpool_unmanaged.specs.declared.steps.AddEnterReply.{AddEnterReply}
-use Rattle.deadpool_unmanaged.specs.declared.steps.GetEnterReply.{GetEnterReply}
+use Rattle.deadpool_unmanaged.specs.declared.step.Reply.{Reply}
+use Rattle.deadpool_unmanaged.specs.declared.step.Step.TheVariants.{GetEnter, AddEnter}
 
 module _ {T : Type 0} where
-  -- One poll of a get, as its state is polled. Or it would join the queue, there is no memory for its waker, and it ends without a
-  -- step.
-  abbrev pub PollsGet : Option Runtime → Moment → GetStage → State T → Poll (Result T PoolError) → GetStage → State T → Type 0
+  -- One poll of a get, as its state is polled. Or it would join the queue, there is no memory for its waker, and it
+  -- ends without a step.
+  abbrev pub PollsGet : Option Runtime → Moment → GetStage → State T → Poll (Result T PoolError) → GetStage → State T
+      → Type 0
   PollsGet runtime now before d turn after d' =
       gets.PollsGet runtime now before d turn after d'
-      ⊎ ((get_joins runtime now before d ≡ true) × (turn ≡ Ready (Err OutOfMemory)) × (after ≡ getting.Finished) × (d' ≡ d))
+      ⊎ ((get_joins runtime now before d ≡ true) × (turn ≡ Ready (Err OutOfMemory)) × (after ≡ getting.Finished)
+      × (d' ≡ d))
 
   -- the same of an add, which then hands its object back
   abbrev pub PollsAdd : AddStage T → State T → Poll (Result (Unit {0}) (T × PoolError)) → AddStage T → State T → Type 0
@@ -40,12 +43,16 @@ module _ {T : Type 0} where
       × (after ≡ adding.Finished)
       × (d' ≡ d)))
 
-  -- an entry that does not wait, by its reply
+  -- an entry that does not wait, by its reply and what is in the hand then
   abbrev pub TriesGet : State T → Result T PoolError → State T → Type 0
-  TriesGet d got d' = (answer : GetEnterReply T) × (GetEnters d false answer d' × (Ready got ≡ gets.turn_entered answer))
+  TriesGet d got d' = (answer : Reply)
+      × ((hand : Option T) × (Does d (GetEnter false) hand answer d' × (Ready got ≡ gets.turn_after answer hand)))
 
   abbrev pub TriesAdd : State T → T → Result (Unit {0}) (T × PoolError) → State T → Type 0
-  TriesAdd d value added d' = (answer : AddEnterReply T) × (AddEnters d value false answer d' × (Ready added ≡ adds.turn_entered answer))
+  TriesAdd d value added d' =
+      (answer : Reply) × ((hand : Option T)
+      × (Does d (AddEnter false) (Some value) answer d' × Leaves answer (Some value) hand
+      × (Ready added ≡ adds.turn_after answer hand)))
 
   -- the waker of the get that is to be told next, or of the add
   abbrev pub next_waker : {W : Type 0} → State T → List (Option W) → List (Option W) → Option W

@@ -1,16 +1,17 @@
 //! What the lock of a pool keeps.
-ghost use Rattle.std.specs.Prelude.{◌≡◌, ◌⊎◌, not, [], Some, None, IfSome};
+ghost use Rattle.std.specs.Prelude.{◌≡◌, ◌⊎◌, not, [], Some, None, IfSome, IsSome};
 ghost use Rattle.deadpool_lock.specs.Places.{Follows, waker_at};
 ghost use Rattle.deadpool_unmanaged.specs.Adds as adds;
 ghost use Rattle.deadpool_unmanaged.specs.Gets as gets;
 ghost use Rattle.deadpool_unmanaged.specs.State.{has_due, status_of};
-ghost use Rattle.deadpool_unmanaged.specs.StateSteps.{TakesBack, Takes, Clones, DropsHandle, closed_pool};
+ghost use Rattle.deadpool_unmanaged.specs.StateSteps.{Does, Clones, DropsHandle, closed_pool};
+ghost use Rattle.deadpool_unmanaged.specs.Replies.{Leaves};
+ghost use Rattle.deadpool_unmanaged.specs.declared.step.Step.TheVariants.{Back, Take};
 ghost use Rattle.deadpool_unmanaged_shared.specs.Locked.{PollsGet, PollsAdd, TriesGet, TriesAdd, next_waker, told};
 
 use deadpool_lock::{Wakers, Wakes};
 use deadpool_unmanaged::{
-    AddEnterReply, AddState, BackReply, Core, GetEnterReply, GetState, HandleReply, Moment,
-    PoolError, Runtime, Status, TakeReply,
+    AddState, Core, GetState, HandleReply, Moment, PoolError, Reply, Runtime, Status, Step,
 };
 use futures::task::{Poll, Waker};
 use std::alloc::Global;
@@ -37,8 +38,8 @@ impl<T: Drop> Locked<T> {
         }
     }
 
-    /// One poll of a get, and the waker that is to be let go with the lock given back. While it waits its waker is kept.
-    /// If it would join the queue and there is no memory for its waker, no step is made and it has ended.
+    /// One poll of a get, and the waker that is to be let go with the lock given back. While it waits its waker is
+    /// kept. If it would join the queue and there is no memory for its waker, no step is made and it has ended.
     pub fn poll_get(
         &mut self,
         state: &mut GetState,
@@ -77,8 +78,9 @@ impl<T: Drop> Locked<T> {
         spare
     }
 
-    /// One poll of an add, and the waker that is to be let go with the lock given back. While it waits its waker is kept.
-    /// If it would join the queue and there is no memory for its waker, no step is made, and its object comes back.
+    /// One poll of an add, and the waker that is to be let go with the lock given back. While it waits its waker is
+    /// kept. If it would join the queue and there is no memory for its waker, no step is made, and its object comes
+    /// back.
     pub fn poll_add(
         &mut self,
         state: &mut AddState<T>,
@@ -121,11 +123,11 @@ impl<T: Drop> Locked<T> {
     pub fn try_get(&mut self) -> Result<T, PoolError>
         ensures { TriesGet self.old.core.pool result self.new.core.pool }
     {
-        match self.core.get_enter(false) {
-            GetEnterReply::Object(value) => Ok(value),
-            GetEnterReply::Closed => Err(PoolError::Closed),
-            GetEnterReply::Full => Err(PoolError::Timeout),
-            GetEnterReply::Waiting(_) | GetEnterReply::OutOfMemory => unreachable!(),
+        let mut hand = None;
+        match self.core.make(&Step::GetEnter { wait: false }, &mut hand) {
+            Reply::Object | Reply::Closed => hand.ok_or(PoolError::Closed),
+            Reply::Full => Err(PoolError::Timeout),
+            _ => unreachable!(),
         }
     }
 
@@ -133,26 +135,32 @@ impl<T: Drop> Locked<T> {
     pub fn try_add(&mut self, value: T) -> Result<(), (T, PoolError)>
         ensures { TriesAdd self.old.core.pool value result self.new.core.pool }
     {
-        match self.core.add_enter(value, false) {
-            AddEnterReply::Stored => Ok(()),
-            AddEnterReply::Closed(value) => Err((value, PoolError::Closed)),
-            AddEnterReply::Full(value) => Err((value, PoolError::Timeout)),
-            AddEnterReply::Waiting(_, _) | AddEnterReply::OutOfMemory(_) => unreachable!(),
+        let mut hand = Some(value);
+        let reply = self.core.make(&Step::AddEnter { wait: false }, &mut hand);
+        let Some(value) = hand else {
+            return Ok(());
+        };
+        match reply {
+            Reply::Closed => Err((value, PoolError::Closed)),
+            Reply::Full => Err((value, PoolError::Timeout)),
+            _ => unreachable!(),
         }
     }
 
-    /// An object comes back.
-    pub fn back(&mut self, value: T) -> BackReply<T>
-        ensures { TakesBack self.old.core.pool value result self.new.core.pool }
+    /// The object in the hand comes back. It stays there if the pool has no use for it.
+    pub fn back(&mut self, hand: &mut Option<T>) -> Reply
+        requires { IsSome hand.old }
+        ensures back { Does self.old.core.pool Back hand.old result self.new.core.pool }
+        ensures hand { Leaves result hand.old hand.new }
     {
-        self.core.back(value)
+        self.core.make(&Step::Back, hand)
     }
 
     /// An object that is out leaves for good.
-    pub fn take(&mut self) -> TakeReply
-        ensures { Takes self.old.core.pool result self.new.core.pool }
+    pub fn take(&mut self) -> Reply
+        ensures { Does self.old.core.pool Take None result self.new.core.pool }
     {
-        self.core.take()
+        self.core.make(&Step::Take, &mut None)
     }
 
     /// The pool closes for good.

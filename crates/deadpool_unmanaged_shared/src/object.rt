@@ -7,8 +7,8 @@ use deadpool_unmanaged::Clock;
 use std::ops::{Deref, DerefMut};
 use std::sync::Wait;
 
-/// An object of a pool, lent to whoever has it. Dropping it gives it back: the pool keeps it, unless the pool is closed or its
-/// last handle was dropped.
+/// An object of a pool, lent to whoever has it. Dropping it gives it back: the pool keeps it, unless the pool is closed
+/// or its last handle was dropped.
 pub struct Object<T: Drop, C: Clock, R: Wait + Drop> {
     pub(crate) home: Home<Shared<T, C, R>>,
     pub(crate) value: T,

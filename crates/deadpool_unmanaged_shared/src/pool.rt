@@ -27,8 +27,8 @@ pub type Add<T, C, R> = RequestFuture<Adding<T>, Shared<T, C, R>>;
 /// An add as a future that borrows a handle of its pool, and is none itself. Dropping it is as for an `Add`.
 pub type AddRef<'a, T, C, R> = RequestRef<'a, Adding<T>, Shared<T, C, R>>;
 
-/// A handle of a pool whose objects are those that its users add. The last handle that is dropped takes the idle objects with
-/// it. Each future holds a handle of its own, but for those that borrow one.
+/// A handle of a pool whose objects are those that its users add. The last handle that is dropped takes the idle
+/// objects with it. Each future holds a handle of its own, but for those that borrow one.
 ///
 /// `C` tells the time, and with `R` the lock is taken.
 #[derive(Drop)]
@@ -120,8 +120,8 @@ impl<T: Drop, C: Clock, R: Wait + Drop> Pool<T, C, R> {
         self.timeout_get(self.inner.shared().timeout)
     }
 
-    /// A get that may wait so long; none set is without an end. A wait of zero tries once. The get takes a handle now; if
-    /// that finds no memory, its first poll answers `OutOfMemory`.
+    /// A get that may wait so long; none set is without an end. A wait of zero tries once. The get takes a handle now;
+    /// if that finds no memory, its first poll answers `OutOfMemory`.
     pub fn timeout_get(&self, timeout: Option<Duration>) -> Get<T, C, R>
         ensures asks { IfSome result.request (λ get. get.state ≡ GetStage.Unpolled timeout) }
         ensures home { IfSome result.request (λ get. get.home ≡ self.now.inner) }
@@ -232,8 +232,8 @@ impl<T: Drop, C: Clock, R: Wait + Drop> Pool<T, C, R> {
         Ok(Object::take(self.try_get()?))
     }
 
-    /// Closes the pool for good. Its idle objects are dropped under the lock, so such a drop must not use the pool. Whoever waits
-    /// is answered `Closed` at the next poll. An object that comes back later is dropped.
+    /// Closes the pool for good. Its idle objects are dropped under the lock, so such a drop must not use the pool.
+    /// Whoever waits is answered `Closed` at the next poll. An object that comes back later is dropped.
     pub fn close(&self) {
         self.inner.shared().close();
     }

@@ -3,7 +3,7 @@ ghost use Rattle.std.specs.Prelude.{◌≡◌, IfErr};
 
 use crate::locked::Locked;
 use deadpool_lock::{Counted, StepLock};
-use deadpool_unmanaged::{Clock, Core, PoolConfig, PoolError, Runtime, Status, TakeReply};
+use deadpool_unmanaged::{Clock, Core, PoolConfig, PoolError, Reply, Runtime, Status};
 use futures::task::Source;
 use std::alloc::Global;
 use std::sync::Wait;
@@ -53,14 +53,15 @@ impl<T: Drop, C: Clock, R: Wait + Drop> Shared<T, C, R> {
 
     /// An object comes back. If the pool has no use for it, it is dropped with the lock given back.
     pub fn back(&self, value: T) {
+        let mut hand = Some(value);
         let mut step = self.lock.begin();
-        let reply = step.kept().back(value);
+        step.kept().back(&mut hand);
         self.lock.end(step);
-        drop(reply);
+        drop(hand);
     }
 
     /// An object leaves for good.
-    pub fn leave(&self) -> TakeReply {
+    pub fn leave(&self) -> Reply {
         let mut step = self.lock.begin();
         let reply = step.kept().take();
         self.lock.end(step);

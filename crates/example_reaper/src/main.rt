@@ -1,5 +1,5 @@
-//! Eight threads share the connections of a pool as a service does. A ninth gives up connections that nobody used for a while,
-//! closes the pool in the end, and waits until all are back.
+//! Eight threads share the connections of a pool as a service does. A ninth gives up connections that nobody used for a
+//! while, closes the pool in the end, and waits until all are back.
 #![tactic(auto)]
 
 mod board;

@@ -1,5 +1,5 @@
-//! Draws a run of a script, or a journal, as a picture in SVG: a lane for each party and each object, the counts above them, and
-//! the lines below.
+//! Draws a run of a script, or a journal, as a picture in SVG: a lane for each party and each object, the counts above
+//! them, and the lines below.
 #![tactic(auto)]
 
 mod chart;

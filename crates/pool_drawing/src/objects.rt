@@ -5,8 +5,8 @@ use deadpool_replay::Trial;
 use deadpool_unmanaged_replay as unmanaged;
 use pool_lanes::{Place, Shape, Stage};
 
-/// Puts where each object is in place of what was there: that of the first number first. An object of which nothing is seen any
-/// more was given up.
+/// Puts where each object is in place of what was there: that of the first number first. An object of which nothing is
+/// seen any more was given up.
 pub fn show_objects<M: Manager, F: SyncHook<M>, A: AsyncHook<M>, C: Drop>(
     trial: &Trial<M, F, A, C>,
     first: usize,

@@ -1,8 +1,8 @@
 //! How the lanes are painted: the class of each stage and place, its letter, and what the legend says of it.
 use pool_lanes::{Place, Stage};
 
-/// Colours that differ in lightness and pattern too, so that they can be told apart in print and by those who see no red or
-/// green. Dark on light.
+/// Colours that differ in lightness and pattern too, so that they can be told apart in print and by those who see no
+/// red or green. Dark on light.
 pub const STYLE: &str = "<style>
 text{font:11px sans-serif;fill:#222}
 .c{text-anchor:middle;font-size:9px}

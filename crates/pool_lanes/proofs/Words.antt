@@ -1,4 +1,14 @@
 -- Numbers, lists, marks and frames: the words that the proofs cite, passed on from one place.
-pub use Rattle.std.proofs.Common.{◌≡◌, ◌≢◌, ℕ, ◌+◌, ◌-◌, ◌<◌, ◌≤◌, List, [], ◌∷◌, ◌++◌, length, refl, sym, ◌∙◌, ap, subst, arith, zero, suc, inl, inr, get_or, set, get_or-set_same, get_or-set_other, length-append, Option, Some, None, slice_get, true, false, append_assoc, replicate, nat_le, nat_lt, filter, le-leb, zero-add, suc-add, append-nil, lt-ltb, le-ltb, rules, length-set}
-pub use Rattle.std.proofs.lemmas.{Bool.cases_lt, Bool.lt-leb, Grind.replicate_next, List.get_or_past, List.get_or_append_left, List.get_or-replicate, List.length-replicate, List.get_or_default, Option.get_or_from_slice_get, Option.slice_get_past, Option.slice_get_read}
-pub use Rattle.pool_lanes.specs.{Frames.lane_at, Frames.shown_at, Frames.Draws, Frames.EndAt, Frames.Extends, Frames.AllExtend, Frames.AllBegin, Frames.Rows, Marks.columns, Marks.first_column, Marks.next_column, Marks.cells, Marks.column_behind, Marks.AreLaid, Marks.AreBehind, Marks.AreApart, Marks.has_column, Marks.IsShownAt, declared.mark.Mark.Mark}
+pub use Rattle.std.proofs.Common.{◌≡◌, ◌≢◌, ℕ, ◌+◌, ◌-◌, ◌<◌, ◌≤◌, List, [], ◌∷◌, ◌++◌, length, refl, sym, ◌∙◌, ap}
+pub use Rattle.std.proofs.Common.{subst, arith, zero, suc, inl, inr, get_or, set, get_or-set_same, get_or-set_other}
+pub use Rattle.std.proofs.Common.{length-append, Option, Some, None, slice_get, true, false, append_assoc, replicate}
+pub use Rattle.std.proofs.Common.{nat_le, nat_lt, filter, le-leb, zero-add, suc-add, append-nil, lt-ltb, le-ltb, rules}
+pub use Rattle.std.proofs.Common.{length-set}
+pub use Rattle.std.proofs.lemmas.{Bool.cases_lt, Bool.lt-leb, Grind.replicate_next, List.get_or_past}
+pub use Rattle.std.proofs.lemmas.{List.get_or_append_left, List.get_or-replicate, List.length-replicate}
+pub use Rattle.std.proofs.lemmas.{List.get_or_default, Option.get_or_from_slice_get, Option.slice_get_past}
+pub use Rattle.std.proofs.lemmas.{Option.slice_get_read}
+pub use Rattle.pool_lanes.specs.{Frames.lane_at, Frames.shown_at, Frames.Draws, Frames.EndAt, Frames.Extends}
+pub use Rattle.pool_lanes.specs.{Frames.AllExtend, Frames.AllBegin, Frames.Rows, Marks.columns, Marks.first_column}
+pub use Rattle.pool_lanes.specs.{Marks.next_column, Marks.cells, Marks.column_behind, Marks.AreLaid, Marks.AreBehind}
+pub use Rattle.pool_lanes.specs.{Marks.AreApart, Marks.has_column, Marks.IsShownAt, declared.mark.Mark.Mark}

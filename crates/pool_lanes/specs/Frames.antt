@@ -18,11 +18,13 @@ module _ {T : Type 0} where
   abbrev pub shown_at : ℕ → List (List T) → List T
   shown_at k frames = filter_map (λ frame. slice_get frame k) frames
 
-  -- The lanes draw the frames: each lane shows, column by column, what the frames say of it, and ends in the last column.
+  -- The lanes draw the frames: each lane shows, column by column, what the frames say of it, and ends in the last
+  -- column.
   pub record Draws (frames : List (List T)) (rows : Rows T) : Type 0 where
     pub columns_are : rows.columns ≡ length frames
     pub shows : (k : ℕ) → columns (lane_at k rows.lanes) ≡ shown_at k frames
-    pub begins : (k : ℕ) → k < length rows.lanes → first_column (lane_at k rows.lanes) + length (shown_at k frames) ≡ rows.columns
+    pub begins : (k : ℕ) → k < length rows.lanes
+        → first_column (lane_at k rows.lanes) + length (shown_at k frames) ≡ rows.columns
 
   -- all lanes end before this column
   abbrev pub EndAt : ℕ → List (List (Mark T)) → Type 0
@@ -43,4 +45,5 @@ module _ {T : Type 0} where
   pub record AllBegin (c : ℕ) (was : List (List (Mark T))) (shown : List T) (are : List (List (Mark T))) : Type 0 where
     pub count : length was ≤ length shown → length are ≡ length shown
     pub same : (k : ℕ) → k < length was → lane_at k are ≡ lane_at k was
-    pub begun : (k : ℕ) (x : T) → length was ≤ k → slice_get shown k ≡ Some x → lane_at k are ≡ record { shows = x; from = c; to = c + 1 } ∷ []
+    pub begun : (k : ℕ) (x : T) → length was ≤ k → slice_get shown k ≡ Some x
+        → lane_at k are ≡ record { shows = x; from = c; to = c + 1 } ∷ []

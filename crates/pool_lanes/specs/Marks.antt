@@ -1,5 +1,6 @@
 -- A lane as the list of its marks, and what it shows in each column.
-use Rattle.std.specs.Prelude.{◌≡◌, ℕ, ◌-◌, ◌<◌, ◌≤◌, ⊤, Bool, ◌&&◌, nat_le, nat_lt, List, [], ◌∷◌, ◌++◌, replicate, filter, slice_get, Some}
+use Rattle.std.specs.Prelude.{◌≡◌, ℕ, ◌-◌, ◌<◌, ◌≤◌, ⊤, Bool, ◌&&◌, nat_le, nat_lt, List, [], ◌∷◌, ◌++◌, replicate}
+use Rattle.std.specs.Prelude.{filter, slice_get, Some}
 use Rattle.pool_lanes.specs.declared.mark.Mark.{Mark}
 
 module _ {T : Type 0} where
@@ -46,4 +47,5 @@ module _ {T : Type 0} where
   -- exactly one mark has the column, and it shows what stands there
   abbrev pub IsShownAt : List (Mark T) → ℕ → Type 0
   IsShownAt ms c =
-      (m : Mark T) × ((filter (has_column c) ms ≡ m ∷ []) × (slice_get (columns ms) (c - first_column ms) ≡ Some m.shows))
+      (m : Mark T)
+      × ((filter (has_column c) ms ≡ m ∷ []) × (slice_get (columns ms) (c - first_column ms) ≡ Some m.shows))

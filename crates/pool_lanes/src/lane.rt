@@ -1,5 +1,6 @@
 //! One lane.
-ghost use Rattle.std.specs.Prelude.{◌≡◌, ℕ, ◌<◌, ◌≤◌, ◌+◌, ◌++◌, ◌∷◌, [], IfOk, OnErr, length, slice_get, option_copied};
+ghost use Rattle.std.specs.Prelude.{◌≡◌, ℕ, ◌<◌, ◌≤◌, ◌+◌, ◌++◌, ◌∷◌, [], IfOk, OnErr, length, slice_get};
+ghost use Rattle.std.specs.Prelude.{option_copied};
 ghost use Rattle.pool_lanes.specs.Marks.{columns, first_column, next_column, AreLaid, AreApart, IsShownAt};
 
 use crate::{Mark, Shown};

@@ -1,5 +1,6 @@
 //! Lanes, one above the other.
-ghost use Rattle.std.specs.Prelude.{◌≡◌, ℕ, ◌<◌, ◌≤◌, ◌+◌, ◌++◌, ◌∷◌, [], List, IfOk, length, slice_get, Option, option_copied};
+ghost use Rattle.std.specs.Prelude.{◌≡◌, ℕ, ◌<◌, ◌≤◌, ◌+◌, ◌++◌, ◌∷◌, [], List, IfOk, length, slice_get, Option};
+ghost use Rattle.std.specs.Prelude.{option_copied};
 ghost use Rattle.std.specs.Option.{option_map};
 ghost use Rattle.pool_lanes.specs.Frames.{Draws, AllExtend, AllBegin, lane_at};
 ghost use Rattle.pool_lanes.specs.Marks.{next_column};
@@ -40,8 +41,8 @@ impl<T: Shown + Drop> Lanes<T> {
         }
     }
 
-    /// The lanes with one more column, in which each shows its part of this, from the first lane on. For what is left new lanes
-    /// begin there. If there is no memory, the lanes are given up.
+    /// The lanes with one more column, in which each shows its part of this, from the first lane on. For what is left
+    /// new lanes begin there. If there is no memory, the lanes are given up.
     pub fn with_column(self, shown: &[T]) -> Result<Self, AllocError>
         requires room { self.columns + 1 < usize.MAX }
         requires enough { length self.lanes ≤ length shown.now }

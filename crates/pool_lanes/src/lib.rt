@@ -1,5 +1,5 @@
-//! What a picture of a run shows, as data: lanes of marks, one lane above the other. A mark says what its lane shows over some
-//! columns, of which there is one for each move.
+//! What a picture of a run shows, as data: lanes of marks, one lane above the other. A mark says what its lane shows
+//! over some columns, of which there is one for each move.
 #![tactic(auto)]
 
 mod lane;

@@ -15,17 +15,19 @@ use std::test::Fail;
 // Stands between a line and its reply.
 const ARROW: &str = " => ";
 
-/// Plays the scripts of a text, and fails at the first line that has another reply than is written behind it. The failure
-/// has the name of the script, the line's number and text, and the reply that came.
+/// Plays the scripts of a text, and fails at the first line that has another reply than is written behind it. The
+/// failure has the name of the script, the line's number and text, and the reply that came.
 ///
 /// Empty lines part the scripts. Each has a pool of its own, and its first line, `# name`, is its name. The others are
-/// lines of the program with their replies, as `start => party 0`. One that begins with `#` is a comment. The reply to a
-/// line that is not in the language is `not a move`, and the script goes on.
+/// lines of the program with their replies, as `start => party 0`. One that begins with `#` is a comment. The reply to
+/// a line that is not in the language is `not a move`, and the script goes on.
 ///
 /// Some lines are not of the program:
-/// - `list start; poll 0 0 => party 0; object 0` makes a list of moves in one call. Its replies name no value of an object
+/// - `list start; poll 0 0 => party 0; object 0` makes a list of moves in one call. Its replies name no value of an
+/// object
 ///   that a move has handed out. An empty list has the reply `nothing`.
-/// - `calls => create 1 recycle 0 poll 1 detach 0` says how often the manager was asked so far: creations and recyclings
+/// - `calls => create 1 recycle 0 poll 1 detach 0` says how often the manager was asked so far: creations and
+/// recyclings
 ///   that were begun, polls of both, and objects that were detached.
 /// - `woken => no` says whether the task in which the line before was played is to be polled again.
 pub fn expect_script<R: RandomSource + AllocGlobal>(rt: &R, text: &str) -> Result<(), Fail> {

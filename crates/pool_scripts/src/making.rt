@@ -24,8 +24,8 @@ where
     end(written, text)
 }
 
-/// Makes a list of moves over a managed pool in one call. Of an object that a move has handed out it writes no value, since
-/// a later move may have put another or taken it.
+/// Makes a list of moves over a managed pool in one call. Of an object that a move has handed out it writes no value,
+/// since a later move may have put another or taken it.
 pub fn run_managed<M: Manager<Type = u64>, F: SyncHook<M>, A: AsyncHook<M>, C: Drop>(
     trial: &mut Trial<M, F, A, C>,
     moves: Vec<Move<u64>>,

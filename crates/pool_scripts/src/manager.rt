@@ -30,8 +30,8 @@ pub enum Answer {
     Add,
 }
 
-/// The answers that are left of those that a script gave, for each kind the earliest first, and how often the manager was
-/// asked.
+/// The answers that are left of those that a script gave, for each kind the earliest first, and how often the manager
+/// was asked.
 #[derive(Drop)]
 pub struct Answers {
     pub calls: Calls,

@@ -1,5 +1,7 @@
--- The objects that parties were given, by the party's number: none if it was given none, or if the object is out no more.
-use Rattle.std.specs.Prelude.{◌≡◌, ℕ, ◌==◌, List, [], ◌∷◌, ◌++◌, length, Option, Some, None, if◌then◌else◌, slice_get, slice_set}
+-- The objects that parties were given, by the party's number: none if it was given none, or if the object is out no
+-- more.
+use Rattle.std.specs.Prelude.{◌≡◌, ℕ, ◌==◌, List, [], ◌∷◌, ◌++◌, length, Option, Some, None, if◌then◌else◌, slice_get}
+use Rattle.std.specs.Prelude.{slice_set}
 
 -- one more party, which was given nothing
 abbrev pub with_party : List (Option ℕ) → List (Option ℕ)
@@ -17,4 +19,5 @@ left_without number (Some n) = if n == number then None else Some n
 -- an object is taken from whoever has it, and all others keep theirs
 pub record LosesObject (number : ℕ) (was is : List (Option ℕ)) : Type 0 where
   pub count : length is ≡ length was
-  pub each : (party : ℕ) (object : Option ℕ) → slice_get was party ≡ Some object → slice_get is party ≡ Some (left_without number object)
+  pub each : (party : ℕ) (object : Option ℕ) → slice_get was party ≡ Some object
+      → slice_get is party ≡ Some (left_without number object)

@@ -26,8 +26,8 @@ abbrev pub ended_with : Option ℕ → Shape
 ended_with (Some number) = with_object stage.Holding number
 ended_with None = alone stage.Ended
 
--- Of a party that a trial has started: what is seen of it, and the object that it was given. A party of which nothing is seen any
--- more was cancelled.
+-- Of a party that a trial has started: what is seen of it, and the object that it was given. A party of which nothing
+-- is seen any more was cancelled.
 abbrev pub shape_of : Look → Option ℕ → Shape
 shape_of look.NoSuch given = alone stage.Cancelled
 shape_of look.Unpolled given = alone stage.New
@@ -69,14 +69,17 @@ module _ {V C R S F A : Type 0} where
 
 -- the same of a pool without names
 abbrev pub desk_levels_of : {O : Type 0} → DeskState O → List ℕ
-desk_levels_of d = d.limit ∷ desk_size d ∷ desk_places d ∷ desk_reach d ∷ queue_length (length d.granted) (length d.waiting) ∷ []
+desk_levels_of d = d.limit ∷ desk_size d ∷ desk_places d ∷ desk_reach d
+    ∷ queue_length (length d.granted) (length d.waiting) ∷ []
 
 module _ {V : Type 0} where
   abbrev pub UnmanagedShowsParties : UnmanagedPool V → List (Option ℕ) → List Shape → Type 0
-  UnmanagedShowsParties p given shapes = ShowsEach (λ n object. unmanaged_shape_of (unmanaged_look_of n p) object) given shapes
+  UnmanagedShowsParties p given shapes =
+      ShowsEach (λ n object. unmanaged_shape_of (unmanaged_look_of n p) object) given shapes
 
   -- from the top: the limit, the size, the room that is taken or granted, the queue of the gets and that of the adds
   abbrev pub unmanaged_levels_of : UnmanagedPool V → List ℕ
   unmanaged_levels_of p =
       p.limit ∷ unmanaged_size p ∷ queue_length (unmanaged_size p) (length p.adds.granted)
-      ∷ queue_length (length p.gets.granted) (length p.gets.waiting) ∷ queue_length (length p.adds.granted) (length p.adds.waiting) ∷ []
+      ∷ queue_length (length p.gets.granted) (length p.gets.waiting)
+      ∷ queue_length (length p.adds.granted) (length p.adds.waiting) ∷ []

@@ -5,7 +5,8 @@ ghost use Rattle.pool_shapes.specs.Given.{with_party, with_gift, left_without, L
 use std::alloc::{AllocError, Global};
 use std::marker::Model;
 
-/// Which object each party was given, if it was given one that is out. A trial does not keep it: it follows from the replies.
+/// Which object each party was given, if it was given one that is out. A trial does not keep it: it follows from the
+/// replies.
 #[derive(Drop)]
 pub struct Given {
     // By the party's number.

@@ -39,8 +39,8 @@ fn put_levels(counts: Counts, levels: &mut Vec<usize>) -> Result<(), AllocError>
     Ok(())
 }
 
-/// Puts the counts of an unmanaged pool in place of those that were there: limit, size, room taken or granted, queue of the gets,
-/// queue of the adds.
+/// Puts the counts of an unmanaged pool in place of those that were there: limit, size, room taken or granted, queue of
+/// the gets, queue of the adds.
 pub fn show_unmanaged_levels<T: Drop>(
     trial: &unmanaged::Trial<T>,
     levels: &mut Vec<usize>,

@@ -1,4 +1,5 @@
-//! What a picture shows of a pool at one move: a shape for each party, and the counts, taken from a trial or from a core.
+//! What a picture shows of a pool at one move: a shape for each party, and the counts, taken from a trial or from a
+//! core.
 #![tactic(auto)]
 
 mod given;

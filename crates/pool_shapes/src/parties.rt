@@ -9,7 +9,8 @@ use deadpool_unmanaged_replay as unmanaged;
 use pool_lanes::Shape;
 use std::alloc::AllocError;
 
-/// Puts a shape for each party in place of those that were there, by the party's number. `given` has what each party was given.
+/// Puts a shape for each party in place of those that were there, by the party's number. `given` has what each party
+/// was given.
 pub fn show_parties<M: Manager, F: SyncHook<M>, A: AsyncHook<M>, C: Drop>(
     trial: &mut Trial<M, F, A, C>,
     given: &[Option<usize>],

@@ -10,15 +10,15 @@ use std::io::{BufRead, Write};
 use std::process::ExitCode;
 use std::rt::Env;
 
-/// Does what the arguments say. With none it plays the script that the reader gives, and writes the replies to the writer.
-/// With `threads N M` it reads nothing: in N threads, M times each, one is added to an object of a pool, and the writer
-/// is given the pool's status and the sum of its objects. With `buffers MOST` it puts each line that it reads into a
-/// buffer of a pool, and writes which one it was. With `draw` it plays the script, and writes a picture of the run; with
-/// `draw journal` it reads a journal, and writes a picture of its counts. `threads N M journal K` writes the journal of the
-/// pool in place of the rest.
+/// Does what the arguments say. With none it plays the script that the reader gives, and writes the replies to the
+/// writer. With `threads N M` it reads nothing: in N threads, M times each, one is added to an object of a pool, and
+/// the writer is given the pool's status and the sum of its objects. With `buffers MOST` it puts each line that it
+/// reads into a buffer of a pool, and writes which one it was. With `draw` it plays the script, and writes a picture of
+/// the run; with `draw journal` it reads a journal, and writes a picture of its counts. `threads N M journal K` writes
+/// the journal of the pool in place of the rest.
 ///
-/// A run that ends before its input does says why on `errors`, in a line of its own. Gives the status that the program is
-/// to end with.
+/// A run that ends before its input does says why on `errors`, in a line of its own. Gives the status that the program
+/// is to end with.
 pub fn run<R, B: BufRead, W: Write, E: Write>(
     rt: &R,
     reader: &mut B,

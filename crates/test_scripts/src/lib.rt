@@ -1,7 +1,7 @@
 //! Worked scripts over pools of both kinds: lines with their replies, which tests play over each thing that is a pool.
 //!
-//! Empty lines part the scripts of a text. The first line of each is its name, `# first-run`, the second opens its pool, and
-//! behind ` => ` stands the reply to a line, as `poolrun` writes it.
+//! Empty lines part the scripts of a text. The first line of each is its name, `# first-run`, the second opens its
+//! pool, and behind ` => ` stands the reply to a line, as `poolrun` writes it.
 #![tactic(auto)]
 
 mod cancelled;

@@ -9,8 +9,8 @@ use sqlite::Error;
 use std::random::RandomSource;
 use std::sync::Wait;
 
-/// A pool of connections, whatever its source, its ledgers and its runtime. So a move is proved for any, and not for the
-/// whole pool.
+/// A pool of connections, whatever its source, its ledgers and its runtime. So a move is proved for any, and not for
+/// the whole pool.
 pub trait Connections: Drop {
     /// A connection that is out. It goes back when it is dropped.
     type Out: Drop;

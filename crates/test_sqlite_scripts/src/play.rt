@@ -39,8 +39,8 @@ fn manager<B: Source, R: AllocGlobal>(
     })
 }
 
-/// Makes the moves of a run over a new pool, and gives each with its reply. The other source opens the connection without the
-/// pool.
+/// Makes the moves of a run over a new pool, and gives each with its reply. The other source opens the connection
+/// without the pool.
 pub fn play<B: Source + Send + Sync, R: Host>(
     rt: R,
     source: B,

@@ -13,8 +13,8 @@ pub struct Run {
     pub folder: String,
 }
 
-/// Makes the moves of a run with this pool, and writes each with its reply to `played`. The manager opens and recycles the
-/// connection without the pool.
+/// Makes the moves of a run with this pool, and writes each with its reply to `played`. The manager opens and recycles
+/// the connection without the pool.
 pub fn make_moves<P: Connections, B: Source, R: RandomSource + AllocGlobal + Files>(
     rt: &R,
     pool: P,

@@ -4,8 +4,8 @@ use std::alloc::{AllocError, Global};
 // What a test keeps for itself.
 const CUSHION: usize = 8 << 20;
 
-// What a call may find is a part of one block of the cushion, of this size or of twice its own. A larger one would not be
-// found again, since an allocator keeps small blocks where they were.
+// What a call may find is a part of one block of the cushion, of this size or of twice its own. A larger one would not
+// be found again, since an allocator keeps small blocks where they were.
 const SPARE: usize = 1 << 12;
 
 // More than a machine gives at once.

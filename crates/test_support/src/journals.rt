@@ -1,10 +1,9 @@
 //! The journal of a pool, driven again on one thread.
-use crate::expected::expect;
+use crate::expected::{expect, status_of};
 use deadpool_journal::{Entry, Journal};
 use deadpool_managed::{
-    Core, Desk, Metrics, OwnerDesk, Removal, Removals, Reply, Retainer, Slot, Status, Step,
+    Core, Desk, OwnerDesk, Removal, Removals, Reply, Retainer, Slot, Status, Step,
 };
-use deadpool_parts::Moment;
 use std::alloc::{AllocError, Global};
 use std::test::Fail;
 
@@ -26,7 +25,7 @@ pub fn replayed(alloc: Global, journal: &Journal) -> Result<Option<Core<()>>, Al
 
 // How the pool stands at the end of a journal that replays.
 fn last_status(alloc: Global, journal: &Journal) -> Result<Option<Status>, AllocError> {
-    Ok(replayed(alloc, journal)?.map(|mut core| core.status()))
+    Ok(replayed(alloc, journal)?.map(|mut core| status_of(&mut core)))
 }
 
 /// Nothing is missing in a journal, and at its end the pool stands so.
@@ -43,7 +42,10 @@ pub fn ends_so(alloc: Global, journal: &Journal, status: Status) -> Result<(), F
 pub fn answers_so(core: &mut Core<()>, entry: &Entry) -> bool {
     match entry {
         Entry::Made(step, number, reply) => makes_so(core, step, *number, *reply),
-        _ => is_run_so(core, entry),
+        Entry::Owner(step, reply) => core.make_for_owner(step) == *reply,
+        Entry::Retain(Ok(removals)) => removes_so(core, removals),
+        // No test here has a retain that finds no memory.
+        Entry::Retain(Err(_)) => false,
     }
 }
 
@@ -62,29 +64,7 @@ fn makes_so(core: &mut Core<()>, step: &Step, number: Option<usize>, reply: Repl
 
 // An object without a value.
 fn slot_of(number: usize) -> Slot<()> {
-    Slot {
-        number,
-        value: (),
-        metrics: Metrics::new(Moment(0)),
-    }
-}
-
-// The steps of the pool's owner.
-fn is_run_so(core: &mut Core<()>, entry: &Entry) -> bool {
-    match entry {
-        Entry::Status(status) => core.status() == *status,
-        Entry::Resize(limit, reply) => core.resize(*limit) == *reply,
-        Entry::Retain(Ok(removals)) => removes_so(core, removals),
-        Entry::Close => {
-            core.close();
-            true
-        }
-        Entry::CloneHandle(reply) => core.clone_handle() == *reply,
-        Entry::DropHandle(reply) => core.drop_handle() == *reply,
-        Entry::Upgrade(is_left) => core.upgrade() == *is_left,
-        // No test here has a retain that finds no memory.
-        _ => false,
-    }
+    Slot { number, value: () }
 }
 
 // Gives up the objects at these positions.
@@ -95,7 +75,9 @@ struct Positions<'a> {
 }
 
 impl<'a> Retainer<()> for Positions<'a> {
-    fn keeps(&mut self, _number: usize, _value: &(), _metrics: &Metrics) -> bool {
+    type Left = ();
+
+    fn keeps(&mut self, _number: usize, _value: &()) -> bool {
         let position = self.asked;
         self.asked = position.saturating_add(1);
         !self
@@ -104,7 +86,7 @@ impl<'a> Retainer<()> for Positions<'a> {
             .any(|removal| removal.position == position)
     }
 
-    fn detach(&mut self, _value: &mut ()) {}
+    fn detach(&mut self, _value: ()) {}
 }
 
 fn removes_so(core: &mut Core<()>, removals: &Removals) -> bool {

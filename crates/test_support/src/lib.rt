@@ -1,4 +1,5 @@
-//! What tests of pools share: texts of what was not as expected, journals that are driven again, and a hoard of all memory.
+//! What tests of pools share: texts of what was not as expected, journals that are driven again, and a hoard of all
+//! memory.
 #![tactic(auto)]
 
 pub mod builders;

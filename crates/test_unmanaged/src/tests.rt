@@ -1,5 +1,5 @@
-//! The unmanaged pool: on one thread by scripts, by lists of moves and by single steps; shared, by the same scripts in one
-//! thread with a task a future, and between threads.
+//! The unmanaged pool: on one thread by scripts, by lists of moves and by single steps; shared, by the same scripts in
+//! one thread with a task a future, and between threads.
 mod clock;
 mod configuration;
 mod crowds;
@@ -8,6 +8,7 @@ mod drops;
 mod errors;
 mod handed_back;
 mod lines;
+mod made;
 mod many;
 mod party;
 mod player;

@@ -1,7 +1,7 @@
 //! What the lock, the queue and the handles ask of a core, under one name for both pools.
 //!
 //! The steps of gets, objects and adds are no part of it: each pool makes those of its own core.
-use crate::cores::desk::{OwnerDesk, Slot};
+use crate::cores::desk::{OwnerDesk, OwnerReply, OwnerStep, Slot};
 use crate::cores::gate::gate::Ticket;
 use crate::cores::journal::Journaled;
 use crate::cores::parts::HandleReply;
@@ -26,13 +26,18 @@ pub(crate) trait Desk {
     fn shut(&mut self);
     /// Whether one handle is left.
     fn is_last(&self) -> bool;
-    fn count_handle(&mut self) -> HandleReply;
-    fn uncount_handle(&mut self) -> HandleReply;
+    /// A handle more, if one is left, and whether one was.
+    fn count_handle(&mut self) -> bool;
+    fn uncount_handle(&mut self);
 }
 
-/// Has a core be a desk: which calls name those that are due, and where the parcel of an idle object is.
+/// Has a core be a desk: which calls name those that are due, where the parcel of an idle object is, and how the pool closes and
+/// handles are counted.
 macro_rules! desk_of {
-    ($core:ident, $next_get:ident $(and $next_add:ident)?, $parcel:ident in $idle:pat) => {
+    (
+        $core:ident, $next_get:ident $(and $next_add:ident)?, $parcel:ident in $idle:pat,
+        $desk:ident: $close:expr, $count:expr, $uncount:expr
+    ) => {
         impl<V> Desk for $core<Parcel<V>> {
             type Value = V;
 
@@ -54,7 +59,8 @@ macro_rules! desk_of {
             }
 
             fn shut(&mut self) {
-                self.close();
+                let $desk = self;
+                $close;
             }
 
             fn is_last(&self) -> bool {
@@ -62,16 +68,26 @@ macro_rules! desk_of {
             }
 
             #[inline]
-            fn count_handle(&mut self) -> HandleReply {
-                self.clone_handle()
+            fn count_handle(&mut self) -> bool {
+                let $desk = self;
+                $count
             }
 
             #[inline]
-            fn uncount_handle(&mut self) -> HandleReply {
-                self.drop_handle()
+            fn uncount_handle(&mut self) {
+                let $desk = self;
+                $uncount;
             }
         }
     };
 }
-desk_of!(Journaled, take_wake, value in Slot { value, .. });
-desk_of!(Core, take_get_wake and take_add_wake, parcel in parcel);
+desk_of!(
+    Journaled, take_wake, value in Slot { value, .. },
+    desk: desk.make_for_owner(&OwnerStep::Close),
+    desk.make_for_owner(&OwnerStep::CloneHandle) == OwnerReply::Done,
+    desk.make_for_owner(&OwnerStep::DropHandle)
+);
+desk_of!(
+    Core, take_get_wake and take_add_wake, parcel in parcel,
+    desk: desk.close(), desk.clone_handle() == HandleReply::Done, desk.drop_handle()
+);

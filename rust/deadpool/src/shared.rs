@@ -1,5 +1,4 @@
 //! What the handles of a pool have in common, what stands under its lock, and how a step is made there.
-use crate::cores::parts::HandleReply;
 use crate::desk::Desk;
 use crate::waiting::Wakers;
 use std::hint::spin_loop;
@@ -130,8 +129,7 @@ impl<C, D: Desk> Handle<C, D> {
 
     #[cold]
     fn count_one(&self) -> Self {
-        let count = |desk: &mut D| desk.count_handle() == HandleReply::Done;
-        Handle::upgrade(self, count).expect("a handle is counted")
+        Handle::upgrade(self, D::count_handle).expect("a handle is counted")
     }
 
     /// A handle more, if one is left.

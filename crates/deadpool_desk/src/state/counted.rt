@@ -1,4 +1,5 @@
-//! What a core says of itself between two steps: its handles, its counts, its idle objects, and who in the queue has a place.
+//! What a core says of itself between two steps: its handles, its counts, its idle objects, and who in the queue has a
+//! place.
 ghost use Rattle.std.specs.Prelude.{◌≡◌, ◌≤◌, ◌&&◌, ◌==◌, not, nat_lt, nat_le, option_copied, slice_get};
 ghost use Rattle.deadpool_gate.specs.Numbers.{has_number};
 ghost use Rattle.deadpool_desk.specs.Counts.{counts_of};
@@ -50,7 +51,8 @@ impl<T: Drop> Core<T> {
         self.gate.is_closed()
     }
 
-    /// Whether a get that enters now, and is willing to wait, has to join the queue: the pool is open, and no place is free.
+    /// Whether a get that enters now, and is willing to wait, has to join the queue: the pool is open, and no place is
+    /// free.
     pub fn would_queue(&self) -> bool
         ensures { result
             ≡ (self.now.desk.is_open && nat_le self.now.desk.limit (places self.now.desk)) }

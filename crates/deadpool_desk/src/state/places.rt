@@ -1,7 +1,7 @@
 //! The places of a pool: how many there are, and what holds those that no get in the queue has.
 //!
-//! A step may leave places free while gets wait, and settles them before it ends. So these are functions over the counts and
-//! the queue alone, and not over a core, which is settled.
+//! A step may leave places free while gets wait, and settles them before it ends. So these are functions over the
+//! counts and the queue alone, and not over a core, which is settled.
 ghost use Rattle.std.specs.Prelude.{◌≡◌, ◌-◌, ◌<◌, ◌≤◌, ◌^◌, ◌++◌, [], true, not, take, drop, max};
 ghost use Rattle.deadpool_gate.specs.Gate.{granted_tickets, waiting_tickets, untold_tickets};
 ghost use Rattle.deadpool_desk.specs.Places.{grants_at, held_at};

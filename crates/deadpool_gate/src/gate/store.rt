@@ -1,6 +1,7 @@
 //! The nodes of a gate. They are reached only through this store, which counts each access to one of them.
 
-ghost use Rattle.std.specs.Prelude.{◌≡◌, ◌+◌, ◌-◌, ◌<◌, ◌≤◌, ◌^◌, min, [], Some, None, IfOk, OnOk, OnErr, OnSome, IfNone};
+ghost use Rattle.std.specs.Prelude.{◌≡◌, ◌+◌, ◌-◌, ◌<◌, ◌≤◌, ◌^◌, min, [], Some, None, IfOk, OnOk, OnErr, OnSome};
+ghost use Rattle.std.specs.Prelude.{IfNone};
 ghost use Rattle.std.specs.Option.{option_map};
 ghost use Rattle.deadpool_gate.specs.GateNodes.{changed};
 ghost use Rattle.slab.specs.Slab.{get, slab_len, Updates};

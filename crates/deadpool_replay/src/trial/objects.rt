@@ -11,7 +11,7 @@ ghost use Rattle.deadpool_replay.specs.declared.moves.Move.TheVariants as move;
 use super::Trial;
 use crate::Reply;
 use deadpool_desk::Reply as DeskReply;
-use deadpool_managed::{AsyncHook, Core, Desk, Environment, Manager, Slot, Step, SyncHook};
+use deadpool_managed::{AsyncHook, Core, Desk, Environment, Kept, Manager, Slot, Step, SyncHook};
 use deadpool_parts::tables::{index_of, take_out};
 
 impl<M: Manager, F: SyncHook<M>, A: AsyncHook<M>, C: Drop> Trial<M, F, A, C> {
@@ -24,7 +24,7 @@ impl<M: Manager, F: SyncHook<M>, A: AsyncHook<M>, C: Drop> Trial<M, F, A, C> {
         match index_of(&self.out, number) {
             None => Reply::NoSuch,
             Some(at) => {
-                self.out[at].value = value;
+                self.out[at].value.value = value;
                 Reply::Done
             }
         }
@@ -66,7 +66,7 @@ impl<M: Manager, F: SyncHook<M>, A: AsyncHook<M>, C: Drop> Trial<M, F, A, C> {
 fn after_back<M: Manager, F: SyncHook<M>, A: AsyncHook<M>>(
     environment: &Environment<M, F, A>,
     reply: DeskReply,
-    hand: Option<Slot<M::Type>>,
+    hand: Option<Slot<Kept<M::Type>>>,
 ) -> Reply<M::Type, M::Error>
     requires { IsTaken reply hand }
     ensures { Gives (may M.Manager F.SyncHook A.AsyncHook environment.now.manager)
@@ -79,7 +79,7 @@ fn after_back<M: Manager, F: SyncHook<M>, A: AsyncHook<M>>(
             let Some(mut slot) = hand else {
                 unreachable!();
             };
-            environment.manager.detach(&mut slot.value);
+            environment.manager.detach(&mut slot.value.value);
             Reply::Detached
         }
         _ => unreachable!(),
@@ -98,15 +98,15 @@ fn leave<T: Drop>(core: &mut Core<T>) -> DeskReply
 // Gives the value of an object that has left the pool, detached if that is due.
 fn after_take<M: Manager, F: SyncHook<M>, A: AsyncHook<M>>(
     environment: &Environment<M, F, A>,
-    slot: Slot<M::Type>,
+    slot: Slot<Kept<M::Type>>,
     reply: DeskReply,
 ) -> Reply<M::Type, M::Error>
     requires fits { IsReplyTo Step.Take reply }
     requires known { reply ≢ DeskReply.Unknown }
     ensures { Gives (may M.Manager F.SyncHook A.AsyncHook environment.now.manager)
-        (reply_to_take slot.value reply) result }
+        (reply_to_take slot.value.value reply) result }
 {
-    let mut value = slot.value;
+    let mut value = slot.value.value;
     match reply {
         DeskReply::Taken { detach: true } => {
             environment.manager.detach(&mut value);

@@ -11,7 +11,7 @@ ghost use Rattle.deadpool_replay.specs.declared.moves.Move.TheVariants as move;
 
 use super::Trial;
 use crate::Reply;
-use deadpool_managed::{AsyncHook, Desk, GetState, Manager, Slot, SyncHook, Timeouts, Turn};
+use deadpool_managed::{AsyncHook, Desk, GetState, Kept, Manager, Slot, SyncHook, Timeouts, Turn};
 use deadpool_parts::Moment;
 use deadpool_parts::tables::{append, put_in};
 use futures::task::Context;
@@ -104,7 +104,7 @@ impl<M: Manager, F: SyncHook<M>, A: AsyncHook<M>, C: Drop> Trial<M, F, A, C> {
 }
 
 // Keeps the object that a turn gives, for which there is room, and says what the turn came to.
-fn hand_out<T: Drop, E>(out: &mut Vec<Slot<T>>, turn: Turn<T, E>) -> Reply<T, E>
+fn hand_out<T: Drop, E>(out: &mut Vec<Slot<Kept<T>>>, turn: Turn<T, E>) -> Reply<T, E>
     requires { length (given turn out.old.items) ≤ vec_capacity out.old }
     ensures out { out.new.items ≡ given turn out.old.items }
     ensures reply { result ≡ reply_to turn }

@@ -1,13 +1,44 @@
-//! What a pool's state says of itself: its counts, and who in a queue was granted what it asks for.
-ghost use Rattle.std.specs.Prelude.{◌≡◌};
+//! What a core says of itself between two steps: its handles, its counts, its idle objects, and who in a queue was
+//! granted what it asks for.
+ghost use Rattle.std.specs.Prelude.{◌≡◌, ◌==◌, nat_lt, not, option_copied, slice_get};
 ghost use Rattle.deadpool_gate.specs.Numbers.{has_number};
 ghost use Rattle.deadpool_unmanaged.specs.Counts.{counts_of};
+ghost use Rattle.deadpool_unmanaged.specs.State.{free_objects, free_room, get_would_queue, add_would_queue};
 
-use super::PoolState;
+use super::Core;
+use super::line::free;
 use crate::Counts;
 use deadpool_gate::gate::Ticket;
 
-impl<T: Drop> PoolState<T> {
+impl<T: Drop> Core<T> {
+    /// Whether the pool was closed.
+    pub fn is_closed(&self) -> bool
+        ensures { result ≡ not self.now.pool.is_open }
+    {
+        self.gets.is_closed()
+    }
+
+    /// Whether a pool handle is left.
+    pub fn has_handle(&self) -> bool
+        ensures { result ≡ nat_lt 0 self.now.pool.handles }
+    {
+        self.handles > 0
+    }
+
+    /// Whether just one pool handle is left, which takes the idle objects with it.
+    pub fn is_last_handle(&self) -> bool
+        ensures { result ≡ (self.now.pool.handles == 1) }
+    {
+        self.handles == 1
+    }
+
+    /// The idle object at this position. The last is the next to go out.
+    pub fn idle_at(&self, at: usize) -> Option<&T>
+        ensures { option_copied result ≡ slice_get self.now.pool.idle at }
+    {
+        self.idle.get(at)
+    }
+
     /// What the pool counts.
     pub fn counts(&self) -> Counts
         ensures { result ≡ counts_of self.now.pool }
@@ -22,7 +53,50 @@ impl<T: Drop> PoolState<T> {
         }
     }
 
-    /// Whether the get in the queue with this ticket was granted an object.
+    /// The number of the ticket that the next get in the queue has.
+    pub fn next_get(&self) -> usize
+        ensures { result ≡ self.now.next_get }
+    {
+        self.gets.next_number()
+    }
+
+    /// The number of the ticket that the next add in the queue has.
+    pub fn next_add(&self) -> usize
+        ensures { result ≡ self.now.next_add }
+    {
+        self.adds.next_number()
+    }
+
+    // How many idle objects no get was granted.
+    pub(super) fn free_objects(&self) -> usize
+        ensures { result ≡ free_objects self.now.pool }
+    {
+        free(&self.gets, self.idle.len())
+    }
+
+    // How much room no add was granted.
+    pub(super) fn free_room(&self) -> usize
+        ensures { result ≡ free_room self.now.pool }
+    {
+        free(&self.adds, self.limit - self.idle.len() - self.outside)
+    }
+
+    /// Whether a get that enters now and wants to wait joins the queue: the pool is open and has no free object.
+    pub fn get_would_queue(&self) -> bool
+        ensures { result ≡ get_would_queue self.now.pool }
+    {
+        !self.gets.is_closed() && self.free_objects() == 0
+    }
+
+    /// Whether an add that enters now and wants to wait joins the queue: the pool is open and has no free room.
+    pub fn add_would_queue(&self) -> bool
+        ensures { result ≡ add_would_queue self.now.pool }
+    {
+        !self.gets.is_closed() && self.free_room() == 0
+    }
+
+    /// Whether the get in the queue with this ticket was granted an object, which it has not taken yet. Nothing
+    /// changes.
     pub fn get_is_granted(&mut self, ticket: Ticket) -> bool
         ensures granted { result ≡ has_number ticket self.old.pool.gets.granted }
         ensures same { self.new ≡ self.old }
@@ -30,7 +104,7 @@ impl<T: Drop> PoolState<T> {
         self.gets.has_place(ticket)
     }
 
-    /// Whether the add in the queue with this ticket was granted room.
+    /// Whether the add in the queue with this ticket was granted room, which it has not taken yet. Nothing changes.
     pub fn add_is_granted(&mut self, ticket: Ticket) -> bool
         ensures granted { result ≡ has_number ticket self.old.pool.adds.granted }
         ensures same { self.new ≡ self.old }

@@ -153,8 +153,8 @@ impl Frame {
         svg.words("h", 8, 18, title_of(kind))
     }
 
-    /// The numbers of the lines above their columns, and upright lines through all lanes. A column whose line has an error is
-    /// marked.
+    /// The numbers of the lines above their columns, and upright lines through all lanes. A column whose line has an
+    /// error is marked.
     pub fn write_axis(&self, svg: &mut Svg, picture: &Picture) -> Result<(), AllocError> {
         let y = LEGEND + AXIS - 6;
         let high = self.object_y(self.objects).saturating_sub(y);

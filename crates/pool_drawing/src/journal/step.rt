@@ -3,8 +3,9 @@ ghost use Rattle.deadpool_desk.specs.Replies.{Brings};
 
 use deadpool_gate::gate::Ticket;
 use deadpool_journal::Entry;
-use deadpool_managed::{Core, Desk, Held, Metrics, OwnerDesk, Reply, Retainer, Slot, Step};
-use deadpool_parts::Moment;
+use deadpool_managed::{
+    Core, Desk, Held, OwnerDesk, OwnerReply, OwnerStep, Reply, Retainer, Slot, Step,
+};
 use pool_scripts::{LineError, parse_number};
 use std::alloc::{AllocError, Global};
 use std::str;
@@ -67,14 +68,11 @@ fn make_plain(core: &mut Core<()>, word: &str) -> Result<Entry, LineError> {
         "failed" => made(core, Step::Failed, None),
         "refused" => made(core, Step::Refused, None),
         "take" => made(core, Step::Take, None),
-        "status" => Entry::Status(core.status()),
-        "close" => {
-            core.close();
-            Entry::Close
-        }
-        "clone_handle" => Entry::CloneHandle(core.clone_handle()),
-        "drop_handle" => Entry::DropHandle(core.drop_handle()),
-        "upgrade" => Entry::Upgrade(core.upgrade()),
+        "status" => made_for_owner(core, OwnerStep::Status),
+        "close" => made_for_owner(core, OwnerStep::Close),
+        "clone_handle" => made_for_owner(core, OwnerStep::CloneHandle),
+        "drop_handle" => made_for_owner(core, OwnerStep::DropHandle),
+        "upgrade" => made_for_owner(core, OwnerStep::Upgrade),
         _ => return Err(LineError::NotAMove),
     })
 }
@@ -88,6 +86,12 @@ fn made(core: &mut Core<()>, step: Step, brought: Option<Slot<()>>) -> Entry
     let reply = core.make(&step, &mut hand);
     let number = number.or(hand.as_ref().map(|slot| slot.number));
     Entry::Made(step, number, reply)
+}
+
+// A step of the pool's owner with its reply.
+fn made_for_owner(core: &mut Core<()>, step: OwnerStep) -> Entry {
+    let reply = core.make_for_owner(&step);
+    Entry::Owner(step, reply)
 }
 
 // Memory is wanting only to a get that joins the queue.
@@ -118,11 +122,7 @@ fn again(core: &mut Core<()>, words: &mut Words<'_>) -> Result<Entry, LineError>
 
 // An object without a value.
 fn slot_of(number: usize) -> Slot<()> {
-    Slot {
-        number,
-        value: (),
-        metrics: Metrics::new(Moment(0)),
-    }
+    Slot { number, value: () }
 }
 
 fn cancel(core: &mut Core<()>, words: &mut Words<'_>) -> Result<Entry, LineError> {
@@ -140,11 +140,14 @@ fn cancel(core: &mut Core<()>, words: &mut Words<'_>) -> Result<Entry, LineError
 
 fn resize(core: &mut Core<()>, words: &mut Words<'_>) -> Result<Entry, LineError> {
     let limit = next_number(words)?;
+    let step = OwnerStep::Resize { limit };
     if next_word(words)? == OUT_OF_MEMORY {
-        return Ok(Entry::Resize(limit, Err(AllocError)));
+        return Ok(Entry::Owner(step, OwnerReply::OutOfMemory));
     }
-    core.resize(limit)?;
-    Ok(Entry::Resize(limit, Ok(())))
+    match made_for_owner(core, step) {
+        Entry::Owner(_, OwnerReply::OutOfMemory) => Err(LineError::OutOfMemory),
+        entry => Ok(entry),
+    }
 }
 
 // Gives up the objects at these positions.
@@ -155,13 +158,15 @@ struct Positions {
 }
 
 impl Retainer<()> for Positions {
-    fn keeps(&mut self, _number: usize, _value: &(), _metrics: &Metrics) -> bool {
+    type Left = ();
+
+    fn keeps(&mut self, _number: usize, _value: &()) -> bool {
         let position = self.asked;
         self.asked = position.saturating_add(1);
         !self.given_up.contains(&position)
     }
 
-    fn detach(&mut self, _value: &mut ()) {}
+    fn detach(&mut self, _value: ()) {}
 }
 
 fn retain(alloc: Global, core: &mut Core<()>, words: &mut Words<'_>) -> Result<Entry, LineError> {

@@ -1,4 +1,5 @@
-//! Gets of a managed pool, of both kinds, that are dropped at each stage: what is dropped and detached, and who is served next.
+//! Gets of a managed pool, of both kinds, that are dropped at each stage: what is dropped and detached, and who is
+//! served next.
 use super::managed::Kind;
 use deadpool_builder::PoolBuilder;
 use deadpool_managed::{Manager, Metrics, NoHook, PoolError, RecycleResult};
@@ -141,7 +142,8 @@ impl Log {
         Ok(())
     }
 
-    // Two gets are dropped before they are polled and while they create; one takes the object, and one is dropped behind it.
+    // Two gets are dropped before they are polled and while they create; one takes the object, and one is dropped
+    // behind it.
     fn new_ones<
         R: Wait + Drop,
         L: Ledgers,

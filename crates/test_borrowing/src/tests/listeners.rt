@@ -1,5 +1,5 @@
-//! A task that keeps what it hears by from one get to the next. A waker wakes its task as it is dropped, so a task that is
-//! woken was registered anew.
+//! A task that keeps what it hears by from one get to the next. A waker wakes its task as it is dropped, so a task that
+//! is woken was registered anew.
 use super::managed::{Numbers, Zeros};
 use deadpool_builder::PoolBuilder;
 use deadpool_lock::Listener;
@@ -13,7 +13,8 @@ use std::random::RandomSource;
 use std::sync::Wait;
 use std::test::Fail;
 
-/// Whether a task was woken by gets that ended at once: with a listener for each, with one for all, and as that was dropped.
+/// Whether a task was woken by gets that ended at once: with a listener for each, with one for all, and as that was
+/// dropped.
 #[derive(Debug, Drop, PartialEq)]
 struct Woken {
     by_each: bool,

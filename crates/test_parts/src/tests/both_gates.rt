@@ -13,7 +13,8 @@ pub fn ticket_of(entry: Entry) -> Result<Ticket, Fail> {
     }
 }
 
-/// A gate and one over a vector, which are called alike. A call that walked the list would make more than four accesses.
+/// A gate and one over a vector, which are called alike. A call that walked the list would make more than four
+/// accesses.
 #[derive(Drop)]
 pub struct Both {
     linked: Gate,

@@ -1,8 +1,8 @@
 //! Gets over a pool with a journal, as a script starts and polls them.
 use deadpool_journal::Journaled;
 use deadpool_managed::{
-    Desk, Environment, GetState, Hook, Hooks, Metrics, Moment, NoHook, OwnerDesk, PoolConfig,
-    Retainer, Runtime, Slot, Step, Timeouts, Turn,
+    Desk, Environment, GetState, Hook, Hooks, Kept, Moment, NoHook, OwnerDesk, OwnerStep,
+    PoolConfig, Retainer, Runtime, Slot, Step, Timeouts, Turn,
 };
 use deadpool_parts::tables::take_out;
 use deadpool_replay::Move;
@@ -14,6 +14,7 @@ use pool_scripts::{
 use std::alloc::{AllocError, Global};
 use std::random::RandomSource;
 use std::test::Fail;
+use test_support::expected::status_of;
 
 type Get<'a> = GetState<ScriptManager<&'a Answers>, ScriptHook<&'a Answers>>;
 
@@ -26,9 +27,9 @@ pub struct Driver<'a> {
     task: Solo,
     answers: &'a Answers,
     environment: Surroundings<'a>,
-    pub pool: Journaled<u64>,
+    pub pool: Journaled<Kept<u64>>,
     gets: Vec<Option<Get<'a>>>,
-    out: Vec<Slot<u64>>,
+    out: Vec<Slot<Kept<u64>>>,
 }
 
 // The pool that a line asks for, whose objects are numbered from 0 on.
@@ -74,12 +75,16 @@ struct Numbers {
     kept: Vec<usize>,
 }
 
-impl Retainer<u64> for Numbers {
-    fn keeps(&mut self, number: usize, _value: &u64, _metrics: &Metrics) -> bool {
+impl Retainer<Kept<u64>> for Numbers {
+    type Left = u64;
+
+    fn keeps(&mut self, number: usize, _kept: &Kept<u64>) -> bool {
         self.kept.contains(&number)
     }
 
-    fn detach(&mut self, _value: &mut u64) {}
+    fn detach(&mut self, kept: Kept<u64>) -> u64 {
+        kept.value
+    }
 }
 
 impl<'a> Driver<'a> {
@@ -115,7 +120,7 @@ impl<'a> Driver<'a> {
     /// How the pool stands, as a line.
     pub fn status(&mut self) -> Result<String, AllocError> {
         let mut text = String::new(self.alloc);
-        write_status(&mut text, self.pool.status())?;
+        write_status(&mut text, status_of(&mut self.pool))?;
         Ok(text)
     }
 
@@ -144,25 +149,21 @@ impl<'a> Driver<'a> {
     // The moves that are the pool's own.
     fn make_own(&mut self, next: Move<u64>) -> Result<(), Fail> {
         match next {
-            Move::Resize(limit) => {
-                let _ = self.pool.resize(limit);
-            }
+            Move::Resize(limit) => self.make_for_owner(OwnerStep::Resize { limit }),
             Move::Retain(kept) => {
                 self.pool.retain(&mut Numbers { kept })?;
             }
-            Move::Close => self.pool.close(),
-            Move::Clone => {
-                self.pool.clone_handle();
-            }
-            Move::DropHandle => {
-                self.pool.drop_handle();
-            }
-            Move::Upgrade => {
-                self.pool.upgrade();
-            }
+            Move::Close => self.make_for_owner(OwnerStep::Close),
+            Move::Clone => self.make_for_owner(OwnerStep::CloneHandle),
+            Move::DropHandle => self.make_for_owner(OwnerStep::DropHandle),
+            Move::Upgrade => self.make_for_owner(OwnerStep::Upgrade),
             _ => {}
         }
         Ok(())
+    }
+
+    fn make_for_owner(&mut self, step: OwnerStep) {
+        self.pool.make_for_owner(&step);
     }
 
     fn start(&mut self, timeouts: Timeouts) -> Result<(), Fail> {
@@ -205,7 +206,7 @@ impl<'a> Driver<'a> {
 
     fn put(&mut self, number: usize, value: u64) -> Result<(), Fail> {
         for slot in self.out.iter_mut().filter(|slot| slot.number == number) {
-            slot.value = value;
+            slot.value.value = value;
         }
         Ok(())
     }

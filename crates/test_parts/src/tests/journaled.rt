@@ -1,5 +1,5 @@
-//! What no clause says: which entries some steps make, their texts, what makes two differ, and that a full journal is left
-//! as it is.
+//! What no clause says: which entries some steps make, their texts, what makes two differ, and that a full journal is
+//! left as it is.
 mod equality;
 mod full;
 mod rows;
@@ -10,7 +10,7 @@ ghost use Rattle.deadpool_desk.specs.Replies.{Brings};
 ghost use Rattle.deadpool_desk.specs.declared.slot.Slot.{Slot};
 
 use deadpool_journal::Journaled;
-use deadpool_managed::{Desk, Metrics, Moment, Reply, Slot, Step};
+use deadpool_managed::{Desk, Reply, Slot, Step};
 use std::test::Fail;
 
 // A step by which no object comes back: its reply, and the object that it gave.
@@ -43,11 +43,7 @@ fn object(pool: &mut Journaled<u64>) -> Result<Slot<u64>, Fail> {
         return Err(Fail::new("no creation"));
     };
     match reply(pool, Step::Created) {
-        Reply::Number(number) => Ok(Slot {
-            number,
-            value: 7,
-            metrics: Metrics::new(Moment(0)),
-        }),
+        Reply::Number(number) => Ok(Slot { number, value: 7 }),
         _ => Err(Fail::new("not created")),
     }
 }

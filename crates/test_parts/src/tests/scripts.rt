@@ -2,7 +2,7 @@
 use super::driver::Driver;
 use super::expected::expect;
 use deadpool_journal::Journal;
-use deadpool_managed::OwnerDesk;
+use deadpool_managed::{OwnerDesk, OwnerStep};
 use pool_scripts::Answers;
 use std::alloc::Global;
 use std::random::RandomSource;
@@ -24,7 +24,8 @@ const TEXTS: [&'static str; 7] = [
     LIMITS,
 ];
 
-// Scripts whose first object has another number than 0, as the pool here has it. One of them opens two pools in vain before.
+// Scripts whose first object has another number than 0, as the pool here has it. One of them opens two pools in vain
+// before.
 const OTHERWISE_NUMBERED: &str =
     "lifo-and-a-waiter numbers-exhausted greatest-floor pool-after-a-refused-one";
 
@@ -63,7 +64,7 @@ fn plays_line(driver: &mut Driver<'_>, name: &str, line: &str) -> Result<(), Fai
 }
 
 fn has_its_replies(driver: &mut Driver<'_>, name: &str, alloc: Global) -> Result<(), Fail> {
-    driver.pool.status();
+    driver.pool.make_for_owner(&OwnerStep::Status);
     let journal = driver.pool.journal()?;
     is_driven_again(&journal, name, alloc)
 }

@@ -18,7 +18,7 @@ fn write_filled<R: Wait + Drop, L: Ledgers>(
     line: &[u8],
     text: &mut String,
 ) -> Result<(), AllocError>
-    requires empty { buffer.old.slot.value.items ≡ [] }
+    requires empty { buffer.old.slot.value.value.items ≡ [] }
 {
     let count = fill(buffer, line)?;
     let id = Object::id(buffer);

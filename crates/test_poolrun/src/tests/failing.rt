@@ -82,8 +82,8 @@ enum Call {
 }
 
 impl Call {
-    // How many there are. One read gives each byte, and one more finds the end, for which a last line without its line feed
-    // asks as well. One write takes each byte, and one flush ends each line.
+    // How many there are. One read gives each byte, and one more finds the end, for which a last line without its line
+    // feed asks as well. One write takes each byte, and one flush ends each line.
     fn count(self, talk: Talk) -> usize {
         match self {
             Call::Read(_) if talk.input.ends_with(b"\n") => talk.input.len().saturating_add(1),

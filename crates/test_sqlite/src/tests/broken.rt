@@ -99,7 +99,8 @@ max 1 size 1 available 0 waiting 0
 
 const EMPTY: &str = "max 1 size 0 available 0 waiting 0";
 
-// After how many calls the log fails: while the database is made, while the table is, and at each call of the first writes.
+// After how many calls the log fails: while the database is made, while the table is, and at each call of the first
+// writes.
 const CALLS: [u64; 13] = [0, 10, 20, 21, 22, 23, 24, 25, 26, 27, 28, 29, 30];
 
 // How many gets are refused, how many databases stay open, and how many are closed.

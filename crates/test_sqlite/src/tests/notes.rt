@@ -16,8 +16,8 @@ use std::test::Fail;
 use test_sqlite_scripts::make_folder;
 use writers::Host;
 
-/// The notes are numbered from 0 to 99. The 80 that were committed are there, and none of the 20 that were left. It was one
-/// connection all the time, and the last line is of one that is opened without the pool, after it.
+/// The notes are numbered from 0 to 99. The 80 that were committed are there, and none of the 20 that were left. It was
+/// one connection all the time, and the last line is of one that is opened without the pool, after it.
 const FOUND: &str = "rows 80 sum 3920
 max 1 size 1 available 1 waiting 0
 connections 1

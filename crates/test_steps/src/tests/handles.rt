@@ -1,5 +1,5 @@
-//! What counts as a handle of a pool: in each script the pool is open as long as one of two handles is left, of which the
-//! second comes from another source. Objects that are out stay when the last has gone, and are not detached.
+//! What counts as a handle of a pool: in each script the pool is open as long as one of two handles is left, of which
+//! the second comes from another source. Objects that are out stay when the last has gone, and are not detached.
 use super::play::play;
 use std::test::Fail;
 

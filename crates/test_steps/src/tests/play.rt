@@ -1,6 +1,6 @@
-//! Steps over a shared pool, a line each. After each of them stands what it came to, which gets have a task that is woken
-//! then, and how the pool stands: limit, size, available, waiting. Letting go of a waker wakes its task too: so does a
-//! get that leaves the queue at its deadline.
+//! Steps over a shared pool, a line each. After each of them stands what it came to, which gets have a task that is
+//! woken then, and how the pool stands: limit, size, available, waiting. Letting go of a waker wakes its task too: so
+//! does a get that leaves the queue at its deadline.
 
 ghost use Rattle.std.specs.Prelude.{◌≡◌};
 

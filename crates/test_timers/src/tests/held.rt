@@ -1,4 +1,5 @@
-//! A pool of one object that is held for a while: a get with less time than that is late, and one with more has the object.
+//! A pool of one object that is held for a while: a get with less time than that is late, and one with more has the
+//! object.
 use super::managed::Timed;
 use super::stalling::{Builder, Lent, Stall, Stalling, builder_of, millis_since};
 use deadpool_managed::{NoHook, PoolError, TimeoutType};

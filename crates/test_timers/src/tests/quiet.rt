@@ -1,4 +1,5 @@
-//! A timer that has nobody to wake sleeps: its thread reads the clock in each of its rounds, and these reads are counted.
+//! A timer that has nobody to wake sleeps: its thread reads the clock in each of its rounds, and these reads are
+//! counted.
 use super::managed::Timed;
 use deadpool_parts::{Clock as PoolClock, Moment};
 use deadpool_timer::Timer;
@@ -12,8 +13,8 @@ use std::time::{Clock, Duration};
 use std::{io, thread};
 use test_support::expected::expect;
 
-// For how many milliseconds a timer is watched, and how often the clock may be read meanwhile. A round reads it three times,
-// and one that does not sleep takes some microseconds.
+// For how many milliseconds a timer is watched, and how often the clock may be read meanwhile. A round reads it three
+// times, and one that does not sleep takes some microseconds.
 const WATCHED: u64 = 500;
 
 const MOST: u64 = 100;

@@ -74,7 +74,8 @@ pub fn builder_of<R: Wait + Clock + Drop>(
         .runtime(Runtime::Clock)
 }
 
-/// Fails if it took less than this since then. How long it takes at most is up to the machine, so that is printed alone.
+/// Fails if it took less than this since then. How long it takes at most is up to the machine, so that is printed
+/// alone.
 pub fn took_at_least<R: Wait + Clock>(rt: &R, begun: Instant, least: Duration) -> Result<(), Fail> {
     let passed = begun.elapsed(rt)?;
     if passed < least {

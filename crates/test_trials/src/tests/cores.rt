@@ -1,5 +1,5 @@
 //! A pool's state, by hand.
-use deadpool_managed::{Core, Desk, Metrics, QueueMode, Reply, Slot, Step};
+use deadpool_managed::{Core, Desk, Kept, Metrics, QueueMode, Reply, Slot, Step};
 use deadpool_parts::Moment;
 use std::alloc::Global;
 use std::test::Fail;
@@ -10,7 +10,11 @@ pub fn new_core<T: Drop>(alloc: Global, limit: usize, mode: QueueMode) -> Result
 }
 
 /// A new object of the pool with this value, created at a moment, which is out.
-pub fn created<T: Drop>(core: &mut Core<T>, value: T, moment: u128) -> Result<Slot<T>, Fail> {
+pub fn created<T: Drop>(
+    core: &mut Core<Kept<T>>,
+    value: T,
+    moment: u128,
+) -> Result<Slot<Kept<T>>, Fail> {
     let mut hand = None;
     let Reply::Create = core.make(&Step::Enter { wait: false }, &mut hand) else {
         return Err(Fail::new("no creation"));
@@ -21,8 +25,10 @@ pub fn created<T: Drop>(core: &mut Core<T>, value: T, moment: u128) -> Result<Sl
     };
     Ok(Slot {
         number,
-        value,
-        metrics: Metrics::new(Moment(moment)),
+        value: Kept {
+            value,
+            metrics: Metrics::new(Moment(moment)),
+        },
     })
 }
 

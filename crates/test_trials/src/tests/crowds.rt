@@ -1,10 +1,12 @@
 //! Many gets, and a large limit.
 use super::cores::{created, keep, new_core};
-use deadpool_managed::{Core, Desk, OwnerDesk, QueueMode, Reply, Step};
+use deadpool_managed::{
+    Core, Desk, Kept, OwnerDesk, OwnerReply, OwnerStep, QueueMode, Reply, Step,
+};
 use pool_scripts::{expect_crowd, expect_script};
 use std::alloc::{AllocError, Global};
 use std::test::Fail;
-use test_support::expected::{expect, stands};
+use test_support::expected::{expect, stands, status_of};
 
 const CROWD: usize = 1_024;
 
@@ -60,7 +62,7 @@ fn a_crowd_of_gets_in_one_list(rt: HostRuntime) -> Result<(), Fail> {
 }
 
 // So many objects are out, and no more may be. All come back.
-fn fill(alloc: Global, core: &mut Core<u64>, count: usize) -> Result<(), Fail> {
+fn fill(alloc: Global, core: &mut Core<Kept<u64>>, count: usize) -> Result<(), Fail> {
     let mut slots = Vec::with_capacity(alloc, count)?;
     for _object in 0..count {
         slots.push(created(core, 0, 0)?)?;
@@ -72,7 +74,11 @@ fn fill(alloc: Global, core: &mut Core<u64>, count: usize) -> Result<(), Fail> {
     for slot in slots {
         keep(core, slot)?;
     }
-    expect("the status", core.status(), stands(count, count, count, 0))
+    expect(
+        "the status",
+        status_of(core),
+        stands(count, count, count, 0),
+    )
 }
 
 #[test]
@@ -88,7 +94,8 @@ fn fills_a_large_core(alloc: Global) -> Result<(), Fail> {
 
 fn fills_a_core_that_grew(alloc: Global) -> Result<(), Fail> {
     let mut core = new_core(alloc, 1, QueueMode::Lifo)?;
-    core.resize(LARGE)?;
+    let resized = core.make_for_owner(&OwnerStep::Resize { limit: LARGE });
+    expect("resized", resized, OwnerReply::Done)?;
     fill(alloc, &mut core, LARGE)
 }
 

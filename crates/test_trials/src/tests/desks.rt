@@ -4,8 +4,8 @@ ghost use Rattle.deadpool_desk.specs.declared.step.Holding.{Holding};
 use super::cores::{created, keep};
 use super::managers::Counter;
 use deadpool_managed::{
-    Core, Desk, Environment, GetState, Hooks, Manager, NoHook, OwnerDesk, QueueMode, Slot,
-    Timeouts, Turn,
+    Core, Desk, Environment, GetState, Hooks, Kept, Manager, NoHook, QueueMode, Slot, Timeouts,
+    Turn,
 };
 use deadpool_parts::{Moment, Runtime};
 use futures::task::Context;
@@ -13,18 +13,18 @@ use futures::test::MockTask;
 use std::random::RandomSource;
 use std::test::Fail;
 use std::time::Duration;
-use test_support::expected::{expect, stands};
+use test_support::expected::{expect, stands, status_of};
 
 type Plain<M> = Environment<M, NoHook, NoHook>;
 
 // One poll over any desk: the object, or none if the get is pending.
-fn poll_over<M: Manager, D: Desk<M::Type>>(
+fn poll_over<M: Manager, D: Desk<Kept<M::Type>>>(
     state: &mut GetState<M, NoHook>,
     desk: &mut D,
     environment: &Plain<M>,
     now: u128,
     cx: &mut Context<'_>,
-) -> Result<Option<Slot<M::Type>>, Fail>
+) -> Result<Option<Slot<Kept<M::Type>>>, Fail>
     requires { (holding : Holding) → D.holds desk.old holding }
 {
     match state.poll_over(desk, environment, Moment(now), cx) {
@@ -39,7 +39,7 @@ type Get = GetState<Counter, NoHook>;
 // The state of a pool for one object, what its gets are lent, and the task that they are polled in.
 #[derive(Drop)]
 struct Lender {
-    core: Core<u64>,
+    core: Core<Kept<u64>>,
     environment: Plain<Counter>,
     task: MockTask,
 }
@@ -58,7 +58,7 @@ impl Lender {
         })
     }
 
-    fn poll(&mut self, get: &mut Get, now: u128) -> Result<Option<Slot<u64>>, Fail> {
+    fn poll(&mut self, get: &mut Get, now: u128) -> Result<Option<Slot<Kept<u64>>>, Fail> {
         let Lender {
             core,
             environment,
@@ -81,7 +81,7 @@ impl Lender {
     }
 
     // Polls a get, which ends with an object.
-    fn object(&mut self, get: &mut Get, now: u128) -> Result<Slot<u64>, Fail> {
+    fn object(&mut self, get: &mut Get, now: u128) -> Result<Slot<Kept<u64>>, Fail> {
         match self.poll(get, now)? {
             Some(slot) => Ok(slot),
             None => Err(Fail::new("pending")),
@@ -90,11 +90,16 @@ impl Lender {
 }
 
 // An object that was created at 0 has this number and value, and was recycled then, if at all.
-fn is(slot: &Slot<u64>, number: usize, value: u64, recycled: Option<Moment>) -> Result<(), Fail> {
-    let moments = (slot.metrics.created, slot.metrics.recycled);
+fn is(
+    slot: &Slot<Kept<u64>>,
+    number: usize,
+    value: u64,
+    recycled: Option<Moment>,
+) -> Result<(), Fail> {
+    let moments = (slot.value.metrics.created, slot.value.metrics.recycled);
     expect(
         "the object and its moments",
-        (slot.number, slot.value, moments),
+        (slot.number, slot.value.value, moments),
         (number, value, (Moment(0), recycled)),
     )
 }
@@ -124,7 +129,11 @@ fn leaves_its_place_to_the_next(lender: &mut Lender) -> Result<(), Fail> {
     keep(&mut lender.core, slot)?;
     let slot = lender.object(&mut third, 20)?;
     is(&slot, 0, 7, Some(Moment(20)))?;
-    expect("the status", lender.core.status(), stands(1, 1, 0, 0))
+    expect(
+        "the status",
+        status_of(&mut lender.core),
+        stands(1, 1, 0, 0),
+    )
 }
 
 // Two wait, the first of them until a moment. It is given up, and the other stays in the queue.
@@ -136,7 +145,15 @@ fn gives_the_first_up(lender: &mut Lender, third: &mut Get) -> Result<(), Fail> 
     expect("the deadline", second.deadline(), None)?;
     lender.stays_pending(&mut second, 5, Some(Moment(15)))?;
     lender.stays_pending(third, 5, None)?;
-    expect("the status", lender.core.status(), stands(1, 1, 0, 2))?;
+    expect(
+        "the status",
+        status_of(&mut lender.core),
+        stands(1, 1, 0, 2),
+    )?;
     second.cancel(&mut lender.core, &lender.environment);
-    expect("the status", lender.core.status(), stands(1, 1, 0, 1))
+    expect(
+        "the status",
+        status_of(&mut lender.core),
+        stands(1, 1, 0, 1),
+    )
 }

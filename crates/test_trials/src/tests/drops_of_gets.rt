@@ -6,7 +6,7 @@ use super::managers::Calls;
 use super::polls::{poll, task};
 use super::told::{Answer, Lent, Object, Told, environment};
 use super::watched::Watched;
-use deadpool_managed::{Core, Desk, GetState, Hook, QueueMode, Reply, Slot, Step, Timeouts};
+use deadpool_managed::{Core, Desk, GetState, Hook, Kept, QueueMode, Reply, Slot, Step, Timeouts};
 use futures::task::Solo;
 use std::alloc::Global;
 use std::test::Fail;
@@ -52,7 +52,7 @@ fn play(
 }
 
 // An object of the pool that is idle.
-fn make_idle(core: &mut Core<Object>, value: &Object) -> Result<(), Fail> {
+fn make_idle(core: &mut Core<Kept<Object>>, value: &Object) -> Result<(), Fail> {
     let slot = created(core, value.clone()?, 0)?;
     keep(core, slot)
 }
@@ -174,7 +174,7 @@ fn an_object_that_the_pool_does_not_know(rt: HostRuntime) -> Result<(), Fail> {
 
 // The creation ends behind the get's back, and then with an object.
 fn ends_behind_a_gets_back(
-    core: &mut Core<Object>,
+    core: &mut Core<Kept<Object>>,
     environment: &Lent,
     task: &Solo,
 ) -> Result<(), Fail> {
@@ -194,7 +194,7 @@ fn ends_behind_a_gets_back(
 // Whether a get gives an object, or none if it is pending, and what is there then.
 fn polled(
     state: &mut GetState<Told, Answering>,
-    core: &mut Core<Object>,
+    core: &mut Core<Kept<Object>>,
     environment: &Lent,
     task: &Solo,
 ) -> (Option<bool>, (usize, usize)) {
@@ -209,7 +209,7 @@ fn polled(
 // An object of another pool comes back, and is handed back.
 fn hands_an_object_back(
     alloc: Global,
-    core: &mut Core<Object>,
+    core: &mut Core<Kept<Object>>,
     environment: &Lent,
 ) -> Result<(), Fail> {
     let mut other = new_core(alloc, 1, QueueMode::Fifo)?;
@@ -223,9 +223,9 @@ fn hands_an_object_back(
 
 // Whether an object that comes back is unknown, and what is there then, and again when it was dropped.
 fn handed_back(
-    core: &mut Core<Object>,
+    core: &mut Core<Kept<Object>>,
     environment: &Lent,
-    slot: Slot<Object>,
+    slot: Slot<Kept<Object>>,
 ) -> (bool, (usize, usize), (usize, usize)) {
     let (reply, left) = back(core, slot);
     let is_unknown = reply == Reply::Unknown && left.is_some();

@@ -256,8 +256,8 @@ fn nanoseconds(moment: Moment) -> u64 {
     u64::try_from(moment.0).unwrap_or(u64::MAX)
 }
 
-// Leaves on an object what it is shown, two digits each: how often it was recycled, when it was last (99 if it never was),
-// and when it was created.
+// Leaves on an object what it is shown, two digits each: how often it was recycled, when it was last (99 if it never
+// was), and when it was created.
 #[derive(Drop)]
 struct Noting;
 

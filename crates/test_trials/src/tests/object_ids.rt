@@ -1,17 +1,12 @@
 //! Identifiers of objects.
-use deadpool_managed::{Metrics, ObjectId, Slot};
-use deadpool_parts::Moment;
+use deadpool_managed::{ObjectId, Slot};
 use std::alloc::Global;
 use std::cmp::Ordering;
 use std::test::Fail;
 use test_support::expected::expect;
 
 fn id(number: usize) -> ObjectId {
-    let slot = Slot {
-        number,
-        value: (),
-        metrics: Metrics::new(Moment(0)),
-    };
+    let slot = Slot { number, value: () };
     slot.id()
 }
 

@@ -2,19 +2,19 @@
 ghost use Rattle.deadpool_desk.specs.declared.step.Holding.{Holding};
 
 use super::answering::Answering;
-use deadpool_managed::{Desk, Environment, GetState, Manager, NoHook, PoolError, Slot, Turn};
+use deadpool_managed::{Desk, Environment, GetState, Kept, Manager, NoHook, PoolError, Slot, Turn};
 use deadpool_parts::Moment;
 use futures::task::{Doorbell, Solo};
 use std::random::RandomSource;
 use std::test::Fail;
 
 /// Polls a get over a desk once: what it ended with, or none if it is pending.
-pub fn poll<M: Manager, D: Desk<M::Type>>(
+pub fn poll<M: Manager, D: Desk<Kept<M::Type>>>(
     state: &mut GetState<M, Answering>,
     desk: &mut D,
     environment: &Environment<M, NoHook, Answering>,
     task: &Solo,
-) -> Option<Result<Slot<M::Type>, PoolError<M::Error>>>
+) -> Option<Result<Slot<Kept<M::Type>>, PoolError<M::Error>>>
     requires { (holding : Holding) → D.holds desk.old holding }
 {
     let mut cx = task.begin();

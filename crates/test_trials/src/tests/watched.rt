@@ -2,12 +2,12 @@
 ghost use Rattle.std.specs.Prelude.{⊤};
 
 use super::managers::Calls;
-use deadpool_managed::{Core, Desk, Reply, Slot, Step};
+use deadpool_managed::{Core, Desk, Kept, Reply, Slot, Step};
 
 /// A pool's state. At each step that gives an object up it notes how many were detached by then.
 #[derive(Drop)]
 pub struct Watched<'a, T> {
-    pub core: Core<T>,
+    pub core: Core<Kept<T>>,
     pub calls: &'a Calls,
     /// Whether such steps are made. Otherwise they are answered `Unknown`.
     pub knows: bool,
@@ -22,10 +22,10 @@ impl<'a, T> Watched<'a, T> {
     }
 }
 
-impl<'a, T: Drop> Desk<T> for Watched<'a, T> {
+impl<'a, T: Drop> Desk<Kept<T>> for Watched<'a, T> {
     ghost makes = { λ _ _ _ _ _ _. ⊤ };
 
-    fn make(&mut self, step: &Step, hand: &mut Option<Slot<T>>) -> Reply {
+    fn make(&mut self, step: &Step, hand: &mut Option<Slot<Kept<T>>>) -> Reply {
         match step {
             Step::Discard | Step::Refused | Step::Withdraw { .. } | Step::Cancel(_) => {
                 if self.gives_up() {

@@ -1,7 +1,8 @@
 //! Objects that a step hands back: none is dropped before whoever has it drops it.
 use super::expect;
+use super::made::{back, enter_add, enter_get};
 use deadpool_parts::Moment;
-use deadpool_unmanaged::{AddEnterReply, AddState, BackReply, Core, GetEnterReply};
+use deadpool_unmanaged::{AddState, Core, Reply, Step};
 use deadpool_unmanaged_replay::{Move, Trial};
 use futures::task::Poll;
 use std::alloc::Global;
@@ -23,8 +24,8 @@ impl Drop for Tracked<'_> {
 // A pool for one object, with that one idle.
 fn with_idle<'a>(alloc: Global, drops: &'a Cell<usize>) -> Result<Core<Tracked<'a>>, Fail> {
     let mut core = Core::new(alloc, 1)?;
-    match core.add_enter(Tracked { drops }, false) {
-        AddEnterReply::Stored => Ok(core),
+    match enter_add(&mut core, Tracked { drops }, false) {
+        (Reply::Stored, None) => Ok(core),
         _ => Err(Fail::new("not stored")),
     }
 }
@@ -46,22 +47,22 @@ fn the_last_handle_of_an_unmanaged_pool(rt: HostRuntime) -> Result<(), Fail> {
 fn an_object_that_is_out_at_the_last_handle(rt: HostRuntime) -> Result<(), Fail> {
     let drops = Cell::new(0);
     let mut core = with_idle(rt.alloc(), &drops)?;
-    let GetEnterReply::Object(value) = core.get_enter(false) else {
+    let (Reply::Object, Some(value)) = enter_get(&mut core, false) else {
         return Err(Fail::new("no object"));
     };
     core.drop_handle();
-    let reply = core.back(value);
-    let is_dropped = matches!(reply, BackReply::Dropped(_));
-    let back = drops.get();
-    drop(reply);
+    let (reply, hand) = back(&mut core, value);
+    let is_dropped = reply == Reply::Dropped && hand.is_some();
+    let before = drops.get();
+    drop(hand);
     let first = drops.get();
     // One that was not out comes back too.
-    drop(core.back(Tracked { drops: &drops }));
+    drop(back(&mut core, Tracked { drops: &drops }));
     let second = drops.get();
     drop(core);
     expect(
         "handed back, dropped",
-        (is_dropped, [back, first, second, drops.get()]),
+        (is_dropped, [before, first, second, drops.get()]),
         (true, [0, 1, 2, 2]),
     )
 }
@@ -121,7 +122,7 @@ fn an_add_that_the_queue_does_not_know(rt: HostRuntime) -> Result<(), Fail> {
     let is_pending = matches!(add.poll(&mut core), Poll::Pending);
     let ticket = add.ticket();
     if let Some(ticket) = ticket {
-        core.add_cancel(ticket);
+        core.make(&Step::AddCancel { ticket }, &mut None);
     }
     let refused = add.poll(&mut core);
     let is_refused = matches!(refused, Poll::Ready(Err(_)));

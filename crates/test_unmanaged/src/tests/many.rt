@@ -1,8 +1,8 @@
 //! Many that wait, many objects, and a limit for which there is no memory.
-use super::steps::object_of;
+use super::made::{back, enter_add, enter_get};
 use super::{Host, expect, stands};
 use deadpool_parts::{Moment, NoTime, Status};
-use deadpool_unmanaged::{AddEnterReply, BackReply, Core, GetEnterReply, PoolError};
+use deadpool_unmanaged::{Core, PoolError, Reply as CoreReply};
 use deadpool_unmanaged_replay::{Move, Reply, Trial};
 use deadpool_unmanaged_shared::Pool;
 use std::alloc::{AllocError, Global};
@@ -113,26 +113,26 @@ const LARGE: usize = 100_000;
 fn fills(core: &mut Core<usize>) -> bool {
     let mut all_stored = true;
     for value in 0..LARGE {
-        let reply = core.add_enter(value, false);
-        all_stored = matches!(reply, AddEnterReply::Stored) && all_stored;
+        let stored = enter_add(core, value, false) == (CoreReply::Stored, None);
+        all_stored = stored && all_stored;
     }
-    matches!(core.add_enter(LARGE, false), AddEnterReply::Full(LARGE)) && all_stored
+    enter_add(core, LARGE, false) == (CoreReply::Full, Some(LARGE)) && all_stored
 }
 
 // Whether each comes out, the last first, and no more.
 fn empties(core: &mut Core<usize>) -> bool {
     let mut all_out = true;
     for value in (0..LARGE).rev() {
-        all_out = object_of(core.get_enter(false)) == Some(value) && all_out;
+        all_out = enter_get(core, false) == (CoreReply::Object, Some(value)) && all_out;
     }
-    matches!(core.get_enter(false), GetEnterReply::Full) && all_out
+    enter_get(core, false) == (CoreReply::Full, None) && all_out
 }
 
 // Whether each is kept.
 fn takes_all_back(core: &mut Core<usize>) -> bool {
     let mut all_kept = true;
     for value in 0..LARGE {
-        all_kept = matches!(core.back(value), BackReply::Kept) && all_kept;
+        all_kept = back(core, value) == (CoreReply::Kept, None) && all_kept;
     }
     all_kept
 }

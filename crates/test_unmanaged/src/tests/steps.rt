@@ -1,10 +1,8 @@
 //! Steps of a pool's state and of an add that the moves of a trial don't show.
+use super::made::{back, enter_add, enter_get, take};
 use super::{expect, stands};
 use deadpool_parts::Moment;
-use deadpool_unmanaged::{
-    AddEnterReply, AddState, BackReply, Core, GetEnterReply, GetState, HandleReply, PoolError,
-    TakeReply,
-};
+use deadpool_unmanaged::{AddState, Core, GetState, HandleReply, PoolError, Reply};
 use futures::task::Poll;
 use std::alloc::Global;
 use std::test::Fail;
@@ -35,13 +33,13 @@ fn has_it_until_there_is_room(core: &mut Core<&'static str>) -> Result<(), Fail>
     let mut add = AddState::new("second");
     let waits = add.poll(core);
     let got = GetState::new(None).poll(core, None, Moment(0));
-    let left = (got, core.take(), add.value().copied());
+    let left = (got, take(core) == Reply::Taken, add.value().copied());
     expect(
         "it waits, an object leaves, it is stored",
         (waits, left, (add.poll(core), add.value().copied())),
         (
             Poll::Pending,
-            (Poll::Ready(Ok("first")), TakeReply::Taken, Some("second")),
+            (Poll::Ready(Ok("first")), true, Some("second")),
             (Poll::Ready(Ok(())), None),
         ),
     )
@@ -85,22 +83,14 @@ fn with_object_out(alloc: Global, value: u64) -> Result<Core<u64>, Fail> {
 }
 
 fn put_out(core: &mut Core<u64>, value: u64) -> Result<(), Fail> {
-    let is_stored = matches!(core.add_enter(value, false), AddEnterReply::Stored);
+    let is_stored = enter_add(core, value, false) == (Reply::Stored, None);
     let is_out = gives(core, false, value);
     expect("stored and out", (is_stored, is_out), (true, true))
 }
 
 // Whether a newcomer's get is handed this object.
 fn gives(core: &mut Core<u64>, waits: bool, value: u64) -> bool {
-    object_of(core.get_enter(waits)) == Some(value)
-}
-
-/// The object that a new get is handed, if it is handed one.
-pub fn object_of<T: Drop>(reply: GetEnterReply<T>) -> Option<T> {
-    match reply {
-        GetEnterReply::Object(value) => Some(value),
-        _ => None,
-    }
+    enter_get(core, waits) == (Reply::Object, Some(value))
 }
 
 #[test]
@@ -112,10 +102,10 @@ fn steps_of_newcomers(rt: HostRuntime) -> Result<(), Fail> {
 }
 
 fn waits_or_is_told(core: &mut Core<u64>) -> Result<(), Fail> {
-    let no_object = matches!(core.get_enter(false), GetEnterReply::Full);
-    let no_room = matches!(core.add_enter(8, false), AddEnterReply::Full(8));
-    let get_waits = matches!(core.get_enter(true), GetEnterReply::Waiting(_));
-    let add_waits = matches!(core.add_enter(9, true), AddEnterReply::Waiting(_, 9));
+    let no_object = enter_get(core, false) == (Reply::Full, None);
+    let no_room = enter_add(core, 8, false) == (Reply::Full, Some(8));
+    let get_waits = matches!(enter_get(core, true), (Reply::Waiting(_), None));
+    let add_waits = matches!(enter_add(core, 9, true), (Reply::Waiting(_), Some(9)));
     expect(
         "no object, no room, a get and an add wait, the status",
         ([no_object, no_room, get_waits, add_waits], core.status()),
@@ -124,8 +114,8 @@ fn waits_or_is_told(core: &mut Core<u64>) -> Result<(), Fail> {
 }
 
 fn refuses_newcomers(core: &mut Core<u64>) -> Result<(), Fail> {
-    let get_is_refused = matches!(core.get_enter(true), GetEnterReply::Closed);
-    let add_is_refused = matches!(core.add_enter(9, true), AddEnterReply::Closed(9));
+    let get_is_refused = enter_get(core, true) == (Reply::Closed, None);
+    let add_is_refused = enter_add(core, 9, true) == (Reply::Closed, Some(9));
     expect(
         "a get and an add are refused",
         (get_is_refused, add_is_refused),
@@ -142,19 +132,19 @@ fn steps_of_an_object(rt: HostRuntime) -> Result<(), Fail> {
 }
 
 fn is_out_once(core: &mut Core<u64>) -> Result<(), Fail> {
-    let is_kept = matches!(core.back(7), BackReply::Kept);
-    let is_unknown = matches!(core.back(7), BackReply::Unknown(7));
-    let taken = core.take();
+    let is_kept = back(core, 7) == (Reply::Kept, None);
+    let is_unknown = back(core, 7) == (Reply::Unknown, Some(7));
+    let taken = take(core);
     expect(
         "kept, unknown, not taken, and out again",
         (is_kept, is_unknown, taken, gives(core, true, 7)),
-        (true, true, TakeReply::Unknown, true),
+        (true, true, Reply::Unknown, true),
     )
 }
 
 fn is_dropped_when_closed(core: &mut Core<u64>) -> Result<(), Fail> {
     let before = core.status();
-    let is_dropped = matches!(core.back(7), BackReply::Dropped(7));
+    let is_dropped = back(core, 7) == (Reply::Dropped, Some(7));
     expect(
         "the status, dropped, the status",
         (before, is_dropped, core.status()),
@@ -170,7 +160,7 @@ fn steps_of_a_handle(rt: HostRuntime) -> Result<(), Fail> {
 }
 
 fn has_two_handles_and_a_third(core: &mut Core<u64>) -> Result<(), Fail> {
-    let is_kept = matches!(core.back(7), BackReply::Kept);
+    let is_kept = back(core, 7) == (Reply::Kept, None);
     let first = [core.clone_handle(), core.drop_handle()];
     let is_upgraded = core.upgrade();
     let last = core.drop_handle();

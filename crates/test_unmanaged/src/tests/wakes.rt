@@ -1,5 +1,6 @@
 //! Who is named, and when somebody would have to wait.
 use super::expect;
+use super::made::take;
 use deadpool_gate::gate::Ticket;
 use deadpool_parts::Moment;
 use deadpool_unmanaged::{AddState, Core, GetState};
@@ -56,7 +57,7 @@ fn names_the_add(core: &mut Core<u64>) -> Result<(), Fail> {
     let mut add = AddState::new(3);
     waits_with_the_next_number(core, &mut add)?;
     let got = GetState::new(None).poll(core, None, Moment(0));
-    core.take();
+    take(core);
     let named = core.take_add_wake() == add.ticket();
     let value = add.cancel(core);
     expect(

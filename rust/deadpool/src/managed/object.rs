@@ -1,6 +1,6 @@
 //! An object that is out.
 use super::{Manager, Metrics, ObjectId, Pool, Shared};
-use crate::cores::desk::{self, Desk, Moment, Reply, Slot, Step};
+use crate::cores::desk::{Desk, Reply, Slot, Step};
 use crate::lends::lends_value;
 use crate::parcel::{Boxed, Parcel};
 use std::fmt;
@@ -85,8 +85,7 @@ impl<M: Manager> Drop for Object<M> {
     /// What is not kept is dropped here, without the lock.
     fn drop(&mut self) {
         let Some(kept) = self.kept.take() else { return };
-        let metrics = desk::Metrics::new(Moment(0));
-        let mut hand = Some(Slot { number: kept.number, value: Parcel::of(kept), metrics });
+        let mut hand = Some(Slot { number: kept.number, value: Parcel::of(kept) });
         let reply = self.pool.step(|state| state.desk.make(&Step::Back, &mut hand));
         if let (Reply::Detach, Some(mut kept)) = (reply, in_hand(hand)) {
             self.pool.setup.manager.detach(&mut kept.value);

@@ -1,10 +1,10 @@
 //! A handle of a pool.
 use super::get::Get;
 use super::object::Kept;
-use super::{Handle, Journal, Manager, Metrics, Object, OutOfMemory, PoolBuilder, PoolError, Shared, Timeouts};
+use super::{Core, Handle, Journal, Manager, Metrics, Object, OutOfMemory, PoolBuilder, PoolError, Shared, Timeouts};
 use crate::Status;
-use crate::cores::desk::{self, OwnerDesk, Retainer};
-use crate::parcel::Parcel;
+use crate::cores::desk::{OwnerDesk, OwnerReply, OwnerStep, Retainer};
+use crate::parcel::{Boxed, Parcel};
 use std::fmt;
 use std::marker::PhantomData;
 use std::sync::{Arc, Weak};
@@ -28,11 +28,15 @@ impl<T> Default for RetainResult<T> {
 struct Choice(std::vec::IntoIter<bool>);
 
 impl<M: Manager> Retainer<Parcel<Kept<M>>> for Choice {
-    fn keeps(&mut self, _: usize, _: &Parcel<Kept<M>>, _: &desk::Metrics) -> bool {
+    type Left = Option<Boxed<Kept<M>>>;
+
+    fn keeps(&mut self, _: usize, _: &Parcel<Kept<M>>) -> bool {
         self.0.next().unwrap_or(true)
     }
 
-    fn detach(&mut self, _: &mut Parcel<Kept<M>>) {}
+    fn detach(&mut self, parcel: Parcel<Kept<M>>) -> Self::Left {
+        parcel.take()
+    }
 }
 
 /// A handle of a pool, which hands its objects out as `W`. With the last handle the idle objects are dropped.
@@ -75,7 +79,8 @@ impl<M: Manager, W: From<Object<M>>> Pool<M, W> {
     }
 
     pub(super) fn upgrade(shared: &Arc<Shared<M>>) -> Option<Self> {
-        Some(Pool::of(Handle::upgrade(shared, OwnerDesk::upgrade)?))
+        let count = |desk: &mut Core<M>| desk.make_for_owner(&OwnerStep::Upgrade) == OwnerReply::Done;
+        Some(Pool::of(Handle::upgrade(shared, count)?))
     }
 
     /// An object, within the pool's timeouts.
@@ -112,8 +117,12 @@ impl<M: Manager, W: From<Object<M>>> Pool<M, W> {
     ///
     /// A limit above all before it needs memory. If none is found nothing has changed.
     pub fn try_resize(&self, max_size: usize) -> Result<(), OutOfMemory> {
+        let step = OwnerStep::Resize { limit: max_size };
         // (one that needs memory drops none)
-        self.shared.give_up(|desk| desk.surplus(max_size), |desk| desk.resize(max_size)).map_err(|_| OutOfMemory)
+        match self.shared.give_up(|desk| desk.surplus(max_size), |desk| desk.make_for_owner(&step)) {
+            OwnerReply::OutOfMemory => Err(OutOfMemory),
+            _ => Ok(()),
+        }
     }
 
     /// Gives up the idle objects of which the predicate, which is asked about each, says no. It is asked under the lock, so
@@ -144,7 +153,7 @@ impl<M: Manager, W: From<Object<M>>> Pool<M, W> {
             }
             state.desk.retain(&mut Choice(keep.into_iter())).map_err(|_| OutOfMemory)
         })?;
-        let mut gone: Vec<_> = given.removed.into_iter().filter_map(|parcel| parcel.take()).collect();
+        let mut gone: Vec<_> = given.removed.into_iter().flatten().collect();
         gone.iter_mut().for_each(|kept| self.shared.setup.manager.detach(&mut kept.value));
         Ok(RetainResult { retained: given.retained, removed: gone.into_iter().map(|kept| kept.open().value).collect() })
     }
@@ -167,7 +176,10 @@ impl<M: Manager, W: From<Object<M>>> Pool<M, W> {
     /// How the pool stands.
     #[must_use]
     pub fn status(&self) -> Status {
-        self.shared.look().desk.status()
+        match self.shared.look().desk.make_for_owner(&OwnerStep::Status) {
+            OwnerReply::Stands(status) => status,
+            reply => unreachable!("{reply:?} is no reply to how the pool stands"),
+        }
     }
 
     /// The manager.

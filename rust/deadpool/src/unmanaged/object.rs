@@ -1,6 +1,6 @@
 //! An object that is out.
 use super::{Core, PoolConfig};
-use crate::cores::unmanaged::BackReply;
+use crate::cores::unmanaged::Step;
 use crate::lends::lends_value;
 use crate::parcel::{Boxed, Parcel};
 use crate::shared::Shared;
@@ -20,7 +20,7 @@ impl<T> Object<T> {
     #[must_use]
     pub fn take(mut this: Self) -> T {
         let value = this.value.take().expect("an object has its value");
-        this.pool.step(|state| state.desk.take());
+        this.pool.step(|state| state.desk.make(&Step::Take, &mut None));
         value.open()
     }
 }
@@ -29,10 +29,9 @@ impl<T> Drop for Object<T> {
     /// What is not kept is dropped here, without the lock.
     fn drop(&mut self) {
         let Some(value) = self.value.take() else { return };
-        match self.pool.step(|state| state.desk.back(Parcel::of(value))) {
-            BackReply::Kept => (),
-            BackReply::Dropped(parcel) | BackReply::Unknown(parcel) => drop(parcel.take()),
-        }
+        let mut hand = Some(Parcel::of(value));
+        self.pool.step(|state| state.desk.make(&Step::Back, &mut hand));
+        drop(hand.and_then(|parcel| parcel.take()));
     }
 }
 

@@ -1,7 +1,7 @@
 //! A handle of a pool.
 use super::{Core, Object, PoolConfig, PoolError};
 use crate::Status;
-use crate::cores::unmanaged::{AddAskReply, AddEnterReply, GetAskReply, GetEnterReply};
+use crate::cores::unmanaged::{Reply, Step};
 use crate::parcel::{Boxed, Parcel};
 use crate::rattle::Global;
 use crate::shared::Handle;
@@ -78,7 +78,7 @@ impl<T> Pool<T> {
             return self.try_get();
         }
         let alarm = Alarm::after(timeout, self.shared.setup.runtime).ok_or(PoolError::NoRuntimeSpecified)?;
-        let cancel = |desk: &mut Core<T>, ticket| _ = desk.get_cancel(ticket);
+        let cancel = |desk: &mut Core<T>, ticket| _ = desk.make(&Step::GetCancel { ticket }, &mut None);
         let get = Waiting { pool: &self.shared, wakers: |state| &mut state.gets, cancel, ticket: None };
         let got = get.ask(alarm, |desk, asked| got(desk, true, asked), || Err(PoolError::OutOfMemory)).await;
         Ok(self.object(got?))
@@ -94,20 +94,12 @@ impl<T> Pool<T> {
     ///
     /// The object, if the pool has closed or no memory is found.
     pub async fn add(&self, object: T) -> Result<(), (T, PoolError)> {
-        let cancel = |desk: &mut Core<T>, ticket| _ = desk.add_cancel(ticket);
+        let cancel = |desk: &mut Core<T>, ticket| _ = desk.make(&Step::AddCancel { ticket }, &mut None);
         let add = Waiting { pool: &self.shared, wakers: |state| &mut state.adds, cancel, ticket: None };
         let mut value = Some(Boxed::new(object).map_err(|object| (object, PoolError::OutOfMemory))?);
-        let step = |desk: &mut Core<T>, asked: Asked| {
-            stored(&mut value, |value| match asked {
-                Some((ticket, _)) => match desk.add_ask(ticket, value) {
-                    AddAskReply::Stored => (Turn::Ended(Ok(())), None),
-                    AddAskReply::Waiting(value) => (Turn::Waits(ticket), Some(value)),
-                    AddAskReply::Closed(value) | AddAskReply::Unknown(value) => {
-                        (Turn::Ended(Err(PoolError::Closed)), Some(value))
-                    }
-                },
-                None => entered(desk.add_enter(value, true)),
-            })
+        let step = |desk: &mut Core<T>, asked: Asked| match asked {
+            None => stored(desk, &Step::AddEnter { wait: true }, &mut value),
+            Some((ticket, _)) => stored(desk, &Step::AddAsk { ticket }, &mut value),
         };
         let end = add.ask(Alarm::default(), step, || Err(PoolError::OutOfMemory)).await;
         added(value, end)
@@ -120,7 +112,7 @@ impl<T> Pool<T> {
     /// The object, with `Timeout` if there is no room.
     pub fn try_add(&self, object: T) -> Result<(), (T, PoolError)> {
         let mut value = Some(Boxed::new(object).map_err(|object| (object, PoolError::OutOfMemory))?);
-        match self.shared.step(|state| stored(&mut value, |value| entered(state.desk.add_enter(value, false)))) {
+        match self.shared.step(|state| stored(&mut state.desk, &Step::AddEnter { wait: false }, &mut value)) {
             Turn::Ended(end) => added(value, end),
             Turn::Waits(_) => Ok(()),
         }
@@ -212,43 +204,33 @@ impl<T> fmt::Debug for Pool<T> {
 /// A get enters, or asks with its ticket. It is given an object, waits if it may, or is refused.
 #[inline]
 fn got<T>(desk: &mut Core<T>, may_wait: bool, asked: Asked) -> Turn<Result<Option<Boxed<T>>, PoolError>> {
-    Turn::Ended(match asked {
-        None => match desk.get_enter(may_wait) {
-            GetEnterReply::Object(parcel) => Ok(parcel.take()),
-            GetEnterReply::Waiting(ticket) => return Turn::Waits(ticket),
-            GetEnterReply::Full => Err(PoolError::Timeout),
-            GetEnterReply::Closed => Err(PoolError::Closed),
-            GetEnterReply::OutOfMemory => Err(PoolError::OutOfMemory),
-        },
-        Some((ticket, is_late)) => match desk.get_ask(ticket, is_late) {
-            GetAskReply::Object(parcel) => Ok(parcel.take()),
-            GetAskReply::Waiting => return Turn::Waits(ticket),
-            GetAskReply::Expired => Err(PoolError::Timeout),
-            GetAskReply::Closed | GetAskReply::Unknown => Err(PoolError::Closed),
-        },
+    let mut hand = None;
+    let reply = match asked {
+        None => desk.make(&Step::GetEnter { wait: may_wait }, &mut hand),
+        Some((ticket, expired)) => desk.make(&Step::GetAsk { ticket, expired }, &mut hand),
+    };
+    Turn::Ended(match reply {
+        Reply::Waiting(ticket) => return Turn::Waits(ticket),
+        Reply::Full | Reply::Expired => Err(PoolError::Timeout),
+        Reply::OutOfMemory => Err(PoolError::OutOfMemory),
+        _ => hand.map(|parcel| parcel.take()).ok_or(PoolError::Closed),
     })
 }
 
-/// How a step of an add ends.
-type Added = Turn<Result<(), PoolError>>;
-
-/// Makes a step of an add, which stores the value or gives it back.
-fn stored<T>(value: &mut Option<Boxed<T>>, step: impl FnOnce(Parcel<T>) -> (Added, Option<Parcel<T>>)) -> Added {
+/// Makes a step of an add with its value, which is left if it is not stored.
+#[inline]
+fn stored<T>(desk: &mut Core<T>, step: &Step, value: &mut Option<Boxed<T>>) -> Turn<Result<(), PoolError>> {
     let Some(given) = value.take() else { return Turn::Ended(Ok(())) };
-    let (turn, back) = step(Parcel::of(given));
-    *value = back.and_then(|parcel| parcel.take());
-    turn
-}
-
-/// How a new add has ended, and its value if that comes back.
-fn entered<T>(reply: AddEnterReply<Parcel<T>>) -> (Added, Option<Parcel<T>>) {
-    match reply {
-        AddEnterReply::Stored => (Turn::Ended(Ok(())), None),
-        AddEnterReply::Waiting(ticket, value) => (Turn::Waits(ticket), Some(value)),
-        AddEnterReply::Full(value) => (Turn::Ended(Err(PoolError::Timeout)), Some(value)),
-        AddEnterReply::Closed(value) => (Turn::Ended(Err(PoolError::Closed)), Some(value)),
-        AddEnterReply::OutOfMemory(value) => (Turn::Ended(Err(PoolError::OutOfMemory)), Some(value)),
-    }
+    let mut hand = Some(Parcel::of(given));
+    let reply = desk.make(step, &mut hand);
+    *value = hand.and_then(|parcel| parcel.take());
+    Turn::Ended(match reply {
+        Reply::Waiting(ticket) => return Turn::Waits(ticket),
+        Reply::Stored => Ok(()),
+        Reply::Full => Err(PoolError::Timeout),
+        Reply::OutOfMemory => Err(PoolError::OutOfMemory),
+        _ => Err(PoolError::Closed),
+    })
 }
 
 /// How an add has ended. A value that is left was refused.

@@ -1,5 +1,6 @@
 -- One key more is written, and the pool is as it was.
-use Rattle.deadpool_c.proofs.Words.{◌≡◌, ◌∙◌, sym, ap, ◌<◌, length, slice_get, Some, arith, length-set, slice_get_within, idle_keys}
+use Rattle.deadpool_c.proofs.Words.{◌≡◌, ◌∙◌, sym, ap, ◌<◌, length, slice_get, Some, arith, length-set}
+use Rattle.deadpool_c.proofs.Words.{slice_get_within, idle_keys}
 use Rattle.deadpool_c.proofs.Writing.{front_more, rest_more}
 use Rattle.deadpool_c.proofs.managed_owner.write_keys.Goals as goal
 
@@ -8,7 +9,9 @@ loop-at-preserved c =
     let l = c.loop-at in
     let given = idle_keys c.args.pool.now.state.pool.core.desk in
     let inside : l.at < length l.keys = omega (arith, c.loop-at-test.true, c.min-room.ensures, l.invariant.count) in
-    let found : slice_get given l.at ≡ Some c.in-Some.key = sym (ap (λ s. slice_get (idle_keys s.pool.core.desk) l.at) l.invariant.same) ∙ sym c.replace_with.ensures.0 ∙ c.in-Some.is in
+    let found : slice_get given l.at ≡ Some c.in-Some.key =
+    sym (ap (λ s. slice_get (idle_keys s.pool.core.desk) l.at) l.invariant.same) ∙ sym c.replace_with.ensures.0
+    ∙ c.in-Some.is in
     record {
       made = c.replace_with.ensures.1.1;
       same = c.replace_with.ensures.1.0 ∙ l.invariant.same;

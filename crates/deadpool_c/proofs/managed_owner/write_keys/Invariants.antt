@@ -1,4 +1,5 @@
-use Rattle.deadpool_c.proofs.{Words.◌≡◌, Words.◌≤◌, Words.length, Words.take, Words.drop, Words.idle_keys, Steps.InBlock}
+use Rattle.deadpool_c.proofs.{Words.◌≡◌, Words.◌≤◌, Words.length, Words.take, Words.drop, Words.idle_keys}
+use Rattle.deadpool_c.proofs.{Steps.InBlock}
 use Rattle.deadpool_c.proofs.managed_owner.write_keys.Given as goal
 
 -- the keys so far stand at the front, and the pool is as it was

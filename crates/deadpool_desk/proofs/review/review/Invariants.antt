@@ -13,5 +13,6 @@ invariant-loop-asked g l = record {
   memory : l.count ≤ vec_capacity l.removed;
   few_noted : vec_len l.noted ≤ l.asked;
   noted_memory : l.count ≤ vec_capacity l.noted;
-  reviewing : IsReviewing g.R.Retainer l.least l.initial.ring.items l.initial.retainer l.asked l.ring.items l.removed.items l.noted.items l.retainer;
+  reviewing : IsReviewing g.R.Retainer l.least l.initial.ring.items l.initial.retainer l.asked l.ring.items
+      l.removed.items l.noted.items l.retainer;
 }

@@ -2,4 +2,5 @@ use Rattle.deadpool_replay.proofs.RunsWell.{may, IsEmptyIfClosed, each_state}
 use Rattle.deadpool_replay.proofs.laws.closed_is_empty.Goals as goal
 
 pub returns : goal.returns
-returns g c = λ manager. each_state (may g.M.Manager g.F.SyncHook g.A.AsyncHook manager) IsEmptyIfClosed (λ q w. w.closed)
+returns g c =
+    λ manager. each_state (may g.M.Manager g.F.SyncHook g.A.AsyncHook manager) IsEmptyIfClosed (λ q w. w.closed)

@@ -2,7 +2,8 @@ use Rattle.deadpool_replay.proofs.RunsWell.{may, CountsOn, each_step, none_retur
 use Rattle.deadpool_replay.proofs.laws.new_object_has_next.Goals as goal
 
 pub returns-clause-next : goal.returns-clause-next
-returns-clause-next g c = λ manager. each_step (may g.M.Manager g.F.SyncHook g.A.AsyncHook manager) CountsOn (λ q r s. s.0.counted)
+returns-clause-next g c =
+    λ manager. each_step (may g.M.Manager g.F.SyncHook g.A.AsyncHook manager) CountsOn (λ q r s. s.0.counted)
 
 pub returns-clause-gone : goal.returns-clause-gone
 returns-clause-gone g c = λ manager. none_returns (may g.M.Manager g.F.SyncHook g.A.AsyncHook manager)

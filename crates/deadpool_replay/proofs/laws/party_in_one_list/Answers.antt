@@ -3,4 +3,5 @@ use Rattle.deadpool_replay.proofs.OneList.{listed_once}
 use Rattle.deadpool_replay.proofs.laws.party_in_one_list.Goals as goal
 
 pub returns : goal.returns
-returns g c = λ manager. each_state (may g.M.Manager g.F.SyncHook g.A.AsyncHook manager) IsListedOnce (λ q w. listed_once q w.lawful)
+returns g c = λ manager. each_state (may g.M.Manager g.F.SyncHook g.A.AsyncHook manager) IsListedOnce
+    (λ q w. listed_once q w.lawful)

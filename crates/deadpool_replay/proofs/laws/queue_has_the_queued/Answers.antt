@@ -2,4 +2,5 @@ use Rattle.deadpool_replay.proofs.RunsWell.{may, MarksQueued, each_state}
 use Rattle.deadpool_replay.proofs.laws.queue_has_the_queued.Goals as goal
 
 pub returns : goal.returns
-returns g c = λ manager. each_state (may g.M.Manager g.F.SyncHook g.A.AsyncHook manager) MarksQueued (λ q w. w.lawful.marks)
+returns g c =
+    λ manager. each_state (may g.M.Manager g.F.SyncHook g.A.AsyncHook manager) MarksQueued (λ q w. w.lawful.marks)

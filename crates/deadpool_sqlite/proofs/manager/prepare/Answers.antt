@@ -4,7 +4,9 @@ use Rattle.deadpool_sqlite.proofs.manager.prepare.Goals as goal
 
 pub returns-in_err-execute_batch-clause-failed : goal.returns-in_err-execute_batch-clause-failed
 returns-in_err-execute_batch-clause-failed g c =
-    batch_fails g.S.Store c.args.batch.now c.args.conn c.execute_batch.new.self c.execute_batch.result c.from_residual.result (search rules) c.execute_batch.ensures.ran
+    batch_fails g.S.Store c.args.batch.now c.args.conn c.execute_batch.new.self c.execute_batch.result
+    c.from_residual.result (search rules) c.execute_batch.ensures.ran
 
 pub returns-else-is_autocommit-clause-failed : goal.returns-else-is_autocommit-clause-failed
-returns-else-is_autocommit-clause-failed g c = (c.execute_batch.new.self, inr (c.in_ok-execute_batch.ensures.ran, (search rules, refl)))
+returns-else-is_autocommit-clause-failed g c =
+    (c.execute_batch.new.self, inr (c.in_ok-execute_batch.ensures.ran, (search rules, refl)))

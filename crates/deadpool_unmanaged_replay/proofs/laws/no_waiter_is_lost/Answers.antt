@@ -1,4 +1,5 @@
-use Rattle.deadpool_unmanaged_replay.proofs.{Words.OthersStayQueued, Words.OthersStand, Well.each_move, Well.moved_queued, Well.moved_parties}
+use Rattle.deadpool_unmanaged_replay.proofs.{Words.OthersStayQueued, Words.OthersStand, Well.each_move}
+use Rattle.deadpool_unmanaged_replay.proofs.{Well.moved_queued, Well.moved_parties}
 use Rattle.deadpool_unmanaged_replay.proofs.laws.no_waiter_is_lost.Goals as goal
 
 pub returns-clause-queues : goal.returns-clause-queues

@@ -1,8 +1,10 @@
-use Rattle.deadpool_unmanaged_replay.proofs.{Basics.◌≡◌, Basics.◌≤◌, Basics.length, Basics.vec_len, Basics.vec_capacity, Basics.arith, Basics.rules, Words.with_item, Lawful.length-with_item}
+use Rattle.deadpool_unmanaged_replay.proofs.{Basics.◌≡◌, Basics.◌≤◌, Basics.length, Basics.vec_len, Basics.vec_capacity}
+use Rattle.deadpool_unmanaged_replay.proofs.{Basics.arith, Basics.rules, Words.with_item, Lawful.length-with_item}
 use Rattle.deadpool_unmanaged_replay.proofs.trial.hand_out.Goals as goal
 
 pub put_in-requires : goal.put_in-requires
 put_in-requires g c =
     let len : vec_len c.args.out.now ≡ length c.args.out.now.items = search rules in
-    let room : length (with_item c.in-Object.item c.args.out.now.items) ≤ vec_capacity c.args.out.now = rw c.in-Object.is at c.requires in
+    let room : length (with_item c.in-Object.item c.args.out.now.items) ≤ vec_capacity c.args.out.now =
+    rw c.in-Object.is at c.requires in
     omega (arith, len, room, length-with_item c.in-Object.item c.args.out.now.items)

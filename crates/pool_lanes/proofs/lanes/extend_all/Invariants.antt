@@ -5,5 +5,6 @@ abbrev pub invariant-loop-at : goal.invariant-loop-at
 invariant-loop-at g l = record {
   count : length l.lanes.items ≡ length l.initial.lanes.items;
   rest : (k : ℕ) → l.at ≤ k → lane_at k l.lanes.items ≡ lane_at k l.initial.lanes.items;
-  done : (k : ℕ) (x : g.row.T.Denot) → k < l.at → slice_get l.shown k ≡ Some x → Extends (lane_at k l.initial.lanes.items) x (lane_at k l.lanes.items);
+  done : (k : ℕ) (x : g.row.T.Denot) → k < l.at → slice_get l.shown k ≡ Some x
+      → Extends (lane_at k l.initial.lanes.items) x (lane_at k l.lanes.items);
 }

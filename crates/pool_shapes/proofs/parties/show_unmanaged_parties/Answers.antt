@@ -1,4 +1,5 @@
-use Rattle.pool_shapes.proofs.Words.{◌∙◌, None, arith, rules, length-append, slice_get-get_or, slice_get_within, unmanaged_look_of as look_of, unmanaged_shape_of}
+use Rattle.pool_shapes.proofs.Words.{◌∙◌, None, arith, rules, length-append, slice_get-get_or, slice_get_within}
+use Rattle.pool_shapes.proofs.Words.{unmanaged_look_of as look_of, unmanaged_shape_of}
 use Rattle.pool_shapes.proofs.Columns.{one_more}
 use Rattle.pool_shapes.proofs.parties.show_unmanaged_parties.Goals as goal
 
@@ -14,7 +15,10 @@ loop-party-preserved g c =
     record {
       same = c.look.ensures.same ∙ kept.same;
       count = search (rules, length-append);
-      done = rw items (one_more (λ n o. unmanaged_shape_of (look_of n c.args.trial.now) o) given at c.loop-party.shapes.items _ kept.count object kept.done);
+      done =
+          rw items
+          (one_more (λ n o. unmanaged_shape_of (look_of n c.args.trial.now) o) given at c.loop-party.shapes.items
+          _ kept.count object kept.done);
     }
 
 pub returns-clause-shows : goal.returns-clause-shows
@@ -23,5 +27,6 @@ returns-clause-shows g c =
     let all = c.loop-party-test.false in
     record {
       count = omega (arith, kept.count, all, c.loop-party.auto.party-end);
-      each = λ n object is. kept.done n object (let within = slice_get_within c.args.given.now n object is in omega (arith, within, all)) is;
+      each = λ n object is. kept.done n object (let within = slice_get_within c.args.given.now n object is in
+          omega (arith, within, all)) is;
     }

@@ -1,4 +1,5 @@
-use Rattle.pool_shapes.proofs.{Words.◌≡◌, Words.length, Words.unmanaged_look_of as look_of, Words.unmanaged_shape_of, Columns.IsDone}
+use Rattle.pool_shapes.proofs.{Words.◌≡◌, Words.length, Words.unmanaged_look_of as look_of, Words.unmanaged_shape_of}
+use Rattle.pool_shapes.proofs.{Columns.IsDone}
 use Rattle.pool_shapes.proofs.parties.show_unmanaged_parties.Given as goal
 
 abbrev pub invariant-loop-party : goal.invariant-loop-party

@@ -100,8 +100,8 @@ pub fn take_often<R: Wait, F: Fn()>(rt: &R, nap: &Nap, take_lock: F)
     }
 }
 
-/// Lets the wake go once the lock was taken often enough, or the turns have run out. True if it was, and the step had not
-/// ended by then.
+/// Lets the wake go once the lock was taken often enough, or the turns have run out. True if it was, and the step had
+/// not ended by then.
 pub fn let_go(nap: &Nap, mut reader: PipeReader) -> bool {
     let is_free = is_taken_often(nap);
     let mut page = [0; PAGE];

@@ -1,5 +1,5 @@
-//! Objects of an unmanaged pool that are dropped, and calls of its clock, with the lock given back: meanwhile another thread
-//! has the pool's status.
+//! Objects of an unmanaged pool that are dropped, and calls of its clock, with the lock given back: meanwhile another
+//! thread has the pool's status.
 use super::nap::{Nap, SharedNap, let_go, poll_in, slow_task, take_often};
 use super::watch::{Call, SharedWatch, Tracked, Watch, Watched, WatchedClock, answer};
 use crate::tests::ThreadHost;

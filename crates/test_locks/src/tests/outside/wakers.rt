@@ -1,4 +1,5 @@
-//! Wakers that are called, and let go, with the lock given back: while a wake goes on, another thread takes the lock often.
+//! Wakers that are called, and let go, with the lock given back: while a wake goes on, another thread takes the lock
+//! often.
 
 ghost use Rattle.std.specs.Prelude.{◌≡◌};
 

@@ -1,7 +1,7 @@
 //! Two journals are equal only if each of their parts is.
 use crate::tests::expected::expect;
 use deadpool_journal::{Entry, Journal};
-use deadpool_managed::{QueueMode, Removal, Removals, Reply, Step};
+use deadpool_managed::{OwnerReply, OwnerStep, QueueMode, Removal, Removals, Reply, Step};
 use std::alloc::{AllocError, Global};
 use std::test::Fail;
 
@@ -119,6 +119,14 @@ fn entries_that_differ_are_not_equal(rt: HostRuntime) -> Result<(), Fail> {
         (
             made(Step::Again { allowance: None }, Reply::Unknown),
             made(Step::Again { allowance: Some(0) }, Reply::Unknown)
+        ),
+        (
+            Entry::Owner(OwnerStep::CloneHandle, OwnerReply::Done),
+            Entry::Owner(OwnerStep::DropHandle, OwnerReply::Done)
+        ),
+        (
+            Entry::Owner(OwnerStep::Upgrade, OwnerReply::Done),
+            Entry::Owner(OwnerStep::Upgrade, OwnerReply::NoHandle)
         ),
         (
             Entry::Retain(Ok(Removals::new(Vec::new(rt.alloc())))),

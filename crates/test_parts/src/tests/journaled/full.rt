@@ -2,20 +2,25 @@
 use super::{back, make, object, reply};
 use crate::tests::expected::expect;
 use deadpool_journal::{Journal, Journaled};
-use deadpool_managed::{HandleReply, Metrics, OwnerDesk, QueueMode, Reply, Retainer, Step};
+use deadpool_managed::{OwnerDesk, OwnerReply, OwnerStep, QueueMode, Reply, Retainer, Step};
 use std::alloc::Global;
 use std::test::Fail;
+use test_support::expected::status_of;
 
 // Keeps no object.
 #[derive(Drop)]
 struct Nothing;
 
 impl Retainer<u64> for Nothing {
-    fn keeps(&mut self, _number: usize, _value: &u64, _metrics: &Metrics) -> bool {
+    type Left = u64;
+
+    fn keeps(&mut self, _number: usize, _value: &u64) -> bool {
         false
     }
 
-    fn detach(&mut self, _value: &mut u64) {}
+    fn detach(&mut self, value: u64) -> u64 {
+        value
+    }
 }
 
 // Room for the three steps of `new`, and a step that finds none.
@@ -28,7 +33,7 @@ fn full_journal(alloc: Global) -> Result<Journaled<u64>, Fail> {
 fn fill(pool: &mut Journaled<u64>) -> Result<(), Fail> {
     let slot = object(pool)?;
     back(pool, slot);
-    pool.status();
+    status_of(pool);
     Ok(())
 }
 
@@ -134,28 +139,31 @@ fn keeps_a_new_object(pool: &mut Journaled<u64>) -> Result<(), Fail> {
     let back = back(pool, slot);
     expect(
         "what came back, and how many are available",
-        (back, pool.status().available),
+        (back, status_of(pool).available),
         ((Reply::Kept, None), 1),
     )
 }
 
 fn grows_and_retains_nothing(pool: &mut Journaled<u64>) -> Result<(), Fail> {
-    let resized = pool.resize(5);
+    let resized = pool.make_for_owner(&OwnerStep::Resize { limit: 5 });
     let result = pool.retain(&mut Nothing)?;
     expect(
         "resized, retained and removed",
         (resized, result.retained, result.removed.len()),
-        (Ok(()), 0, 1),
+        (OwnerReply::Done, 0, 1),
     )
 }
 
 fn counts_handles_and_closes(pool: &mut Journaled<u64>) -> Result<(), Fail> {
-    let handles = [pool.clone_handle(), pool.drop_handle()];
-    let is_upgraded = pool.upgrade();
-    pool.close();
+    let replies = [
+        pool.make_for_owner(&OwnerStep::CloneHandle),
+        pool.make_for_owner(&OwnerStep::DropHandle),
+        pool.make_for_owner(&OwnerStep::Upgrade),
+        pool.make_for_owner(&OwnerStep::Close),
+    ];
     expect(
         "the handles, upgraded and closed",
-        (handles, is_upgraded, pool.is_closed()),
-        ([HandleReply::Done, HandleReply::Done], true, true),
+        (replies, pool.is_closed()),
+        ([OwnerReply::Done; 4], true),
     )
 }

@@ -1,19 +1,19 @@
-//! The journal of a get that creates an object, which comes back: with more room than its six steps take, with just enough,
-//! with too little, and with none.
+//! The journal of a get that creates an object, which comes back: with more room than its six steps take, with just
+//! enough, with too little, and with none.
 use super::{back, object};
 use crate::tests::expected::expect;
 use deadpool_journal::{Journal, Journaled};
-use deadpool_managed::{OwnerDesk, QueueMode, Reply};
+use deadpool_managed::{OwnerDesk, OwnerStep, QueueMode, Reply};
 use std::alloc::Global;
 use std::test::Fail;
 
 // The get has a handle of the pool, from before it enters until it has its object.
 fn get_and_return(pool: &mut Journaled<u64>) -> Result<(), Fail> {
-    pool.clone_handle();
+    pool.make_for_owner(&OwnerStep::CloneHandle);
     let slot = object(pool)?;
-    pool.drop_handle();
+    pool.make_for_owner(&OwnerStep::DropHandle);
     let back = back(pool, slot);
-    pool.status();
+    pool.make_for_owner(&OwnerStep::Status);
     expect("what came back", back, (Reply::Kept, None))
 }
 
@@ -58,7 +58,7 @@ fn is_equal_until_a_step(pool: &mut Journaled<u64>, journal: &Journal) -> Result
     let before = has(pool, journal)?;
     let told = (pool.take_wake(), pool.is_closed());
     let after = has(pool, journal)?;
-    pool.status();
+    pool.make_for_owner(&OwnerStep::Status);
     expect(
         "before and after it is told, and after a step",
         (before, told, after, has(pool, journal)?),

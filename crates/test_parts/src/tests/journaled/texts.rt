@@ -3,7 +3,9 @@ use super::reply;
 use crate::tests::expected::expect;
 use deadpool_journal::{Entry, Journal, Journaled};
 use deadpool_managed::gate::Ticket;
-use deadpool_managed::{HandleReply, Held, QueueMode, Removal, Removals, Reply, Status, Step};
+use deadpool_managed::{
+    Held, OwnerReply, OwnerStep, QueueMode, Removal, Removals, Reply, Status, Step,
+};
 use std::alloc::{AllocError, Global};
 use std::test::Fail;
 
@@ -185,13 +187,13 @@ fn steps_of_the_owner(rt: HostRuntime) -> Result<(), Fail> {
         waiting: 1,
     };
     let entries = vec![in rt.alloc();
-        Entry::Status(status),
-        Entry::Resize(6, Ok(())),
-        Entry::Resize(6, Err(AllocError)),
+        Entry::Owner(OwnerStep::Status, OwnerReply::Stands(status)),
+        Entry::Owner(OwnerStep::Resize { limit: 6 }, OwnerReply::Done),
+        Entry::Owner(OwnerStep::Resize { limit: 6 }, OwnerReply::OutOfMemory),
         Entry::Retain(Ok(Removals::new(Vec::new(rt.alloc())))),
         Entry::Retain(Ok(Removals::new(removals))),
         Entry::Retain(Err(AllocError)),
-        Entry::Close,
+        Entry::Owner(OwnerStep::Close, OwnerReply::Done),
     ]?;
     has_text(rt.alloc(), entries, OWNED)
 }
@@ -207,12 +209,12 @@ upgrade false";
 #[test]
 fn steps_on_handles(rt: HostRuntime) -> Result<(), Fail> {
     let entries = vec![in rt.alloc();
-        Entry::CloneHandle(HandleReply::Done),
-        Entry::CloneHandle(HandleReply::NoHandle),
-        Entry::DropHandle(HandleReply::Done),
-        Entry::DropHandle(HandleReply::NoHandle),
-        Entry::Upgrade(true),
-        Entry::Upgrade(false),
+        Entry::Owner(OwnerStep::CloneHandle, OwnerReply::Done),
+        Entry::Owner(OwnerStep::CloneHandle, OwnerReply::NoHandle),
+        Entry::Owner(OwnerStep::DropHandle, OwnerReply::Done),
+        Entry::Owner(OwnerStep::DropHandle, OwnerReply::NoHandle),
+        Entry::Owner(OwnerStep::Upgrade, OwnerReply::Done),
+        Entry::Owner(OwnerStep::Upgrade, OwnerReply::NoHandle),
     ]?;
     has_text(rt.alloc(), entries, HANDLES)
 }

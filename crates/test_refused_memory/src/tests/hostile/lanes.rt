@@ -94,8 +94,8 @@ fn clear<L: Lanes>(lanes: &mut L) -> Result<Status, Fault> {
     lanes.status()
 }
 
-/// Plays all rounds and clears the lanes. Gives the number of rounds. No more objects are there than there may be, and in
-/// the end nobody waits and all objects are idle.
+/// Plays all rounds and clears the lanes. Gives the number of rounds. No more objects are there than there may be, and
+/// in the end nobody waits and all objects are idle.
 pub fn play<R: Abort, L: Lanes>(
     rt: &R,
     lanes: &mut L,

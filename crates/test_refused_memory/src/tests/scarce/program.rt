@@ -203,8 +203,8 @@ fn refused_at<R: RandomSource + AllocGlobal>(
     Ok((text, Ok(())))
 }
 
-// The replies to a line to which memory is refused, and to the lines after it. A get or an add is at its end then, as if
-// it had been cancelled. Another line had no effect.
+// The replies to a line to which memory is refused, and to the lines after it. A get or an add is at its end then, as
+// if it had been cancelled. Another line had no effect.
 fn push_refusal<R: RandomSource + AllocGlobal>(
     rt: &R,
     text: &mut String,

@@ -1,5 +1,5 @@
-//! The scripts whose lines find no memory: worked ones, and some more. Only what their lines say is played: the replies are those
-//! of a run that finds memory.
+//! The scripts whose lines find no memory: worked ones, and some more. Only what their lines say is played: the replies
+//! are those of a run that finds memory.
 use std::alloc::Global;
 use std::test::Fail;
 use test_scripts::{

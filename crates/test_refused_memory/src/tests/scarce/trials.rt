@@ -177,8 +177,8 @@ impl<'a> Case<'a> {
         }
     }
 
-    // Whether the move can end as in a run that finds memory, while so much is left. Its reply is not the refusal then, and
-    // the list of its replies finds no memory if none is left.
+    // Whether the move can end as in a run that finds memory, while so much is left. Its reply is not the refusal then,
+    // and the list of its replies finds no memory if none is left.
     fn can_end_amply(&self, left: usize) -> bool {
         self.reply() != self.refusal.as_str() && (left > 0 || self.line.starts_with("answer "))
     }

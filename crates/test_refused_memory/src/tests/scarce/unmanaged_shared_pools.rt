@@ -220,8 +220,8 @@ fn serve<R: Wait + Drop>(
     )
 }
 
-// A get or a removal over an empty pool. If it is refused, it stays at its end, and the next waits. The one that waits has
-// the object that comes.
+// A get or a removal over an empty pool. If it is refused, it stays at its end, and the next waits. The one that waits
+// has the object that comes.
 fn try_wait<R>(
     rt: R,
     hoard: &mut Hoard,

@@ -1,16 +1,17 @@
 //! An unmanaged pool on one thread, polled by hand.
 use deadpool_parts::{Moment, Status};
-use deadpool_unmanaged::{AddState, BackReply, Core, GetState};
+use deadpool_unmanaged::{AddState, Core, GetState, Reply, Step};
 use futures::task::Poll;
 use std::test::Fail;
 
 // No runtime is there, so a get may not say how long it waits. This one finds an object at once.
 fn goes_out_and_comes_back(core: &mut Core<&str>) -> bool {
     let mut get = GetState::new(None);
-    match get.poll(core, None, Moment(0)) {
-        Poll::Ready(Ok(value)) => value == "first" && matches!(core.back(value), BackReply::Kept),
-        _ => false,
-    }
+    let Poll::Ready(Ok(value)) = get.poll(core, None, Moment(0)) else {
+        return false;
+    };
+    let mut hand = Some(value);
+    value == "first" && core.make(&Step::Back, &mut hand) == Reply::Kept
 }
 
 #[test]

@@ -221,7 +221,8 @@ impl<R: Host, L: Ledgers> Bench<R, L> {
         }
     }
 
-    // Whether an object that comes back is kept does not show, but in the status. Where no handle is left it is dropped.
+    // Whether an object that comes back is kept does not show, but in the status. Where no handle is left it is
+    // dropped.
     fn back(&mut self, number: usize) -> Reply<u64, Refused> {
         let Some(out) = self.take_out(number) else {
             return Reply::NoSuch;
@@ -346,9 +347,9 @@ impl<R: Host, L: Ledgers> Bench<R, L> {
         }
     }
 
-    /// Of the gets that were started, those that the last line woke and was not to wake, and those that it was to wake and did
-    /// not. Empty if there is none. One that the line polled or cancelled, and that is not in the queue then, may be woken,
-    /// since it lets go of a waker.
+    /// Of the gets that were started, those that the last line woke and was not to wake, and those that it was to wake
+    /// and did not. Empty if there is none. One that the line polled or cancelled, and that is not in the queue then,
+    /// may be woken, since it lets go of a waker.
     pub fn strays(&mut self) -> Result<String, Fail> {
         // The queue is looked at by a handle, which is a step, and so wakes those that the line forgot.
         let woken = self.woken()?;

@@ -1,5 +1,5 @@
-//! Random scripts over a shared pool have the replies of a trial, and the status after each move. Each move wakes whom its
-//! steps are to wake, and no other.
+//! Random scripts over a shared pool have the replies of a trial, and the status after each move. Each move wakes whom
+//! its steps are to wake, and no other.
 
 ghost use Rattle.std.specs.Prelude.{◌≡◌};
 

@@ -19,8 +19,8 @@ struct Script {
 }
 
 /// Plays a script, and says which lines have another reply than the one that stands behind them: none if that is empty.
-/// The journal of its pool has room for so many entries. If the script is watched it has to be enough, and each line wakes
-/// whom its steps are to wake, and no other.
+/// The journal of its pool has room for so many entries. If the script is watched it has to be enough, and each line
+/// wakes whom its steps are to wake, and no other.
 pub fn play<R: Host>(rt: R, text: &str, room: usize, is_watched: bool) -> Result<String, Fail> {
     let script = Script {
         text: String::from_str(rt.alloc(), text)?,

@@ -1,9 +1,9 @@
 //! Each call of a pool that is no move of a trial, and whoever opens one.
 
 /// In a pool alone. `items V ..` opens a pool of these, `processors N` one for a machine with so many, and a third word
-/// behind `unmanaged` is the configured timeout. `remove`, `remove D` and `tryremove` are removals, `put N V` writes to an
-/// object, and `drop first` drops the handle that was there first. `closed` says whether the pool is closed, and `asked` for
-/// which moment the clock was last asked to wake somebody.
+/// behind `unmanaged` is the configured timeout. `remove`, `remove D` and `tryremove` are removals, `put N V` writes to
+/// an object, and `drop first` drops the handle that was there first. `closed` says whether the pool is closed, and
+/// `asked` for which moment the clock was last asked to wake somebody.
 pub const CALLS: &str = "# a pool of items
 items 11 12 13 => ok
 status => max 3 size 3 available 3 waiting 0

@@ -1,7 +1,7 @@
 //! Gets and adds that go on after the last `Pool` was dropped.
 
-/// In a pool alone: a get has a handle of its own, which may be the last. `dropped` says how many objects were dropped so
-/// far; what is taken is dropped in the end.
+/// In a pool alone: a get has a handle of its own, which may be the last. `dropped` says how many objects were dropped
+/// so far; what is taken is dropped in the end.
 pub const SERVED: &str = "# a queued get
 unmanaged 1 none => ok
 tryadd 7 => added 0

@@ -1,5 +1,5 @@
-//! What the worked scripts of an unmanaged pool have more in a shared pool: whom their lines wake. And what a shared pool has in
-//! place of those that it can't play.
+//! What the worked scripts of an unmanaged pool have more in a shared pool: whom their lines wake. And what a shared
+//! pool has in place of those that it can't play.
 
 /// The lines that wake somebody, script by script. All others wake nobody.
 pub const WAKES: &str = "\

@@ -4,8 +4,8 @@
 use std::cmp::Ordering;
 use std::fmt;
 
-/// The number of an object in its pool. Numbers rise in order of creation, with gaps where a new object was refused, and
-/// none is given out twice.
+/// The number of an object in its pool. Numbers rise in order of creation, with gaps where a new object was refused,
+/// and none is given out twice.
 #[derive(Clone, Copy, Debug, PartialEq, Eq, Hash)]
 pub struct ObjectId {
     number: usize,

@@ -1,19 +1,21 @@
 // Made by .ci/made-rust of crates/deadpool_desk/src/retain.rt, without its contracts. The proof is of that text.
 //! What a retain asks, and what it gives.
 
-use crate::cores::desk::Metrics;
 use crate::rattle::Vec;
 use crate::rattle::{AllocError, Global};
 
-/// Says which idle objects a retain keeps, and is told of each of the others. It may change with each call.
+/// Says which idle objects a retain keeps, and takes the value of each that is given up. It may change with each call.
 ///
 /// An implementation states by its relations which answers its calls may give. By default every answer is allowed.
 pub trait Retainer<T> {
-    /// Says whether an idle object is kept.
-    fn keeps(&mut self, number: usize, value: &T, metrics: &Metrics) -> bool;
+    /// What it leaves of a value.
+    type Left;
 
-    /// Is told of the value of an object that is not kept.
-    fn detach(&mut self, value: &mut T);
+    /// Says whether an idle object is kept.
+    fn keeps(&mut self, number: usize, value: &T) -> bool;
+
+    /// Takes the value of an object that is given up, and gives what is left of it.
+    fn detach(&mut self, value: T) -> Self::Left;
 }
 
 /// An object that a retain gave up: how many idle objects stood before it, and its number.
@@ -62,7 +64,7 @@ impl Removals {
 pub struct RetainResult<T> {
     /// How many stay.
     pub retained: usize,
-    /// The values of the others, in order, as `detach` left them.
+    /// What `detach` left of the others, in order.
     pub removed: Vec<T>,
 }
 

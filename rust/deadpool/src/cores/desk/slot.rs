@@ -1,14 +1,13 @@
 // Made by .ci/made-rust of crates/deadpool_desk/src/slot.rt, without its contracts. The proof is of that text.
 //! An object of a pool.
 
-use crate::cores::desk::{Metrics, ObjectId};
+use crate::cores::desk::ObjectId;
 use crate::cores::parts::tables::Numbered;
 
-/// An object: its number in its pool, its value, and what is known of its past.
+/// An object: its number in its pool, and its value.
 pub struct Slot<T> {
     pub number: usize,
     pub value: T,
-    pub metrics: Metrics,
 }
 
 impl<T> Slot<T> {

@@ -67,8 +67,8 @@ impl<T> Core<T> {
         let _ = &self.gate;
     }
 
-    /// The next get in the queue that is due to be woken, as it was granted a place or the pool has closed, and that was
-    /// not named before. It stays in the queue until it asks or is cancelled. This is no step of the pool.
+    /// The next get in the queue that is due to be woken, as it was granted a place or the pool has closed, and that
+    /// was not named before. It stays in the queue until it asks or is cancelled. This is no step of the pool.
     #[inline]
     pub fn take_wake(&mut self) -> Option<Ticket> {
         self.gate.take_wake()
@@ -105,7 +105,8 @@ impl<T> Core<T> {
         }
     }
 
-    // It is served, joins the queue, or is refused. The place that it is given is one of those going until it is served.
+    // It is served, joins the queue, or is refused. The place that it is given is one of those going until it is
+    // served.
     #[inline(always)]
     fn enter(&mut self, wait: bool, hand: &mut Option<Slot<T>>) -> Reply {
         let room = self.places.room(&self.gate);
@@ -125,7 +126,8 @@ impl<T> Core<T> {
         }
     }
 
-    // It is served, stays, or leaves the queue. If it was granted a place, that is one of those going until it is served.
+    // It is served, stays, or leaves the queue. If it was granted a place, that is one of those going until it is
+    // served.
     #[inline]
     fn ask(&mut self, ticket: Ticket, expired: bool, hand: &mut Option<Slot<T>>) -> Reply {
         match self.gate.ask(ticket) {

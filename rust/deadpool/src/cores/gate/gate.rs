@@ -233,8 +233,8 @@ impl Gate {
         }
     }
 
-    /// Takes a waiter out of the list, be the gate open or closed, and says what it was. The others keep their order, and
-    /// a place that it had is free. `Unknown` changes nothing.
+    /// Takes a waiter out of the list, be the gate open or closed, and says what it was. The others keep their order,
+    /// and a place that it had is free. `Unknown` changes nothing.
     #[inline]
     pub fn withdraw(&mut self, ticket: Ticket) -> Withdrawn {
         self.accesses_before = self.store.accesses();
@@ -253,8 +253,8 @@ impl Gate {
         self.is_closed = true;
     }
 
-    /// The earliest listed waiter whose wait has ended, by a place or by the closing, and who was not told so. With this
-    /// answer it counts as told. It stays in the list until it asks or withdraws.
+    /// The earliest listed waiter whose wait has ended, by a place or by the closing, and who was not told so. With
+    /// this answer it counts as told. It stays in the list until it asks or withdraws.
     #[inline]
     pub fn take_wake(&mut self) -> Option<Ticket> {
         self.accesses_before = self.store.accesses();

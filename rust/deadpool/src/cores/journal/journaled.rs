@@ -3,7 +3,7 @@
 
 use crate::cores::desk::gate::Ticket;
 use crate::cores::desk::{
-    Core, Desk, HandleReply, OwnerDesk, QueueMode, Reply, RetainResult, Retainer, Slot, Status, Step,
+    Core, Desk, OwnerDesk, OwnerReply, OwnerStep, QueueMode, Reply, RetainResult, Retainer, Slot, Step,
 };
 use crate::cores::journal::log::{Log, number_in};
 use crate::cores::journal::{Entry, Journal};
@@ -25,8 +25,8 @@ pub struct Journaled<T> {
 }
 
 impl<T> Journaled<T> {
-    /// A pool with nothing idle and one handle, whose first object gets the number 0, and room for so many entries. With
-    /// none the journal takes no memory, and the first step sets the mark. `min_idle` is as in `Core::new`.
+    /// A pool with nothing idle and one handle, whose first object gets the number 0, and room for so many entries.
+    /// With none the journal takes no memory, and the first step sets the mark. `min_idle` is as in `Core::new`.
     #[inline]
     pub fn new(
         alloc: Global,
@@ -131,22 +131,15 @@ impl<T> Desk<T> for Journaled<T> {
 }
 
 impl<T> OwnerDesk<T> for Journaled<T> {
-    #[inline]
-    fn status(&mut self) -> Status {
-        let status = self.core.status();
-        self.log.add(Entry::Status(status));
-        status
-    }
-
-    #[inline]
-    fn resize(&mut self, limit: usize) -> Result<(), AllocError> {
-        let reply = self.core.resize(limit);
-        self.log.add(Entry::Resize(limit, reply));
+    #[inline(always)]
+    fn make_for_owner(&mut self, step: &OwnerStep) -> OwnerReply {
+        let reply = self.core.make_for_owner(step);
+        self.log.add_owner_step(step, &reply);
         reply
     }
 
     #[inline]
-    fn retain<R: Retainer<T>>(&mut self, retainer: &mut R) -> Result<RetainResult<T>, AllocError> {
+    fn retain<R: Retainer<T>>(&mut self, retainer: &mut R) -> Result<RetainResult<R::Left>, AllocError> {
         if !self.log.has_room() {
             self.log.mark_full();
             return self.core.retain(retainer);
@@ -161,32 +154,5 @@ impl<T> OwnerDesk<T> for Journaled<T> {
                 Err(e)
             }
         }
-    }
-
-    #[inline]
-    fn close(&mut self) {
-        self.core.close();
-        self.log.add(Entry::Close);
-    }
-
-    #[inline]
-    fn clone_handle(&mut self) -> HandleReply {
-        let reply = self.core.clone_handle();
-        self.log.add_clone_handle(reply);
-        reply
-    }
-
-    #[inline]
-    fn drop_handle(&mut self) -> HandleReply {
-        let reply = self.core.drop_handle();
-        self.log.add_drop_handle(reply);
-        reply
-    }
-
-    #[inline]
-    fn upgrade(&mut self) -> bool {
-        let is_left = self.core.upgrade();
-        self.log.add(Entry::Upgrade(is_left));
-        is_left
     }
 }

@@ -1,16 +1,17 @@
 // Made by .ci/made-rust of crates/deadpool_journal/src/log.rt, without its contracts. The proof is of that text.
 //! A list of entries with room for so many.
 //!
-//! Each get through a handle of its own enters, comes back, and counts a handle twice. So for these the mark is looked at first,
-//! and the entry is made in a function that stands apart: once the mark is set none is made.
+//! Each get through a handle of its own enters, comes back, and counts a handle twice. So for these the mark is looked
+//! at first: once it is set no entry is made.
 
-use crate::cores::desk::{HandleReply, Reply, Slot, Step};
+use crate::cores::desk::{OwnerReply, OwnerStep, Reply, Slot, Step};
 use crate::cores::journal::Entry;
 use crate::cores::parts::tables::append;
 use crate::rattle::Vec;
 use crate::rattle::{AllocError, Global};
 
-/// At most so many entries, and a mark that a further one found no room. The room for all of them is there from the start.
+/// At most so many entries, and a mark that a further one found no room. The room for all of them is there from the
+/// start.
 #[repr(C)]
 pub(crate) struct Log {
     is_full: bool,
@@ -48,51 +49,24 @@ impl Log {
         append(&mut self.entries, entry);
     }
 
-    /// One entry more, of a step, with the number of the object that it took, or of what is in the hand after it. Nothing is
-    /// made of it if the mark is set.
+    /// One entry more, of a step, with the number of the object that it took, or of what is in the hand after it. The
+    /// step and the reply are copied only if the mark is not set, so that neither has to lie in memory otherwise.
     #[inline(always)]
     pub fn add_step<T>(&mut self, step: &Step, taken: Option<usize>, hand: &Option<Slot<T>>, reply: &Reply) {
         if self.is_full {
             return;
         }
-        self.note_step(step, taken, hand, reply);
-    }
-
-    #[cold]
-    #[inline(never)]
-    fn note_step<T>(&mut self, step: &Step, taken: Option<usize>, hand: &Option<Slot<T>>, reply: &Reply) {
         let number = taken.or(number_in(hand));
-        self.add(Entry::Made(*step, number, *reply));
+        self.note(Entry::Made(*step, number, *reply));
     }
 
-    /// One entry more, of a handle that is counted.
-    #[inline]
-    pub fn add_clone_handle(&mut self, reply: HandleReply) {
+    /// One entry more, of a step of the owner. Nothing is made of it if the mark is set.
+    #[inline(always)]
+    pub fn add_owner_step(&mut self, step: &OwnerStep, reply: &OwnerReply) {
         if self.is_full {
             return;
         }
-        self.note_clone_handle(reply);
-    }
-
-    #[cold]
-    #[inline(never)]
-    fn note_clone_handle(&mut self, reply: HandleReply) {
-        self.add(Entry::CloneHandle(reply));
-    }
-
-    /// One entry more, of a handle that is given back.
-    #[inline]
-    pub fn add_drop_handle(&mut self, reply: HandleReply) {
-        if self.is_full {
-            return;
-        }
-        self.note_drop_handle(reply);
-    }
-
-    #[cold]
-    #[inline(never)]
-    fn note_drop_handle(&mut self, reply: HandleReply) {
-        self.add(Entry::DropHandle(reply));
+        self.note(Entry::Owner(*step, *reply));
     }
 
     /// Whether there is room for one entry more.

@@ -1,6 +1,6 @@
 // Made by .ci/made-rust of crates/deadpool_journal/src/texts.rt, without its contracts. The proof is of that text.
 //! A journal as text: one entry a line.
-use crate::cores::desk::{HandleReply, Held, QueueMode, Removal, Removals, Reply, Status, Step};
+use crate::cores::desk::{Held, OwnerReply, OwnerStep, QueueMode, Removal, Removals, Reply, Status, Step};
 use crate::cores::journal::{Entry, Journal};
 use std::fmt;
 
@@ -36,15 +36,17 @@ impl fmt::Display for Entry {
                     _ => write_reply(f, *number, reply),
                 }
             }
-            Entry::Status(status) => write_status(f, *status),
-            Entry::Resize(limit, Ok(())) => write!(f, "resize {limit} done"),
-            Entry::Resize(limit, Err(_)) => write!(f, "resize {limit} out_of_memory"),
+            Entry::Owner(step, reply) => {
+                write_owner_step(f, step)?;
+                match (step, reply) {
+                    // (an upgrade says whether a handle was left)
+                    (OwnerStep::Upgrade, OwnerReply::Done) => f.write_str("true"),
+                    (OwnerStep::Upgrade, OwnerReply::NoHandle) => f.write_str("false"),
+                    _ => write_owner_reply(f, reply),
+                }
+            }
             Entry::Retain(Ok(removals)) => write_removals(f, removals),
             Entry::Retain(Err(_)) => f.write_str("retain out_of_memory"),
-            Entry::Close => f.write_str("close done"),
-            Entry::CloneHandle(reply) => write!(f, "clone_handle {}", handle_word(*reply)),
-            Entry::DropHandle(reply) => write!(f, "drop_handle {}", handle_word(*reply)),
-            Entry::Upgrade(is_left) => write!(f, "upgrade {is_left}"),
         }
     }
 }
@@ -103,9 +105,31 @@ fn write_reply(f: &mut fmt::Formatter<'_>, number: Option<usize>, reply: &Reply)
 }
 
 #[inline]
+fn write_owner_step(f: &mut fmt::Formatter<'_>, step: &OwnerStep) -> fmt::Result {
+    match step {
+        OwnerStep::Status => f.write_str("status "),
+        OwnerStep::Resize { limit } => write!(f, "resize {limit} "),
+        OwnerStep::Close => f.write_str("close "),
+        OwnerStep::CloneHandle => f.write_str("clone_handle "),
+        OwnerStep::DropHandle => f.write_str("drop_handle "),
+        OwnerStep::Upgrade => f.write_str("upgrade "),
+    }
+}
+
+#[inline]
+fn write_owner_reply(f: &mut fmt::Formatter<'_>, reply: &OwnerReply) -> fmt::Result {
+    match reply {
+        OwnerReply::Stands(status) => write_status(f, *status),
+        OwnerReply::Done => f.write_str("done"),
+        OwnerReply::OutOfMemory => f.write_str("out_of_memory"),
+        OwnerReply::NoHandle => f.write_str("no_handle"),
+    }
+}
+
+#[inline]
 fn write_status(f: &mut fmt::Formatter<'_>, status: Status) -> fmt::Result {
     let Status { max_size, size, available, waiting } = status;
-    write!(f, "status {max_size} {size} {available} {waiting}")
+    write!(f, "{max_size} {size} {available} {waiting}")
 }
 
 #[inline]
@@ -116,12 +140,4 @@ fn write_removals(f: &mut fmt::Formatter<'_>, removals: &Removals) -> fmt::Resul
         write!(f, " {number}@{position}")?;
     }
     Ok(())
-}
-
-#[inline]
-fn handle_word(reply: HandleReply) -> &'static str {
-    match reply {
-        HandleReply::Done => "done",
-        HandleReply::NoHandle => "no_handle",
-    }
 }

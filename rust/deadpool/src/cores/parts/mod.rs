@@ -2,7 +2,6 @@
 //! What both pools stand on beside the queue of those that wait: configuration, errors, the clock and the status.
 
 pub mod config;
-pub mod deadline;
 mod moment;
 mod replies;
 mod status;

@@ -8,10 +8,10 @@ pub struct Status {
     pub max_size: usize,
     /// How many it has: idle, being prepared, or out.
     pub size: usize,
-    /// Of a managed pool, how many more objects are idle than gets were polled and have none; 0 if there are fewer. Of an
-    /// unmanaged pool, how many objects are idle.
+    /// Of a managed pool, how many more objects are idle than gets were polled and have none; 0 if there are fewer. Of
+    /// an unmanaged pool, how many objects are idle.
     pub available: usize,
-    /// Of a managed pool, how many more gets were polled and have no object than objects are idle; 0 if there are fewer.
-    /// Of an unmanaged pool, how many gets are in the queue.
+    /// Of a managed pool, how many more gets were polled and have no object than objects are idle; 0 if there are
+    /// fewer. Of an unmanaged pool, how many gets are in the queue.
     pub waiting: usize,
 }

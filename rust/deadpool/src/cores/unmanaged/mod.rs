@@ -3,12 +3,11 @@
 //! arrival.
 
 mod counts;
-mod settled;
 mod state;
-mod steps;
+mod step;
 
 pub use crate::cores::gate::gate;
-pub use crate::cores::parts::{Clock, HandleReply, Moment, NoTime, Runtime, Status, StepReply};
+pub use crate::cores::parts::{Clock, HandleReply, Moment, NoTime, Runtime, Status};
 pub use counts::Counts;
-pub use settled::Core;
-pub use steps::{AddAskReply, AddEnterReply, BackReply, GetAskReply, GetEnterReply, TakeReply};
+pub use state::Core;
+pub use step::{Reply, Step};

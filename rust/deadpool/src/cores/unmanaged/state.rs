@@ -1,17 +1,28 @@
 // Made by .ci/made-rust of crates/deadpool_unmanaged/src/state.rt, without its contracts. The proof is of that text.
-//! The state of an unmanaged pool on one thread: a line for objects, a line for room, and the idle objects.
+//! The core of an unmanaged pool: a line for objects, a line for room, and the idle objects; and each step that a get,
+//! an add or an object makes.
+//!
+//! `line` settles one of the two lines. `counted` has what a core says of itself, and `owner` the steps of the pool's
+//! owner.
 
 use crate::rattle::Vec;
 mod counted;
+mod line;
+mod owner;
 
 use crate::cores::gate::gate::{Ask, Entry, Gate, Ticket, Withdrawn};
-use crate::cores::unmanaged::steps::{AddAskReply, AddEnterReply, BackReply, GetAskReply, GetEnterReply, TakeReply};
-use crate::cores::unmanaged::{HandleReply, Status, StepReply};
+use crate::cores::unmanaged::{Reply, Step};
 use crate::rattle::{AllocError, Global};
+use line::settle;
 
-/// A pool's state. In the middle of a step somebody may wait for what is free: a step that puts something in or gives
-/// something back settles at its end. `Core` makes whole steps over it.
-pub(crate) struct PoolState<T> {
+/// The state of an unmanaged pool on one thread. A step that puts something in or gives something back ends with the
+/// settling: the earliest gets that wait are granted the objects that are free, and the earliest adds the free room. So
+/// in an open pool nobody waits for what is free. In an open pool with a handle, an object or room that was granted is
+/// nobody else's until its party has asked or cancelled.
+///
+/// No step tells a get or an add in the queue that its wait has ended. Who owns the core asks `take_get_wake` and
+/// `take_add_wake` whom to tell.
+pub struct Core<T> {
     // Gets ask for objects, and adds for room.
     gets: Gate,
     adds: Gate,
@@ -23,310 +34,207 @@ pub(crate) struct PoolState<T> {
     handles: u64,
 }
 
-impl<T> PoolState<T> {
-    /// With nothing idle, and room for so many objects.
+// The next object goes out.
+#[inline(always)]
+fn take_last<T>(idle: &mut Vec<T>) -> Option<T> {
+    idle.pop()
+}
+
+// The object in the hand joins the idle ones, where there is room for it, and the earliest get that waits is granted
+// it.
+#[inline(always)]
+fn store<T>(idle: &mut Vec<T>, gets: &mut Gate, hand: &mut Option<T>) {
+    let Some(value) = hand.take() else {
+        unreachable!();
+    };
+    match idle.push(value) {
+        Ok(()) => settle(gets, idle.len()),
+        Err(_) => unreachable!(),
+    }
+}
+
+impl<T> Core<T> {
+    /// An open pool with nothing idle and one handle. It has room for `max_size` objects from now on: only
+    /// those that enter are answered `OutOfMemory`, for an entry in a queue that has no room left.
     #[inline]
-    pub fn new(alloc: Global, max_size: usize) -> Result<PoolState<T>, AllocError> {
+    pub fn new(alloc: Global, max_size: usize) -> Result<Core<T>, AllocError> {
         let idle = Vec::with_capacity(alloc, max_size)?;
-        Ok(PoolState::open(alloc, idle, max_size))
+        Ok(Core::open(alloc, idle, max_size))
     }
 
-    /// With these objects idle, and room for no more.
+    /// An open pool with one handle, in which these objects are idle, the last to go out first, and no more fit.
     #[inline]
-    pub fn from_items(alloc: Global, items: Vec<T>) -> PoolState<T> {
+    pub fn from_items(alloc: Global, items: Vec<T>) -> Core<T> {
         let limit = items.len();
-        PoolState::open(alloc, items, limit)
+        Core::open(alloc, items, limit)
     }
 
     // An open pool with these objects idle and one handle.
     #[inline]
-    fn open(alloc: Global, idle: Vec<T>, limit: usize) -> PoolState<T> {
-        PoolState { gets: Gate::new(alloc), adds: Gate::new(alloc), idle, limit, outside: 0, handles: 1 }
+    fn open(alloc: Global, idle: Vec<T>, limit: usize) -> Core<T> {
+        Core { gets: Gate::new(alloc), adds: Gate::new(alloc), idle, limit, outside: 0, handles: 1 }
     }
 
-    /// Whether the pool has closed.
+    /// What is true of every core. The call does nothing.
     #[inline]
-    pub fn is_closed(&self) -> bool {
-        self.gets.is_closed()
+    pub fn laws(&self) {
+        let _ = &self.gets;
     }
 
-    /// The number of the ticket that the next get has.
-    #[inline]
-    pub fn next_get(&self) -> usize {
-        self.gets.next_number()
-    }
-
-    /// The number of the ticket that the next add has.
-    #[inline]
-    pub fn next_add(&self) -> usize {
-        self.adds.next_number()
-    }
-
-    /// The next get that is due to be told and was not.
+    /// The earliest get in the queue whose wait has ended, by an object or by the closing, and that was not named
+    /// before. It stays in the queue until it asks or cancels. Nothing else changes.
     #[inline]
     pub fn take_get_wake(&mut self) -> Option<Ticket> {
         self.gets.take_wake()
     }
 
-    /// The next add that is due to be told and was not.
+    /// The earliest add in the queue whose wait has ended, by room or by the closing, and that was not named before. It
+    /// stays in the queue until it asks or cancels. Nothing else changes.
     #[inline]
     pub fn take_add_wake(&mut self) -> Option<Ticket> {
         self.adds.take_wake()
     }
 
-    /// Whether there is a get or an add of these.
+    /// Whether `take_get_wake` or `take_add_wake` would name somebody.
     #[inline]
     pub fn is_wake_due(&self) -> bool {
         self.gets.is_wake_due() || self.adds.is_wake_due()
     }
 
-    /// Whether a handle is left.
-    #[inline]
-    pub fn has_handle(&self) -> bool {
-        self.handles > 0
-    }
-
-    /// Whether just one handle is left.
-    #[inline]
-    pub fn is_last_handle(&self) -> bool {
-        self.handles == 1
-    }
-
-    /// The idle object at this position. The last is the next to go out.
-    #[inline]
-    pub fn idle_at(&self, at: usize) -> Option<&T> {
-        self.idle.get(at)
-    }
-
-    // How many idle objects no get was granted.
-    #[inline]
-    fn free_objects(&self) -> usize {
-        self.idle.len().saturating_sub(self.gets.granted())
-    }
-
-    // How much room no add was granted.
-    #[inline]
-    fn free_room(&self) -> usize {
-        let used = self.idle.len() + self.outside + self.adds.granted();
-        self.limit.saturating_sub(used)
-    }
-
-    /// Whether a get that is willing to wait would join the queue.
-    #[inline]
-    pub fn get_would_queue(&self) -> bool {
-        !self.gets.is_closed() && self.free_objects() == 0
-    }
-
-    /// Whether an add would join the queue.
-    #[inline]
-    pub fn add_would_queue(&self) -> bool {
-        !self.gets.is_closed() && self.free_room() == 0
-    }
-
-    // Grants the free objects to the earliest gets that wait, and the free room to the earliest adds.
-    #[inline]
-    fn settle(&mut self) {
-        if self.gets.waiting() > 0 || self.adds.waiting() > 0 {
-            let objects = self.free_objects();
-            let room = self.free_room();
-            self.gets.settle(objects);
-            self.adds.settle(room);
+    /// Makes one step. The object that it takes or gives is in `hand`. `OutOfMemory` comes only if the queue had no
+    /// room left.
+    #[inline(always)]
+    pub fn make(&mut self, step: &Step, hand: &mut Option<T>) -> Reply {
+        match step {
+            Step::GetEnter { wait } => self.get_enter(*wait, hand),
+            Step::GetAsk { ticket, expired } => self.get_ask(*ticket, *expired, hand),
+            Step::GetCancel { ticket } => self.get_cancel(*ticket),
+            Step::AddEnter { wait } => self.add_enter(*wait, hand),
+            Step::AddAsk { ticket } => self.add_ask(*ticket, hand),
+            Step::AddCancel { ticket } => self.add_cancel(*ticket),
+            Step::Back => self.back(hand),
+            Step::Take => self.take(),
         }
     }
 
-    // The next object goes out.
-    #[inline]
-    fn take_last(&mut self) -> Option<T> {
-        let value = self.idle.pop()?;
-        self.outside += 1;
-        Some(value)
-    }
-
-    // An object joins the idle ones. There is room for it.
-    #[inline]
-    fn store(&mut self, value: T) {
-        match self.idle.push(value) {
-            Ok(()) => self.settle(),
-            Err(_) => unreachable!(),
-        }
-    }
-
-    /// A new get has an object, joins its queue, or is refused.
-    #[inline]
-    pub fn get_enter(&mut self, wait: bool) -> GetEnterReply<T> {
+    // It has an object, joins the queue, or is refused.
+    #[inline(always)]
+    fn get_enter(&mut self, wait: bool, hand: &mut Option<T>) -> Reply {
         let objects = self.free_objects();
         match self.gets.enter(objects, wait) {
-            Entry::Granted => match self.take_last() {
+            Entry::Granted => match take_last(&mut self.idle) {
                 Some(value) => {
-                    self.settle();
-                    GetEnterReply::Object(value)
+                    *hand = Some(value);
+                    self.outside += 1;
+                    Reply::Object
                 }
                 None => unreachable!(),
             },
-            Entry::Closed => GetEnterReply::Closed,
-            Entry::Full => GetEnterReply::Full,
-            Entry::Waiting(ticket) => GetEnterReply::Waiting(ticket),
-            Entry::OutOfMemory => GetEnterReply::OutOfMemory,
+            Entry::Closed => Reply::Closed,
+            Entry::Full => Reply::Full,
+            Entry::Waiting(ticket) => Reply::Waiting(ticket),
+            Entry::OutOfMemory => Reply::OutOfMemory,
         }
     }
 
-    /// A queued get has an object, stays, or leaves the queue.
+    // It has an object, stays, or leaves the queue.
     #[inline]
-    pub fn get_ask(&mut self, ticket: Ticket, expired: bool) -> GetAskReply<T> {
+    fn get_ask(&mut self, ticket: Ticket, expired: bool, hand: &mut Option<T>) -> Reply {
         match self.gets.ask(ticket) {
-            Ask::Granted => match self.take_last() {
+            Ask::Granted => match take_last(&mut self.idle) {
                 Some(value) => {
-                    self.settle();
-                    GetAskReply::Object(value)
+                    *hand = Some(value);
+                    self.outside += 1;
+                    Reply::Object
                 }
-                None => GetAskReply::Closed,
+                None => Reply::Closed,
             },
-            Ask::Closed => GetAskReply::Closed,
-            Ask::Unknown => GetAskReply::Unknown,
+            Ask::Closed => Reply::Closed,
+            Ask::Unknown => Reply::Unknown,
             Ask::Waiting => {
                 if expired {
                     self.gets.withdraw(ticket);
-                    self.settle();
-                    GetAskReply::Expired
+                    Reply::Expired
                 } else {
-                    GetAskReply::Waiting
+                    Reply::Waiting(ticket)
                 }
             }
         }
     }
 
-    /// A queued get leaves. What it was granted goes to the next.
+    // What it was granted goes to the next.
     #[inline]
-    pub fn get_cancel(&mut self, ticket: Ticket) -> StepReply {
-        match self.gets.withdraw(ticket) {
-            Withdrawn::Unknown => StepReply::Unknown,
-            _ => {
-                self.settle();
-                StepReply::Done
-            }
+    fn get_cancel(&mut self, ticket: Ticket) -> Reply {
+        if let Withdrawn::Unknown = self.gets.withdraw(ticket) {
+            return Reply::Unknown;
         }
+        settle(&mut self.gets, self.idle.len());
+        Reply::Done
     }
 
-    /// A new add leaves its object, joins its queue, or has the object back.
-    #[inline]
-    pub fn add_enter(&mut self, value: T, wait: bool) -> AddEnterReply<T> {
+    // It leaves its object, joins the queue, or has the object back.
+    #[inline(always)]
+    fn add_enter(&mut self, wait: bool, hand: &mut Option<T>) -> Reply {
         let room = self.free_room();
         match self.adds.enter(room, wait) {
             Entry::Granted => {
-                self.store(value);
-                AddEnterReply::Stored
+                store(&mut self.idle, &mut self.gets, hand);
+                Reply::Stored
             }
-            Entry::Closed => AddEnterReply::Closed(value),
-            Entry::Full => AddEnterReply::Full(value),
-            Entry::Waiting(ticket) => AddEnterReply::Waiting(ticket, value),
-            Entry::OutOfMemory => AddEnterReply::OutOfMemory(value),
+            Entry::Closed => Reply::Closed,
+            Entry::Full => Reply::Full,
+            Entry::Waiting(ticket) => Reply::Waiting(ticket),
+            Entry::OutOfMemory => Reply::OutOfMemory,
         }
     }
 
-    /// A queued add leaves its object, stays, or has the object back.
+    // It leaves its object, stays, or has the object back.
     #[inline]
-    pub fn add_ask(&mut self, ticket: Ticket, value: T) -> AddAskReply<T> {
+    fn add_ask(&mut self, ticket: Ticket, hand: &mut Option<T>) -> Reply {
         match self.adds.ask(ticket) {
             Ask::Granted => {
-                self.store(value);
-                AddAskReply::Stored
+                store(&mut self.idle, &mut self.gets, hand);
+                Reply::Stored
             }
-            Ask::Closed => AddAskReply::Closed(value),
-            Ask::Waiting => AddAskReply::Waiting(value),
-            Ask::Unknown => AddAskReply::Unknown(value),
+            Ask::Closed => Reply::Closed,
+            Ask::Waiting => Reply::Waiting(ticket),
+            Ask::Unknown => Reply::Unknown,
         }
     }
 
-    /// A queued add leaves. What it was granted goes to the next.
+    // What it was granted goes to the next.
     #[inline]
-    pub fn add_cancel(&mut self, ticket: Ticket) -> StepReply {
-        match self.adds.withdraw(ticket) {
-            Withdrawn::Unknown => StepReply::Unknown,
-            _ => {
-                self.settle();
-                StepReply::Done
-            }
+    fn add_cancel(&mut self, ticket: Ticket) -> Reply {
+        if let Withdrawn::Unknown = self.adds.withdraw(ticket) {
+            return Reply::Unknown;
         }
+        settle(&mut self.adds, self.limit - self.idle.len() - self.outside);
+        Reply::Done
     }
 
-    /// An object comes back: it is idle, or the pool has no use for it.
-    #[inline]
-    pub fn back(&mut self, value: T) -> BackReply<T> {
+    // It is idle, or the pool has no use for it.
+    #[inline(always)]
+    fn back(&mut self, hand: &mut Option<T>) -> Reply {
         if self.outside == 0 {
-            return BackReply::Unknown(value);
+            return Reply::Unknown;
         }
         self.outside -= 1;
         if self.gets.is_closed() || self.handles == 0 {
-            self.settle();
-            return BackReply::Dropped(value);
+            settle(&mut self.adds, self.limit - self.idle.len() - self.outside);
+            return Reply::Dropped;
         }
-        self.store(value);
-        BackReply::Kept
+        store(&mut self.idle, &mut self.gets, hand);
+        Reply::Kept
     }
 
-    /// An object leaves for good, and its room is free.
-    #[inline]
-    pub fn take(&mut self) -> TakeReply {
+    // Its room is free.
+    #[inline(always)]
+    fn take(&mut self) -> Reply {
         if self.outside == 0 {
-            return TakeReply::Unknown;
+            return Reply::Unknown;
         }
         self.outside -= 1;
-        self.settle();
-        TakeReply::Taken
-    }
-
-    /// Refuses those that wait, and drops what is idle.
-    #[inline]
-    pub fn close(&mut self) {
-        self.gets.close();
-        self.adds.close();
-        self.idle.clear();
-    }
-
-    /// How the pool stands.
-    #[inline]
-    pub fn status(&self) -> Status {
-        let available = self.idle.len();
-        Status {
-            max_size: self.limit,
-            size: available + self.outside,
-            available,
-            waiting: self.gets.waiting() + self.gets.granted(),
-        }
-    }
-
-    /// One handle more, if one is left.
-    #[inline]
-    pub fn clone_handle(&mut self) -> HandleReply {
-        if self.handles == 0 {
-            return HandleReply::NoHandle;
-        }
-        self.handles = self.handles.saturating_add(1);
-        HandleReply::Done
-    }
-
-    /// One handle less. The last takes what is idle with it.
-    #[inline]
-    pub fn drop_handle(&mut self) -> HandleReply {
-        if self.handles == 0 {
-            return HandleReply::NoHandle;
-        }
-        if self.handles < u64::MAX {
-            self.handles -= 1;
-        }
-        if self.handles == 0 {
-            self.idle.clear();
-            self.settle();
-        }
-        HandleReply::Done
-    }
-
-    /// Whether there is one handle more, as one is left.
-    #[inline]
-    pub fn upgrade(&mut self) -> bool {
-        match self.clone_handle() {
-            HandleReply::Done => true,
-            HandleReply::NoHandle => false,
-        }
+        settle(&mut self.adds, self.limit - self.idle.len() - self.outside);
+        Reply::Taken
     }
 }

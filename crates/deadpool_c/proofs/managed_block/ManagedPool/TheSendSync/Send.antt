@@ -1,12 +1,16 @@
 -- A block may go to another thread, since its state may.
-use Rattle.deadpool_c.proofs.Steps.{Keyless, raw_type as raw, lone, Ptr, block_ptr, null_ptr, exits_of, shape, fields, to, IsSend, AllSend, owning_send, struct_send, sendable, quiet, lies, handle_send}
+use Rattle.deadpool_c.proofs.Steps.{Keyless, raw_type as raw, lone, Ptr, block_ptr, null_ptr, exits_of, shape, fields}
+use Rattle.deadpool_c.proofs.Steps.{to, IsSend, AllSend, owning_send, struct_send, sendable, quiet, lies, handle_send}
 use Rattle.deadpool_c.proofs.Words.{Global, managed_owns}
 use Rattle.deadpool_c.proofs.managed_state.ManagedState.TheSendSync.{the_send as state}
 use Rattle.deadpool_c.specs.contracts.managed_block.ManagedPool.{the_row, the_type}
 use Rattle.deadpool_c.specs.contracts.managed_state.ManagedState.{the_row as state_row}
 
 owned : (alloc : Global) (p : Ptr) (x : state_row.Denot) → Keyless (managed_owns alloc p x)
-owned alloc (block_ptr b o) x = (lies state_row state (block_ptr b o) x, Rattle.std.proofs.Crossing.frees.frees alloc (raw (lone state_row.mir)) (block_ptr b o))
+owned alloc (block_ptr b o) x = (
+  lies state_row state (block_ptr b o) x,
+  Rattle.std.proofs.Crossing.frees.frees alloc (raw (lone state_row.mir)) (block_ptr b o),
+)
 owned alloc null_ptr x = tt
 
 pub send : IsSend the_row

@@ -1,5 +1,7 @@
-use Rattle.deadpool_desk.proofs.Names.{◌∙◌, None, not, refl, subst, ap, without_waiter, untold_tickets, asked-granted, asked-waiting, asked-closed, asked-unknown, Serves}
-use Rattle.deadpool_desk.proofs.CoreQueue.{IsSound-same, IsSound-left, IsSound-closed, IsSound-going, desk_of-same, desk_of-unqueued, desk_of-going, untold-without}
+use Rattle.deadpool_desk.proofs.Names.{◌∙◌, None, not, refl, subst, ap, without_waiter, untold_tickets, asked-granted}
+use Rattle.deadpool_desk.proofs.Names.{asked-waiting, asked-closed, asked-unknown, Serves}
+use Rattle.deadpool_desk.proofs.CoreQueue.{IsSound-same, IsSound-left, IsSound-closed, IsSound-going, desk_of-same}
+use Rattle.deadpool_desk.proofs.CoreQueue.{desk_of-unqueued, desk_of-going, untold-without}
 use Rattle.deadpool_desk.specs.CoreFields.{core_of}
 use Rattle.deadpool_desk.proofs.Serving.{asked_served}
 use Rattle.deadpool_desk.proofs.state.Core.ask.Goals as goal
@@ -8,7 +10,8 @@ pub invariant_of-self : goal.invariant_of-self
 invariant_of-self g c =
     let line = c.ask.ensures.line in
     let was = asked-granted _ c.args.ticket _ line c.in-Granted.ensures.answer in
-    IsSound-going c.self.inside c.ask.new.self c.args.ticket line (c.ask.ensures.waiters ∙ was.2) c.self.invariant c.ask.ensures.closed was.1
+    IsSound-going c.self.inside c.ask.new.self c.args.ticket line
+    (c.ask.ensures.waiters ∙ was.2) c.self.invariant c.ask.ensures.closed was.1
 
 pub returns-in-Granted-clause-made : goal.returns-in-Granted-clause-made
 returns-in-Granted-clause-made g c =
@@ -17,14 +20,18 @@ returns-in-Granted-clause-made g c =
     let gone = c.ask.ensures.waiters ∙ was.2 in
     let left = desk_of-going c.self.inside c.ask.new.self c.args.ticket line gone c.ask.ensures.closed in
     let untold = untold-without c.self.inside c.ask.new.self c.args.ticket line gone in
-    let serves = subst (λ d. Serves d None c.serve.new.hand c.serve.result c.serve.new.self.desk) left c.serve.ensures.served in
-    rw (← c.self.view_is) (asked_served (core_of c.self.inside) c.serve.new.self c.args.ticket c.args.expired c.serve.new.hand c.serve.result (ap not was.0) was.1 serves (c.serve.ensures.untold ∙ untold))
+    let serves =
+    subst (λ d. Serves d None c.serve.new.hand c.serve.result c.serve.new.self.desk) left c.serve.ensures.served in
+    rw (← c.self.view_is)
+    (asked_served (core_of c.self.inside) c.serve.new.self c.args.ticket c.args.expired c.serve.new.hand
+    c.serve.result (ap not was.0) was.1 serves (c.serve.ensures.untold ∙ untold))
 
 pub invariant_of-self-in-Closed : goal.invariant_of-self-in-Closed
 invariant_of-self-in-Closed g c =
     let line = c.ask.ensures.line in
     let was = asked-closed _ c.args.ticket _ line c.in-Closed.ensures.answer in
-    IsSound-closed c.self.inside c.ask.new.self c.args.ticket line (c.ask.ensures.waiters ∙ was.2) c.self.invariant c.ask.ensures.closed (ap not was.0)
+    IsSound-closed c.self.inside c.ask.new.self c.args.ticket line
+    (c.ask.ensures.waiters ∙ was.2) c.self.invariant c.ask.ensures.closed (ap not was.0)
 
 pub returns-in-Closed-clause-made : goal.returns-in-Closed-clause-made
 returns-in-Closed-clause-made g c =
@@ -32,7 +39,11 @@ returns-in-Closed-clause-made g c =
     let was = asked-closed _ c.args.ticket _ line c.in-Closed.ensures.answer in
     let gone = c.ask.ensures.waiters ∙ was.2 in
     let left = desk_of-unqueued c.self.inside c.ask.new.self c.args.ticket line gone c.ask.ensures.closed in
-    rw (← c.self.view_is, c.requires) ((ap not was.0, was.1, left), untold-without c.self.inside c.ask.new.self c.args.ticket line gone, tt)
+    rw (← c.self.view_is, c.requires) (
+      (ap not was.0, was.1, left),
+      untold-without c.self.inside c.ask.new.self c.args.ticket line gone,
+      tt,
+    )
 
 pub invariant_of-self-in-Unknown : goal.invariant_of-self-in-Unknown
 invariant_of-self-in-Unknown g c =
@@ -44,22 +55,32 @@ returns-in-Unknown-clause-made g c =
     let line = c.ask.ensures.line in
     let was = asked-unknown _ c.args.ticket _ line c.in-Unknown.ensures.answer in
     let same = c.ask.ensures.waiters ∙ was.1 in
-    rw (← c.self.view_is, c.requires) ((was.0, desk_of-same c.self.inside c.ask.new.self same c.ask.ensures.closed), ap untold_tickets same, tt)
+    rw (← c.self.view_is, c.requires) (
+      (was.0, desk_of-same c.self.inside c.ask.new.self same c.ask.ensures.closed),
+      ap untold_tickets same,
+      tt,
+    )
 
 pub invariant_of-self-then-expired : goal.invariant_of-self-then-expired
 invariant_of-self-then-expired g c =
     let line = c.ask.ensures.line in
     let was = asked-waiting _ c.args.ticket _ line c.in-Waiting.ensures.answer in
     let gone = c.withdraw.ensures.waiters ∙ ap (without_waiter c.args.ticket) (c.ask.ensures.waiters ∙ was.3) in
-    IsSound-left c.self.inside c.withdraw.new.self c.args.ticket line gone c.self.invariant (c.withdraw.ensures.closed ∙ c.ask.ensures.closed) was.1
+    IsSound-left c.self.inside c.withdraw.new.self c.args.ticket line gone c.self.invariant
+    (c.withdraw.ensures.closed ∙ c.ask.ensures.closed) was.1
 
 pub returns-then-expired-clause-made : goal.returns-then-expired-clause-made
 returns-then-expired-clause-made g c =
     let line = c.ask.ensures.line in
     let was = asked-waiting _ c.args.ticket _ line c.in-Waiting.ensures.answer in
     let gone = c.withdraw.ensures.waiters ∙ ap (without_waiter c.args.ticket) (c.ask.ensures.waiters ∙ was.3) in
-    let left = desk_of-unqueued c.self.inside c.withdraw.new.self c.args.ticket line gone (c.withdraw.ensures.closed ∙ c.ask.ensures.closed) in
-    rw (← c.self.view_is, c.requires) ((ap not was.0, was.1, was.2, c.if-expired.true, left), untold-without c.self.inside c.withdraw.new.self c.args.ticket line gone, tt)
+    let left = desk_of-unqueued c.self.inside c.withdraw.new.self c.args.ticket line gone
+    (c.withdraw.ensures.closed ∙ c.ask.ensures.closed) in
+    rw (← c.self.view_is, c.requires) (
+      (ap not was.0, was.1, was.2, c.if-expired.true, left),
+      untold-without c.self.inside c.withdraw.new.self c.args.ticket line gone,
+      tt,
+    )
 
 pub invariant_of-self-else-expired : goal.invariant_of-self-else-expired
 invariant_of-self-else-expired g c =
@@ -71,4 +92,15 @@ returns-else-expired-clause-made g c =
     let line = c.ask.ensures.line in
     let was = asked-waiting _ c.args.ticket _ line c.in-Waiting.ensures.answer in
     let same = c.ask.ensures.waiters ∙ was.3 in
-    rw (← c.self.view_is, c.requires) ((ap not was.0, was.1, was.2, c.if-expired.false, refl, desk_of-same c.self.inside c.ask.new.self same c.ask.ensures.closed), ap untold_tickets same, tt)
+    rw (← c.self.view_is, c.requires) (
+      (
+        ap not was.0,
+        was.1,
+        was.2,
+        c.if-expired.false,
+        refl,
+        desk_of-same c.self.inside c.ask.new.self same c.ask.ensures.closed,
+      ),
+      ap untold_tickets same,
+      tt,
+    )

@@ -8,7 +8,8 @@ invariant_of-self-2 g c =
     let kept = c.review.new.ring.items in
     let given = c.in_ok-removed in
     let was = c.self.invariant.settled in
-    let fewer = reviews_fewer g.R.Retainer c.least_idle-least.result (length idle) 0 idle c.args.retainer.now kept given.removed.items given.noted.items c.review.new.retainer given.ensures.reviewed in
+    let fewer = reviews_fewer g.R.Retainer c.least_idle-least.result (length idle) 0 idle c.args.retainer.now kept
+    given.removed.items given.noted.items c.review.new.retainer given.ensures.reviewed in
     record {
       within = search rules;
       small = search rules;

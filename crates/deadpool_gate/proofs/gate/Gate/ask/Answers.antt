@@ -9,7 +9,8 @@ pub returns-in-None-clause-waiters : goal.returns-in-None-clause-waiters
 returns-in-None-clause-waiters c =
     let seen : waiters_of c.self.inside ≡ c.args.self.now.waiters = ap (λ (l : Line). l.waiters) c.self.view_is in
     let same : c.ticket.inside.number ≡ c.args.ticket = c.ticket.view_is in
-    let none : None ≡ option_map (λ (w : Waiter). w.granted) (find_waiter c.args.ticket c.args.self.now.waiters) = c.in-None.ensures.was
+    let none : None ≡ option_map (λ (w : Waiter). w.granted) (find_waiter c.args.ticket c.args.self.now.waiters) =
+    c.in-None.ensures.was
     ∙ ap (λ (ws : List Waiter). option_map (λ (w : Waiter). w.granted) (find_waiter c.ticket.inside.number ws)) seen
     ∙ ap (λ (key : ℕ). option_map (λ (w : Waiter). w.granted) (find_waiter key c.args.self.now.waiters)) same in
     c.in-None.ensures.waiters

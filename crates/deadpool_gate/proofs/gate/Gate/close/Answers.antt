@@ -16,4 +16,5 @@ invariant_of-self c =
       granted = refl;
       waiting = refl;
     } in
-    IsHeld-shows _ _ (Shows-kept c.self.inside closed c.args.self.now.waiters keeps (IsLine-closed c.self.inside.is_closed _ shows.line) shows)
+    IsHeld-shows _ _ (Shows-kept c.self.inside closed c.args.self.now.waiters keeps
+    (IsLine-closed c.self.inside.is_closed _ shows.line) shows)

@@ -5,7 +5,8 @@ use Rattle.deadpool_gate.specs.declared.gate.Entry.TheVariants as entry
 use Rattle.deadpool_gate.specs.declared.gate.Gate.TheInside.{Inside}
 use Rattle.deadpool_gate.specs.Gate.{arrived, Joins}
 use Rattle.deadpool_gate.specs.GateFields.{Shows, waiters_of}
-use Rattle.deadpool_gate.proofs.GateFields.{Joining, KeepsLinks, IsHeld-shows, Shows-is, Shows-joined, Shows-kept, Shows-seen}
+use Rattle.deadpool_gate.proofs.GateFields.{Joining, KeepsLinks, IsHeld-shows, Shows-is, Shows-joined, Shows-kept}
+use Rattle.deadpool_gate.proofs.GateFields.{Shows-seen}
 use Rattle.deadpool_gate.proofs.GateLinks.{Stores-unlisted}
 use Rattle.deadpool_gate.proofs.gate.Gate.enter.Goals as goal
 
@@ -67,7 +68,8 @@ shows_after c =
       granted = refl;
       waiting = refl;
     } in
-    Shows-joined c.self.inside (after c) c.put.new.self.nodes c.args.self.now.waiters c.in-Ok.key joining (Shows-seen _ _ c.self.view_is c.self.invariant)
+    Shows-joined c.self.inside (after c) c.put.new.self.nodes c.args.self.now.waiters c.in-Ok.key joining
+    (Shows-seen _ _ c.self.view_is c.self.invariant)
 
 pub invariant_of-self-2 : goal.invariant_of-self-2
 invariant_of-self-2 c = IsHeld-shows (after c) _ (shows_after c)
@@ -75,6 +77,8 @@ invariant_of-self-2 c = IsHeld-shows (after c) _ (shows_after c)
 pub returns-clause-joins : goal.returns-clause-joins
 returns-clause-joins c =
     let shows = Shows-seen _ _ c.self.view_is c.self.invariant in
-    let fresh = Stores-unlisted c.self.inside.store.nodes c.args.self.now.waiters c.in-Ok.key shows.stores c.in-Ok.ensures.vacant in
-    let joins : Joins c.args.self.now.waiters (entry.Waiting c.in-Ok.key) (waiters_of (after c)) = (fresh, Shows-is (after c) _ (shows_after c)) in
+    let fresh = Stores-unlisted c.self.inside.store.nodes c.args.self.now.waiters c.in-Ok.key shows.stores
+    c.in-Ok.ensures.vacant in
+    let joins : Joins c.args.self.now.waiters (entry.Waiting c.in-Ok.key) (waiters_of (after c)) =
+    (fresh, Shows-is (after c) _ (shows_after c)) in
     no_answer _ _ joins

@@ -8,7 +8,8 @@ use Rattle.deadpool_gate.proofs.gate.Gate.settle.Goals as goal
 pub returns-clause-places : goal.returns-clause-places
 returns-clause-places c =
     let after : c.loop-given.self.waiters ≡ grant c.if-self.count c.args.self.now.waiters = search rules in
-    rw after (granted_tickets-grant c.if-self.count c.args.self.now.waiters (Shows-seen _ _ c.self.view_is c.self.invariant).line.granted_front)
+    rw after (granted_tickets-grant c.if-self.count c.args.self.now.waiters
+    (Shows-seen _ _ c.self.view_is c.self.invariant).line.granted_front)
 
 pub returns-clause-left : goal.returns-clause-left
 returns-clause-left c =

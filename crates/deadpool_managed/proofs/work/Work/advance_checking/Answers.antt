@@ -6,7 +6,8 @@ pub returns-in-Accepted-clause-advanced : goal.returns-in-Accepted-clause-advanc
 returns-in-Accepted-clause-advanced g c =
     let env = c.args.environment.now in
     let given = rw c.in-Accepted.is at c.post_create_in.ensures.gives in
-    let rest = checked_in (may g.M.Manager g.F.SyncHook g.A.AsyncHook env.manager) env.runtime env.hooks c.args.now c.args.timeouts.now
+    let rest = checked_in (may g.M.Manager g.F.SyncHook g.A.AsyncHook env.manager) env.runtime env.hooks c.args.now
+    c.args.timeouts.now
     c.args.position c.args.self.now.slot c.post_create_in.new.place c.args.self.now.phase c.requires.finished given in
     (no_step, (refl, rest))
 
@@ -14,7 +15,8 @@ pub returns-in-Pending-clause-advanced : goal.returns-in-Pending-clause-advanced
 returns-in-Pending-clause-advanced g c =
     let env = c.args.environment.now in
     let given = rw c.in-Pending.is at c.post_create_in.ensures.gives in
-    let rest = checking_in (may g.M.Manager g.F.SyncHook g.A.AsyncHook env.manager) env.runtime env.hooks c.args.now c.args.timeouts.now
+    let rest = checking_in (may g.M.Manager g.F.SyncHook g.A.AsyncHook env.manager) env.runtime env.hooks c.args.now
+    c.args.timeouts.now
     c.args.position c.in-Pending.position c.args.self.now.slot c.post_create_in.new.place given in
     (no_step, (refl, rest))
 
@@ -23,6 +25,7 @@ returns-in-Refused-clause-advanced g c =
     let env = c.args.environment.now in
     let given = rw c.in-Refused.is at c.post_create_in.ensures.gives in
     let made = c.refuse.ensures.advanced in
-    let rest = refused_in (may g.M.Manager g.F.SyncHook g.A.AsyncHook env.manager) env.runtime env.hooks c.args.now c.args.timeouts.now
+    let rest = refused_in (may g.M.Manager g.F.SyncHook g.A.AsyncHook env.manager) env.runtime env.hooks c.args.now
+    c.args.timeouts.now
     c.args.position c.in-Refused.cause c.args.self.now.slot c.post_create_in.new.place made.0 _ _ given made.1.1 in
     (making Step.Refused made.0 None, (made.1.0, rest))

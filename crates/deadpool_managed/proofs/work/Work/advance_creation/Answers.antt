@@ -4,5 +4,7 @@ use Rattle.deadpool_managed.proofs.work.Work.advance_creation.Goals as goal
 pub returns-clause-advanced : goal.returns-clause-advanced
 returns-clause-advanced g c =
     let after = c.after_creation.ensures.advanced in
-    let p = c.poll_create-answer in
-    (after.0, (after.1.0, ((p.result, p.new.creating), (((p.result, p.new.creating), (p.ensures.answer, refl)), after.1.1))))
+    let p = c.poll_create-answer in (
+      after.0,
+      (after.1.0, ((p.result, p.new.creating), (((p.result, p.new.creating), (p.ensures.answer, refl)), after.1.1))),
+    )

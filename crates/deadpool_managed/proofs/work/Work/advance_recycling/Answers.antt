@@ -6,7 +6,8 @@ pub returns-in-Accepted-clause-advanced : goal.returns-in-Accepted-clause-advanc
 returns-in-Accepted-clause-advanced g c =
     let env = c.args.environment.now in
     let given = rw c.in-Accepted.is at c.prepare_in.ensures.gives in
-    let rest = accepted_in (may g.M.Manager g.F.SyncHook g.A.AsyncHook env.manager) env.runtime env.hooks c.args.now c.args.timeouts.now
+    let rest = accepted_in (may g.M.Manager g.F.SyncHook g.A.AsyncHook env.manager) env.runtime env.hooks c.args.now
+    c.args.timeouts.now
     c.args.preparing None c.args.self.now.slot c.prepare_in.new.place c.args.self.now.phase c.requires.finished given in
     (no_step, (refl, rest))
 
@@ -14,7 +15,8 @@ pub returns-in-Pending-clause-advanced : goal.returns-in-Pending-clause-advanced
 returns-in-Pending-clause-advanced g c =
     let env = c.args.environment.now in
     let given = rw c.in-Pending.is at c.prepare_in.ensures.gives in
-    let rest = pending_in (may g.M.Manager g.F.SyncHook g.A.AsyncHook env.manager) env.runtime env.hooks c.args.now c.args.timeouts.now
+    let rest = pending_in (may g.M.Manager g.F.SyncHook g.A.AsyncHook env.manager) env.runtime env.hooks c.args.now
+    c.args.timeouts.now
     c.args.preparing c.in-Pending.preparing None c.args.self.now.slot c.prepare_in.new.place given in
     (no_step, (refl, rest))
 
@@ -23,6 +25,7 @@ returns-in-GivenUp-clause-advanced g c =
     let env = c.args.environment.now in
     let given = rw c.in-GivenUp.is at c.prepare_in.ensures.gives in
     let made = c.discard.ensures.advanced in
-    let rest = given_up_in (may g.M.Manager g.F.SyncHook g.A.AsyncHook env.manager) env.runtime env.hooks c.args.now c.args.timeouts.now
+    let rest = given_up_in (may g.M.Manager g.F.SyncHook g.A.AsyncHook env.manager) env.runtime env.hooks c.args.now
+    c.args.timeouts.now
     c.args.preparing None c.args.self.now.slot c.prepare_in.new.place made.0 _ _ given made.1.1 in
     (making Step.Discard made.0 None, (made.1.0, rest))

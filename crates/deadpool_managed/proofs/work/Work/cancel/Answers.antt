@@ -25,28 +25,37 @@ returns-in-Going-clause-cancelled g c =
 pub returns-in-Creating-clause-cancelled : goal.returns-in-Creating-clause-cancelled
 returns-in-Creating-clause-cancelled g c =
     let at : c.args.self.now.phase ≡ Phase.Creating c.in-Creating.field-0 c.in-Creating.field-1 = cc in
-    rw (at) (making (Step.Cancel Held.Creation) c.report-in-Creating.result None, (c.report-in-Creating.ensures.made, tt))
+    rw (at) (
+      making (Step.Cancel Held.Creation) c.report-in-Creating.result None,
+      (c.report-in-Creating.ensures.made, tt),
+    )
 
 pub returns-in-Served-clause-cancelled : goal.returns-in-Served-clause-cancelled
 returns-in-Served-clause-cancelled g c =
     let at : c.args.self.now.phase ≡ Phase.Served c.in-Served.field-0 = cc in
     let given = c.give_up.ensures.given_up in
-    let rest = cancelled_in (may g.M.Manager g.F.SyncHook g.A.AsyncHook c.args.environment.now.manager) g.M.Manager.is_ready
-    (Phase.Served c.in-Served.field-0) c.args.self.now.slot given.0 tt (rw at at c.requires.placed) (rw c.take.ensures.value at given.1.1) in
+    let rest =
+    cancelled_in (may g.M.Manager g.F.SyncHook g.A.AsyncHook c.args.environment.now.manager) g.M.Manager.is_ready
+    (Phase.Served c.in-Served.field-0) c.args.self.now.slot given.0 tt (rw at at c.requires.placed)
+    (rw c.take.ensures.value at given.1.1) in
     rw (at) (making (Step.Cancel Held.Object) given.0 None, (given.1.0, rest))
 
 pub returns-in-Recycling-clause-cancelled : goal.returns-in-Recycling-clause-cancelled
 returns-in-Recycling-clause-cancelled g c =
     let at : c.args.self.now.phase ≡ Phase.Recycling c.in-Recycling.field-0 = cc in
     let given = c.give_up-in-Recycling.ensures.given_up in
-    let rest = cancelled_in (may g.M.Manager g.F.SyncHook g.A.AsyncHook c.args.environment.now.manager) g.M.Manager.is_ready
-    (Phase.Recycling c.in-Recycling.field-0) c.args.self.now.slot given.0 tt (rw at at c.requires.placed) (rw c.take-in-Recycling.ensures.value at given.1.1) in
+    let rest =
+    cancelled_in (may g.M.Manager g.F.SyncHook g.A.AsyncHook c.args.environment.now.manager) g.M.Manager.is_ready
+    (Phase.Recycling c.in-Recycling.field-0) c.args.self.now.slot given.0 tt (rw at at c.requires.placed)
+    (rw c.take-in-Recycling.ensures.value at given.1.1) in
     rw (at) (making (Step.Cancel Held.Object) given.0 None, (given.1.0, rest))
 
 pub returns-clause-cancelled : goal.returns-clause-cancelled
 returns-clause-cancelled g c =
     let at : c.args.self.now.phase ≡ Phase.Checking c.in-Checking.field-0 = cc in
     let given = c.give_up-in-Checking.ensures.given_up in
-    let rest = cancelled_in (may g.M.Manager g.F.SyncHook g.A.AsyncHook c.args.environment.now.manager) g.M.Manager.is_ready
-    (Phase.Checking c.in-Checking.field-0) c.args.self.now.slot given.0 tt (rw at at c.requires.placed) (rw c.take-in-Checking.ensures.value at given.1.1) in
+    let rest =
+    cancelled_in (may g.M.Manager g.F.SyncHook g.A.AsyncHook c.args.environment.now.manager) g.M.Manager.is_ready
+    (Phase.Checking c.in-Checking.field-0) c.args.self.now.slot given.0 tt (rw at at c.requires.placed)
+    (rw c.take-in-Checking.ensures.value at given.1.1) in
     rw (at) (making (Step.Cancel Held.Object) given.0 None, (given.1.0, rest))

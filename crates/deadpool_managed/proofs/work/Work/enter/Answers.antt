@@ -3,8 +3,17 @@ use Rattle.deadpool_managed.proofs.Phases.{finished}
 use Rattle.deadpool_managed.proofs.work.Work.enter.Goals as goal
 
 pub returns-then-cannot_wait-clause-advanced : goal.returns-then-cannot_wait-clause-advanced
-returns-then-cannot_wait-clause-advanced g c =
-    (no_step, (refl, (sym c.cannot_wait.ensures ∙ c.if-cannot_wait.true, finished c.end.new.self.phase c.end.new.self.slot c.end.ensures.phase, ap (λ x. turn_of x c.end.new.self.slot) c.end.ensures.failed)))
+returns-then-cannot_wait-clause-advanced g c = (
+  no_step,
+  (
+    refl,
+    (
+      sym c.cannot_wait.ensures ∙ c.if-cannot_wait.true,
+      finished c.end.new.self.phase c.end.new.self.slot c.end.ensures.phase,
+      ap (λ x. turn_of x c.end.new.self.slot) c.end.ensures.failed,
+    ),
+  ),
+)
 
 pub returns-clause-advanced : goal.returns-clause-advanced
 returns-clause-advanced g c =
@@ -13,6 +22,10 @@ returns-clause-advanced g c =
       making (Step.Enter (not c.is_reached-wait.result)) c.make-reply.result c.make-reply.new.hand,
       (
         (made.fits, rw c.requires.empty at made.made),
-        (sym c.cannot_wait.ensures ∙ c.if-cannot_wait.false, ap not (rw deadline at c.is_reached-wait.ensures), rw deadline at c.served.ensures.after),
+        (
+          sym c.cannot_wait.ensures ∙ c.if-cannot_wait.false,
+          ap not (rw deadline at c.is_reached-wait.ensures),
+          rw deadline at c.served.ensures.after,
+        ),
       ),
     )

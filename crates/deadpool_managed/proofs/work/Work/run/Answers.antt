@@ -13,8 +13,10 @@ until_allowed-preserved g c =
       kept = λ fact h. c.begin.ensures.kept fact (l.invariant.kept fact h);
       holds = rw c.in-More.is at c.begin.ensures.leaves.holds;
       goes = λ desk stage turn rest. l.invariant.goes desk stage turn
-          (polls_on g.D.Desk (may g.M.Manager g.F.SyncHook g.A.AsyncHook env.manager) env.runtime env.hooks c.args.now c.args.timeouts.now
-          l.desk c.begin.new.desk desk (stage_of l.self.phase l.self.slot) (stage_of c.begin.new.self.phase c.begin.new.self.slot) stage _ turn a.0 c.args.timeouts.now refl
+          (polls_on g.D.Desk (may g.M.Manager g.F.SyncHook g.A.AsyncHook env.manager) env.runtime env.hooks c.args.now
+          c.args.timeouts.now
+          l.desk c.begin.new.desk desk (stage_of l.self.phase l.self.slot)
+          (stage_of c.begin.new.self.phase c.begin.new.self.slot) stage _ turn a.0 c.args.timeouts.now refl
           (more_is c.begin.result c.begin.new.self.slot c.in-More.is) a.1.0 a.1.1 rest);
     }
 
@@ -25,15 +27,20 @@ returns-in_default g c =
     let a = c.begin.ensures.advanced in
     record {
       polled = l.invariant.goes _ _ _
-          (polls_once g.D.Desk (may g.M.Manager g.F.SyncHook g.A.AsyncHook env.manager) env.runtime env.hooks c.args.now c.args.timeouts.now
-          l.desk c.begin.new.desk (stage_of l.self.phase l.self.slot) (stage_of c.begin.new.self.phase c.begin.new.self.slot) _ a.0 c.args.timeouts.now refl a.1.0 a.1.1
+          (polls_once g.D.Desk (may g.M.Manager g.F.SyncHook g.A.AsyncHook env.manager) env.runtime env.hooks c.args.now
+          c.args.timeouts.now
+          l.desk c.begin.new.desk (stage_of l.self.phase l.self.slot)
+          (stage_of c.begin.new.self.phase c.begin.new.self.slot) _ a.0 c.args.timeouts.now refl a.1.0 a.1.1
           (not_more c.begin.result c.begin.new.self.slot c.in_default.not-More));
       leaves = c.begin.ensures.leaves;
       kept = λ fact h. c.begin.ensures.kept fact (l.invariant.kept fact h);
     }
 
 pub allowed-smaller : goal.allowed-smaller
-allowed-smaller g c = (falls_allowed (stage_of c.allowed.self.phase c.allowed.self.slot) (stage_of c.go_on.new.self.phase c.go_on.new.self.slot) c.allowed.invariant.allowed (c.go_on.ensures.falls c.in-More-go_on.is)).1
+allowed-smaller g c =
+    (falls_allowed (stage_of c.allowed.self.phase c.allowed.self.slot)
+    (stage_of c.go_on.new.self.phase c.go_on.new.self.slot) c.allowed.invariant.allowed
+    (c.go_on.ensures.falls c.in-More-go_on.is)).1
 
 pub allowed-preserved : goal.allowed-preserved
 allowed-preserved g c =
@@ -44,10 +51,15 @@ allowed-preserved g c =
       placed = c.go_on.ensures.leaves.placed;
       kept = λ fact h. c.go_on.ensures.kept fact (l.invariant.kept fact h);
       holds = rw c.in-More-go_on.is at c.go_on.ensures.leaves.holds;
-      allowed = (falls_allowed (stage_of c.allowed.self.phase c.allowed.self.slot) (stage_of c.go_on.new.self.phase c.go_on.new.self.slot) c.allowed.invariant.allowed (c.go_on.ensures.falls c.in-More-go_on.is)).0;
+      allowed =
+          (falls_allowed (stage_of c.allowed.self.phase c.allowed.self.slot)
+          (stage_of c.go_on.new.self.phase c.go_on.new.self.slot) c.allowed.invariant.allowed
+          (c.go_on.ensures.falls c.in-More-go_on.is)).0;
       goes = λ desk stage turn rest. l.invariant.goes desk stage turn
-          (polls_on g.D.Desk (may g.M.Manager g.F.SyncHook g.A.AsyncHook env.manager) env.runtime env.hooks c.args.now c.args.timeouts.now
-          l.desk c.go_on.new.desk desk (stage_of l.self.phase l.self.slot) (stage_of c.go_on.new.self.phase c.go_on.new.self.slot) stage _ turn a.0 c.args.timeouts.now refl
+          (polls_on g.D.Desk (may g.M.Manager g.F.SyncHook g.A.AsyncHook env.manager) env.runtime env.hooks c.args.now
+          c.args.timeouts.now
+          l.desk c.go_on.new.desk desk (stage_of l.self.phase l.self.slot)
+          (stage_of c.go_on.new.self.phase c.go_on.new.self.slot) stage _ turn a.0 c.args.timeouts.now refl
           (more_is c.go_on.result c.go_on.new.self.slot c.in-More-go_on.is) a.1.0 a.1.1 rest);
     }
 
@@ -58,8 +70,10 @@ returns-in_default-go_on g c =
     let a = c.go_on.ensures.advanced in
     record {
       polled = l.invariant.goes _ _ _
-          (polls_once g.D.Desk (may g.M.Manager g.F.SyncHook g.A.AsyncHook env.manager) env.runtime env.hooks c.args.now c.args.timeouts.now
-          l.desk c.go_on.new.desk (stage_of l.self.phase l.self.slot) (stage_of c.go_on.new.self.phase c.go_on.new.self.slot) _ a.0 c.args.timeouts.now refl a.1.0 a.1.1
+          (polls_once g.D.Desk (may g.M.Manager g.F.SyncHook g.A.AsyncHook env.manager) env.runtime env.hooks c.args.now
+          c.args.timeouts.now
+          l.desk c.go_on.new.desk (stage_of l.self.phase l.self.slot)
+          (stage_of c.go_on.new.self.phase c.go_on.new.self.slot) _ a.0 c.args.timeouts.now refl a.1.0 a.1.1
           (not_more c.go_on.result c.go_on.new.self.slot c.in_default-go_on.not-More));
       leaves = c.go_on.ensures.leaves;
       kept = λ fact h. c.go_on.ensures.kept fact (l.invariant.kept fact h);

@@ -1,4 +1,5 @@
-use Rattle.deadpool_managed.proofs.Words.{◌≡◌, false, Keeps, may, PollsOver, held_at, until_allowance, lacks_allowance, weight, IsPlaced, stage_of, Stage, Turn}
+use Rattle.deadpool_managed.proofs.Words.{◌≡◌, false, Keeps, may, PollsOver, held_at, until_allowance, lacks_allowance}
+use Rattle.deadpool_managed.proofs.Words.{weight, IsPlaced, stage_of, Stage, Turn}
 use Rattle.deadpool_managed.proofs.work.Work.run.Given as goal
 
 -- what polls over from here polls over from the beginning
@@ -7,9 +8,15 @@ invariant-until_allowed g l = record {
   placed : IsPlaced g.M.Manager.is_ready l.self.phase l.self.slot;
   kept : Keeps l.fn.cx l.cx;
   holds : g.D.Desk.holds l.desk (held_at (stage_of l.self.phase l.self.slot));
-  goes : (desk : g.row.D.Denot) (stage : Stage g.row.M-Type.Denot g.row.M-Creating.Denot g.row.M-Recycling.Denot g.row.A-State.Denot) (turn : Turn g.row.M-Type.Denot g.row.M-Error.Denot)
-      → PollsOver g.D.Desk (may g.M.Manager g.F.SyncHook g.A.AsyncHook l.fn.environment.manager) l.fn.environment.runtime l.fn.environment.hooks l.fn.now l.fn.timeouts l.desk (stage_of l.self.phase l.self.slot) desk stage turn
-      → PollsOver g.D.Desk (may g.M.Manager g.F.SyncHook g.A.AsyncHook l.fn.environment.manager) l.fn.environment.runtime l.fn.environment.hooks l.fn.now l.fn.timeouts l.fn.desk (stage_of l.fn.self.phase l.fn.self.slot) desk stage turn;
+  goes : (desk : g.row.D.Denot)
+      (stage : Stage g.row.M-Type.Denot g.row.M-Creating.Denot g.row.M-Recycling.Denot g.row.A-State.Denot)
+      (turn : Turn g.row.M-Type.Denot g.row.M-Error.Denot)
+      → PollsOver g.D.Desk (may g.M.Manager g.F.SyncHook g.A.AsyncHook l.fn.environment.manager)
+      l.fn.environment.runtime l.fn.environment.hooks l.fn.now l.fn.timeouts l.desk
+      (stage_of l.self.phase l.self.slot) desk stage turn
+      → PollsOver g.D.Desk (may g.M.Manager g.F.SyncHook g.A.AsyncHook l.fn.environment.manager)
+      l.fn.environment.runtime l.fn.environment.hooks l.fn.now l.fn.timeouts l.fn.desk
+      (stage_of l.fn.self.phase l.fn.self.slot) desk stage turn;
 }
 
 abbrev pub decreases-until_allowed : goal.decreases-until_allowed
@@ -21,9 +28,15 @@ invariant-allowed g l = record {
   kept : Keeps l.fn.cx l.cx;
   holds : g.D.Desk.holds l.desk (held_at (stage_of l.self.phase l.self.slot));
   allowed : lacks_allowance (stage_of l.self.phase l.self.slot) ≡ false;
-  goes : (desk : g.row.D.Denot) (stage : Stage g.row.M-Type.Denot g.row.M-Creating.Denot g.row.M-Recycling.Denot g.row.A-State.Denot) (turn : Turn g.row.M-Type.Denot g.row.M-Error.Denot)
-      → PollsOver g.D.Desk (may g.M.Manager g.F.SyncHook g.A.AsyncHook l.fn.environment.manager) l.fn.environment.runtime l.fn.environment.hooks l.fn.now l.fn.timeouts l.desk (stage_of l.self.phase l.self.slot) desk stage turn
-      → PollsOver g.D.Desk (may g.M.Manager g.F.SyncHook g.A.AsyncHook l.fn.environment.manager) l.fn.environment.runtime l.fn.environment.hooks l.fn.now l.fn.timeouts l.fn.desk (stage_of l.fn.self.phase l.fn.self.slot) desk stage turn;
+  goes : (desk : g.row.D.Denot)
+      (stage : Stage g.row.M-Type.Denot g.row.M-Creating.Denot g.row.M-Recycling.Denot g.row.A-State.Denot)
+      (turn : Turn g.row.M-Type.Denot g.row.M-Error.Denot)
+      → PollsOver g.D.Desk (may g.M.Manager g.F.SyncHook g.A.AsyncHook l.fn.environment.manager)
+      l.fn.environment.runtime l.fn.environment.hooks l.fn.now l.fn.timeouts l.desk
+      (stage_of l.self.phase l.self.slot) desk stage turn
+      → PollsOver g.D.Desk (may g.M.Manager g.F.SyncHook g.A.AsyncHook l.fn.environment.manager)
+      l.fn.environment.runtime l.fn.environment.hooks l.fn.now l.fn.timeouts l.fn.desk
+      (stage_of l.fn.self.phase l.fn.self.slot) desk stage turn;
 }
 
 abbrev pub decreases-allowed : goal.decreases-allowed

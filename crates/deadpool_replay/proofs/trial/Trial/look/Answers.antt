@@ -1,4 +1,5 @@
-use Rattle.deadpool_replay.proofs.Cited.{◌≡◌, ◌∙◌, refl, sym, ap, Some, None, slice_get, slice_get-map, slice_get-get_or, slice_get_past, party_of, look_of-get}
+use Rattle.deadpool_replay.proofs.Cited.{◌≡◌, ◌∙◌, refl, sym, ap, Some, None, slice_get, slice_get-map}
+use Rattle.deadpool_replay.proofs.Cited.{slice_get-get_or, slice_get_past, party_of, look_of-get}
 use Rattle.deadpool_replay.proofs.trial.Trial.look.Goals as goal
 
 pub returns-in-Some-Some-clause-look : goal.returns-in-Some-Some-clause-look

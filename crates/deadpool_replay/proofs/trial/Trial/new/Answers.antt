@@ -14,8 +14,15 @@ invariant_of-result g c =
             outside = refl;
             room = omega arith;
           };
-      well = rw (pool.core, pool.environment, pool.timeouts, c.in_ok-with_capacity.ensures.items, c.in_ok-with_capacity-2.ensures.items)
-          (opened_well b.max_size b.queue_mode b.runtime b.hooks b.timeouts c.args.first_number c.args.parties b.min_idle);
+      well = rw (
+        pool.core,
+        pool.environment,
+        pool.timeouts,
+        c.in_ok-with_capacity.ensures.items,
+        c.in_ok-with_capacity-2.ensures.items,
+      )
+          (opened_well b.max_size b.queue_mode b.runtime b.hooks b.timeouts c.args.first_number c.args.parties
+          b.min_idle);
       parties = omega (arith, c.in_ok-with_capacity.ensures.len);
       party_room = omega (arith, c.in_ok-with_capacity.ensures.capacity);
       out_room = omega (arith, c.in_ok-with_capacity-2.ensures.capacity);
@@ -24,7 +31,13 @@ invariant_of-result g c =
 pub returns-clause-pool : goal.returns-clause-pool
 returns-clause-pool g c =
     let pool = c.in_ok-core.ensures in
-    rw (pool.core, pool.environment, pool.timeouts, c.in_ok-with_capacity.ensures.items, c.in_ok-with_capacity-2.ensures.items) refl
+    rw (
+      pool.core,
+      pool.environment,
+      pool.timeouts,
+      c.in_ok-with_capacity.ensures.items,
+      c.in_ok-with_capacity-2.ensures.items,
+    ) refl
 
 pub returns-clause-refused : goal.returns-clause-refused
 returns-clause-refused g c = (λ e. cc, λ lacks. let e = c.in_ok-core.ensures.refused.1 lacks in cc)

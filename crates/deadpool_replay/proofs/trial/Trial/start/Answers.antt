@@ -1,9 +1,12 @@
-use Rattle.deadpool_replay.proofs.Cited.{◌≡◌, nat_lt, true, false, rules, ◌∷◌, [], ◌++◌, Some, length, vec_len, arith, refl, map, lt-ltb, le-ltb, length-map, unwrap_or, party_of, unpolled, image, starts, newcomer, no_handle, some_handle, leads_to_well, Start, Started}
+use Rattle.deadpool_replay.proofs.Cited.{◌≡◌, nat_lt, true, false, rules, ◌∷◌, [], ◌++◌, Some, length, vec_len, arith}
+use Rattle.deadpool_replay.proofs.Cited.{refl, map, lt-ltb, le-ltb, length-map, unwrap_or, party_of, unpolled, image}
+use Rattle.deadpool_replay.proofs.Cited.{starts, newcomer, no_handle, some_handle, leads_to_well, Start, Started}
 use Rattle.deadpool_replay.proofs.trial.Trial.start.Goals as goal
 
 pub returns-then-not-has_handle-clause-made : goal.returns-then-not-has_handle-clause-made
 returns-then-not-has_handle-clause-made g c =
-    let none = no_handle c.has_handle.result c.self.inside.core.desk.handles c.has_handle.ensures c.if-not-has_handle.true in
+    let none =
+    no_handle c.has_handle.result c.self.inside.core.desk.handles c.has_handle.ensures c.if-not-has_handle.true in
     rw (← c.self.view_is) (rw none refl)
 
 pub returns-then-party-self-clause-made : goal.returns-then-party-self-clause-made
@@ -11,7 +14,8 @@ returns-then-party-self-clause-made g c =
     let f = c.self.inside in
     let some = some_handle c.has_handle.result f.core.desk.handles c.has_handle.ensures c.if-not-has_handle.false in
     let len : vec_len f.parties ≡ length f.parties.items = search rules in
-    let full : nat_lt (length (map party_of f.parties.items)) f.fixed.most_parties ≡ false = le-ltb _ _ (omega (arith, c.len-party.ensures, len, length-map f.parties.items party_of, c.if-party-self.true)) in
+    let full : nat_lt (length (map party_of f.parties.items)) f.fixed.most_parties ≡ false =
+    le-ltb _ _ (omega (arith, c.len-party.ensures, len, length-map f.parties.items party_of, c.if-party-self.true)) in
     rw (← c.self.view_is) (rw (some, full) refl)
 
 pub returns-clause-made : goal.returns-clause-made
@@ -19,10 +23,14 @@ returns-clause-made g c =
     let f = c.self.inside in
     let some = some_handle c.has_handle.result f.core.desk.handles c.has_handle.ensures c.if-not-has_handle.false in
     let len : vec_len f.parties ≡ length f.parties.items = search rules in
-    let count : c.len-party.result ≡ length (map party_of f.parties.items) = omega (arith, c.len-party.ensures, len, length-map f.parties.items party_of) in
-    let few : nat_lt (length (map party_of f.parties.items)) f.fixed.most_parties ≡ true = lt-ltb _ _ (omega (arith, count, c.if-party-self.false)) in
-    let items : c.append.new.entries.items ≡ f.parties.items ++ Some (newcomer c.unwrap_or-timeouts.result) ∷ [] = rw c.new.ensures at c.append.ensures.items in
-    let all = starts f.fixed f.core.desk f.parties.items f.out.items c.self.invariant.counted c.unwrap_or-timeouts.result in
+    let count : c.len-party.result ≡ length (map party_of f.parties.items) =
+    omega (arith, c.len-party.ensures, len, length-map f.parties.items party_of) in
+    let few : nat_lt (length (map party_of f.parties.items)) f.fixed.most_parties ≡ true =
+    lt-ltb _ _ (omega (arith, count, c.if-party-self.false)) in
+    let items : c.append.new.entries.items ≡ f.parties.items ++ Some (newcomer c.unwrap_or-timeouts.result) ∷ [] =
+    rw c.new.ensures at c.append.ensures.items in
+    let all =
+    starts f.fixed f.core.desk f.parties.items f.out.items c.self.invariant.counted c.unwrap_or-timeouts.result in
     rw (← c.self.view_is, items) (rw (some, few, count, all.0, c.unwrap_or-timeouts.ensures) refl)
 
 pub invariant_of-self : goal.invariant_of-self
@@ -31,13 +39,22 @@ invariant_of-self g c =
     let fixed = f.fixed in
     let some = some_handle c.has_handle.result f.core.desk.handles c.has_handle.ensures c.if-not-has_handle.false in
     let len : vec_len f.parties ≡ length f.parties.items = search rules in
-    let count : c.len-party.result ≡ length (map party_of f.parties.items) = omega (arith, c.len-party.ensures, len, length-map f.parties.items party_of) in
-    let few : nat_lt (length (map party_of f.parties.items)) f.fixed.most_parties ≡ true = lt-ltb _ _ (omega (arith, count, c.if-party-self.false)) in
-    let items : c.append.new.entries.items ≡ f.parties.items ++ Some (newcomer c.unwrap_or-timeouts.result) ∷ [] = rw c.new.ensures at c.append.ensures.items in
-    let all = starts fixed f.core.desk f.parties.items f.out.items c.self.invariant.counted c.unwrap_or-timeouts.result in
+    let count : c.len-party.result ≡ length (map party_of f.parties.items) =
+    omega (arith, c.len-party.ensures, len, length-map f.parties.items party_of) in
+    let few : nat_lt (length (map party_of f.parties.items)) f.fixed.most_parties ≡ true =
+    lt-ltb _ _ (omega (arith, count, c.if-party-self.false)) in
+    let items : c.append.new.entries.items ≡ f.parties.items ++ Some (newcomer c.unwrap_or-timeouts.result) ∷ [] =
+    rw c.new.ensures at c.append.ensures.items in
+    let all =
+    starts fixed f.core.desk f.parties.items f.out.items c.self.invariant.counted c.unwrap_or-timeouts.result in
     let pool = image fixed f.core.desk f.parties.items f.out.items in
-    let begun = record pool { parties = pool.parties ++ Some (record { timeouts = unwrap_or c.args.timeouts f.fixed.timeouts; standing = unpolled }) ∷ [] } in
-    let led = leads_to_well g.M.Manager g.F.SyncHook g.A.AsyncHook f.fixed.environment.manager (Start c.args.timeouts) pool begun
+    let begun =
+    record pool {
+      parties = pool.parties ++ Some
+          (record { timeouts = unwrap_or c.args.timeouts f.fixed.timeouts; standing = unpolled }) ∷ [];
+    } in
+    let led = leads_to_well g.M.Manager g.F.SyncHook g.A.AsyncHook f.fixed.environment.manager
+    (Start c.args.timeouts) pool begun
     (Started (length (map party_of f.parties.items))) c.self.invariant.well (rw (some, few) refl) in
     record {
       counted = rw items all.1;

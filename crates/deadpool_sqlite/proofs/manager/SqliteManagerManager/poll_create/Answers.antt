@@ -10,4 +10,5 @@ returns-in-Ok-clause-answer g c =
     let may = g.B.Source.may_open c.args.self.now.source in
     let same : c.deref.result.now ≡ string_bytes c.args.self.now.batch = search rules in
     subst (λ batch. Creates store may batch (Ready c.prepare.result)) same
-    (prepared store may c.deref.result.now c.in-Ok.conn c.prepare.result c.in-Ok.ensures c.prepare.ensures.ran c.prepare.ensures.failed)
+    (prepared store may c.deref.result.now c.in-Ok.conn c.prepare.result c.in-Ok.ensures c.prepare.ensures.ran
+    c.prepare.ensures.failed)

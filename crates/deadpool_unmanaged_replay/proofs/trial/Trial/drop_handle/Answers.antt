@@ -4,11 +4,19 @@ use Rattle.deadpool_unmanaged_replay.proofs.trial.Trial.drop_handle.Goals as goa
 pub invariant_of-self : goal.invariant_of-self
 invariant_of-self g c =
     let f = c.self.inside in
-    let all = drops f.runtime f.most_parties f.next f.core.pool f.visitors.items f.out.items c.self.invariant.counted c.self.invariant.well c.drop_handle-reply.result c.drop_handle-reply.new.self.pool c.drop_handle-reply.ensures in
-    record { counted = all.counted; well = all.well; parties = c.self.invariant.parties; places = c.self.invariant.places; out_room = omega (arith, all.limit, c.self.invariant.out_room) }
+    let all = drops f.runtime f.most_parties f.next f.core.pool f.visitors.items f.out.items c.self.invariant.counted
+    c.self.invariant.well c.drop_handle-reply.result c.drop_handle-reply.new.self.pool c.drop_handle-reply.ensures in
+    record {
+      counted = all.counted;
+      well = all.well;
+      parties = c.self.invariant.parties;
+      places = c.self.invariant.places;
+      out_room = omega (arith, all.limit, c.self.invariant.out_room);
+    }
 
 pub returns : goal.returns
 returns g c =
     let f = c.self.inside in
-    let all = drops f.runtime f.most_parties f.next f.core.pool f.visitors.items f.out.items c.self.invariant.counted c.self.invariant.well c.drop_handle-reply.result c.drop_handle-reply.new.self.pool c.drop_handle-reply.ensures in
+    let all = drops f.runtime f.most_parties f.next f.core.pool f.visitors.items f.out.items c.self.invariant.counted
+    c.self.invariant.well c.drop_handle-reply.result c.drop_handle-reply.new.self.pool c.drop_handle-reply.ensures in
     rw (← c.self.view_is, c.after_handle.ensures) all.gives

@@ -1,4 +1,5 @@
-use Rattle.deadpool_unmanaged_replay.proofs.Basics.{◌≡◌, ◌≤◌, List, ◌++◌, length, vec_len, vec_capacity, ◌+◌, into_iter_items, into_iter_len}
+use Rattle.deadpool_unmanaged_replay.proofs.Basics.{◌≡◌, ◌≤◌, List, ◌++◌, length, vec_len, vec_capacity, ◌+◌}
+use Rattle.deadpool_unmanaged_replay.proofs.Basics.{into_iter_items, into_iter_len}
 use Rattle.deadpool_unmanaged_replay.proofs.Words.{Pool, PoolRuns, Reply}
 use Rattle.deadpool_unmanaged_replay.proofs.trial.Trial.run.Given as goal
 
@@ -9,5 +10,6 @@ invariant-loop-first g l = record {
   room : vec_len l.replies + into_iter_len l.first-iterator ≤ vec_capacity l.replies;
   goes : (passed : List (List (Pool g.row.T.Denot))) (answers : List (Reply g.row.T.Denot)) (after : Pool g.row.T.Denot)
       → PoolRuns l.self (into_iter_items l.first-iterator) passed answers after
-      → (all : List (List (Pool g.row.T.Denot))) × PoolRuns l.fn.self l.fn.moves.items all (l.replies.items ++ answers) after;
+      → (all : List (List (Pool g.row.T.Denot)))
+      × PoolRuns l.fn.self l.fn.moves.items all (l.replies.items ++ answers) after;
 }

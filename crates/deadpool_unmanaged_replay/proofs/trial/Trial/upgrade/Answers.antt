@@ -4,11 +4,19 @@ use Rattle.deadpool_unmanaged_replay.proofs.trial.Trial.upgrade.Goals as goal
 pub invariant_of-self : goal.invariant_of-self
 invariant_of-self g c =
     let f = c.self.inside in
-    let all = upgrades f.runtime f.most_parties f.next f.core.pool f.visitors.items f.out.items c.self.invariant.counted c.self.invariant.well c.upgrade.result c.upgrade.new.self.pool c.upgrade.ensures in
-    record { counted = all.counted; well = all.well; parties = c.self.invariant.parties; places = c.self.invariant.places; out_room = omega (arith, all.limit, c.self.invariant.out_room) }
+    let all = upgrades f.runtime f.most_parties f.next f.core.pool f.visitors.items f.out.items c.self.invariant.counted
+    c.self.invariant.well c.upgrade.result c.upgrade.new.self.pool c.upgrade.ensures in
+    record {
+      counted = all.counted;
+      well = all.well;
+      parties = c.self.invariant.parties;
+      places = c.self.invariant.places;
+      out_room = omega (arith, all.limit, c.self.invariant.out_room);
+    }
 
 pub returns : goal.returns
 returns g c =
     let f = c.self.inside in
-    let all = upgrades f.runtime f.most_parties f.next f.core.pool f.visitors.items f.out.items c.self.invariant.counted c.self.invariant.well c.upgrade.result c.upgrade.new.self.pool c.upgrade.ensures in
+    let all = upgrades f.runtime f.most_parties f.next f.core.pool f.visitors.items f.out.items c.self.invariant.counted
+    c.self.invariant.well c.upgrade.result c.upgrade.new.self.pool c.upgrade.ensures in
     rw (← c.self.view_is) all.gives

@@ -2,4 +2,5 @@ use Rattle.pool_shapes.proofs.{Words.left_without, Columns.IsChanged}
 use Rattle.pool_shapes.proofs.given.Given.take_away.Given as goal
 
 abbrev pub invariant-loop-party : goal.invariant-loop-party
-invariant-loop-party l = IsChanged (left_without l.number) l.initial.self-inside.objects.items l.party l.self-inside.objects.items
+invariant-loop-party l =
+    IsChanged (left_without l.number) l.initial.self-inside.objects.items l.party l.self-inside.objects.items

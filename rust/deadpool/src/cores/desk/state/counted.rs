@@ -1,5 +1,6 @@
 // Made by .ci/made-rust of crates/deadpool_desk/src/state/counted.rt, without its contracts. The proof is of that text.
-//! What a core says of itself between two steps: its handles, its counts, its idle objects, and who in the queue has a place.
+//! What a core says of itself between two steps: its handles, its counts, its idle objects, and who in the queue has a
+//! place.
 
 use super::Core;
 use crate::cores::desk::gate::Ticket;
@@ -41,7 +42,8 @@ impl<T> Core<T> {
         self.gate.is_closed()
     }
 
-    /// Whether a get that enters now, and is willing to wait, has to join the queue: the pool is open, and no place is free.
+    /// Whether a get that enters now, and is willing to wait, has to join the queue: the pool is open, and no place is
+    /// free.
     #[inline]
     pub fn would_queue(&self) -> bool {
         !self.gate.is_closed() && self.places.room(&self.gate) == 0

@@ -3,7 +3,7 @@
 
 use super::Core;
 use crate::cores::desk::review::review;
-use crate::cores::desk::{HandleReply, OwnerDesk, Removals, RetainResult, Retainer, Status};
+use crate::cores::desk::{OwnerDesk, OwnerReply, OwnerStep, Removals, RetainResult, Retainer, Status};
 use crate::rattle::AllocError;
 
 impl<T> Core<T> {
@@ -12,36 +12,34 @@ impl<T> Core<T> {
     pub fn retain_noting<R: Retainer<T>>(
         &mut self,
         retainer: &mut R,
-    ) -> Result<(RetainResult<T>, Removals), AllocError> {
+    ) -> Result<(RetainResult<R::Left>, Removals), AllocError> {
         let least = self.least_idle();
         let (removed, noted) = review(&mut self.ring, least, retainer)?;
         let result = RetainResult { retained: self.ring.len(), removed };
         Ok((result, Removals::new(noted)))
     }
-}
 
-impl<T> OwnerDesk<T> for Core<T> {
     // A get without an object counts against the idle ones, and waits if none is left for it.
     #[inline]
-    fn status(&mut self) -> Status {
+    fn status(&self) -> OwnerReply {
         let idle = self.ring.len();
         let pending = self.gate.waiting() + self.gate.granted() + self.places.going + self.places.creations;
-        Status {
+        OwnerReply::Stands(Status {
             max_size: self.places.limit,
             size: idle + self.places.outside,
             available: idle.saturating_sub(pending),
             waiting: pending.saturating_sub(idle),
-        }
+        })
     }
 
     // What is beyond the limit goes from the front.
     #[inline]
-    fn resize(&mut self, limit: usize) -> Result<(), AllocError> {
+    fn resize(&mut self, limit: usize) -> OwnerReply {
         if self.gate.is_closed() {
-            return Ok(());
+            return OwnerReply::Done;
         }
-        if limit > self.ring.capacity() {
-            self.ring.resize(limit)?;
+        if limit > self.ring.capacity() && self.ring.resize(limit).is_err() {
+            return OwnerReply::OutOfMemory;
         }
         let idle = self.ring.len();
         let excess = (idle + self.places.outside).saturating_sub(limit);
@@ -49,41 +47,33 @@ impl<T> OwnerDesk<T> for Core<T> {
         self.places.limit = limit;
         self.ring.truncate_front(idle - excess.min(spare));
         self.places.settle(&mut self.gate);
-        Ok(())
-    }
-
-    // The notes of a retain that notes are dropped.
-    #[inline]
-    fn retain<R: Retainer<T>>(&mut self, retainer: &mut R) -> Result<RetainResult<T>, AllocError> {
-        match self.retain_noting(retainer) {
-            Ok((result, _)) => Ok(result),
-            Err(e) => Err(e),
-        }
+        OwnerReply::Done
     }
 
     // Those that wait are refused when they ask.
     #[inline]
-    fn close(&mut self) {
+    fn close(&mut self) -> OwnerReply {
         self.places.limit = 0;
         self.ring.clear();
         self.gate.close();
+        OwnerReply::Done
     }
 
     // There is one more only if one is left.
     #[inline]
-    fn clone_handle(&mut self) -> HandleReply {
+    fn clone_handle(&mut self) -> OwnerReply {
         if self.handles == 0 {
-            return HandleReply::NoHandle;
+            return OwnerReply::NoHandle;
         }
         self.handles = self.handles.saturating_add(1);
-        HandleReply::Done
+        OwnerReply::Done
     }
 
     // The last takes what is idle with it.
     #[inline]
-    fn drop_handle(&mut self) -> HandleReply {
+    fn drop_handle(&mut self) -> OwnerReply {
         if self.handles == 0 {
-            return HandleReply::NoHandle;
+            return OwnerReply::NoHandle;
         }
         if self.handles < u64::MAX {
             self.handles -= 1;
@@ -91,15 +81,29 @@ impl<T> OwnerDesk<T> for Core<T> {
         if self.handles == 0 {
             self.ring.clear();
         }
-        HandleReply::Done
+        OwnerReply::Done
+    }
+}
+
+impl<T> OwnerDesk<T> for Core<T> {
+    // An upgrade counts as a clone does: who makes it has no handle, which the count does not know.
+    #[inline(always)]
+    fn make_for_owner(&mut self, step: &OwnerStep) -> OwnerReply {
+        match step {
+            OwnerStep::Status => self.status(),
+            OwnerStep::Resize { limit } => self.resize(*limit),
+            OwnerStep::Close => self.close(),
+            OwnerStep::CloneHandle | OwnerStep::Upgrade => self.clone_handle(),
+            OwnerStep::DropHandle => self.drop_handle(),
+        }
     }
 
-    // A clone, seen as an answer.
+    // The notes of a retain that notes are dropped.
     #[inline]
-    fn upgrade(&mut self) -> bool {
-        match self.clone_handle() {
-            HandleReply::Done => true,
-            HandleReply::NoHandle => false,
+    fn retain<R: Retainer<T>>(&mut self, retainer: &mut R) -> Result<RetainResult<R::Left>, AllocError> {
+        match self.retain_noting(retainer) {
+            Ok((result, _)) => Ok(result),
+            Err(e) => Err(e),
         }
     }
 }

@@ -1,8 +1,8 @@
 // Made by .ci/made-rust of crates/deadpool_desk/src/state/places.rt, without its contracts. The proof is of that text.
 //! The places of a pool: how many there are, and what holds those that no get in the queue has.
 //!
-//! A step may leave places free while gets wait, and settles them before it ends. So these are functions over the counts and
-//! the queue alone, and not over a core, which is settled.
+//! A step may leave places free while gets wait, and settles them before it ends. So these are functions over the
+//! counts and the queue alone, and not over a core, which is settled.
 
 use crate::cores::desk::gate::Gate;
 

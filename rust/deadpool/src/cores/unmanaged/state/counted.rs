@@ -1,11 +1,37 @@
 // Made by .ci/made-rust of crates/deadpool_unmanaged/src/state/counted.rt, without its contracts. The proof is of that text.
-//! What a pool's state says of itself: its counts, and who in a queue was granted what it asks for.
+//! What a core says of itself between two steps: its handles, its counts, its idle objects, and who in a queue was
+//! granted what it asks for.
 
-use super::PoolState;
+use super::Core;
+use super::line::free;
 use crate::cores::gate::gate::Ticket;
 use crate::cores::unmanaged::Counts;
 
-impl<T> PoolState<T> {
+impl<T> Core<T> {
+    /// Whether the pool was closed.
+    #[inline]
+    pub fn is_closed(&self) -> bool {
+        self.gets.is_closed()
+    }
+
+    /// Whether a pool handle is left.
+    #[inline]
+    pub fn has_handle(&self) -> bool {
+        self.handles > 0
+    }
+
+    /// Whether just one pool handle is left, which takes the idle objects with it.
+    #[inline]
+    pub fn is_last_handle(&self) -> bool {
+        self.handles == 1
+    }
+
+    /// The idle object at this position. The last is the next to go out.
+    #[inline]
+    pub fn idle_at(&self, at: usize) -> Option<&T> {
+        self.idle.get(at)
+    }
+
     /// What the pool counts.
     #[inline]
     pub fn counts(&self) -> Counts {
@@ -19,13 +45,50 @@ impl<T> PoolState<T> {
         }
     }
 
-    /// Whether the get in the queue with this ticket was granted an object.
+    /// The number of the ticket that the next get in the queue has.
+    #[inline]
+    pub fn next_get(&self) -> usize {
+        self.gets.next_number()
+    }
+
+    /// The number of the ticket that the next add in the queue has.
+    #[inline]
+    pub fn next_add(&self) -> usize {
+        self.adds.next_number()
+    }
+
+    // How many idle objects no get was granted.
+    #[inline]
+    pub(super) fn free_objects(&self) -> usize {
+        free(&self.gets, self.idle.len())
+    }
+
+    // How much room no add was granted.
+    #[inline]
+    pub(super) fn free_room(&self) -> usize {
+        free(&self.adds, self.limit - self.idle.len() - self.outside)
+    }
+
+    /// Whether a get that enters now and wants to wait joins the queue: the pool is open and has no free object.
+    #[inline]
+    pub fn get_would_queue(&self) -> bool {
+        !self.gets.is_closed() && self.free_objects() == 0
+    }
+
+    /// Whether an add that enters now and wants to wait joins the queue: the pool is open and has no free room.
+    #[inline]
+    pub fn add_would_queue(&self) -> bool {
+        !self.gets.is_closed() && self.free_room() == 0
+    }
+
+    /// Whether the get in the queue with this ticket was granted an object, which it has not taken yet. Nothing
+    /// changes.
     #[inline]
     pub fn get_is_granted(&mut self, ticket: Ticket) -> bool {
         self.gets.has_place(ticket)
     }
 
-    /// Whether the add in the queue with this ticket was granted room.
+    /// Whether the add in the queue with this ticket was granted room, which it has not taken yet. Nothing changes.
     #[inline]
     pub fn add_is_granted(&mut self, ticket: Ticket) -> bool {
         self.adds.has_place(ticket)

@@ -5,5 +5,10 @@ pub returns-in-Ok-clause-retained : goal.returns-in-Ok-clause-retained
 returns-in-Ok-clause-retained g c =
     let noting = c.in-Ok.ensures.retained in
     let before = c.args.self.now.desk in
-    let after = c.retain_noting.new.self.desk in
-    (retains_forget g.R.Retainer before after c.args.retainer.now c.retain_noting.new.retainer (c.in-Ok.result, c.in-Ok.field-0-1) noting.0, noting.1)
+    let after = c.retain_noting.new.self.desk in (
+      retains_forget g.R.Retainer before after c.args.retainer.now c.retain_noting.new.retainer (
+        c.in-Ok.result,
+        c.in-Ok.field-0-1,
+      ) noting.0,
+      noting.1,
+    )

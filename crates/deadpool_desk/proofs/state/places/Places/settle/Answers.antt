@@ -8,7 +8,12 @@ returns-then-waiting-gt0 c =
     let p = c.args.self.now in
     let after = c.settle.new.self in
     let n = as_many line p c.settle.result c.room-room.result c.room-room.ensures c.settle.ensures.count in
-    let is : IsGranted line p after = record { granted = rw n at c.settle.ensures.places; waiting = rw n at c.settle.ensures.left; closed = c.settle.ensures.closed } in
+    let is : IsGranted line p after =
+    record {
+      granted = rw n at c.settle.ensures.places;
+      waiting = rw n at c.settle.ensures.left;
+      closed = c.settle.ensures.closed;
+    } in
     record {
       granted = is.granted;
       waiting = is.waiting;
@@ -23,7 +28,8 @@ pub returns-else-waiting-gt0 : goal.returns-else-waiting-gt0
 returns-else-waiting-gt0 c =
     let line = c.args.gate.now in
     let p = c.args.self.now in
-    let none : length (waiting_tickets line.waiters) ≡ 0 = omega (arith, waiting_count-length line.waiters, c.waiting.ensures.count, c.if-waiting-gt0.false) in
+    let none : length (waiting_tickets line.waiters) ≡ 0 =
+    omega (arith, waiting_count-length line.waiters, c.waiting.ensures.count, c.if-waiting-gt0.false) in
     let is = quiet line p (nobody (waiting_tickets line.waiters) none) in
     record {
       granted = is.granted;

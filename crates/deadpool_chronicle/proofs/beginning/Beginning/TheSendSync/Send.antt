@@ -1,0 +1,11 @@
+use denote.RattleType.{RattleType}
+use denote.Param.Send.{IsSend}
+use Rattle.deadpool_chronicle.specs.declared.blank.Chronicle.{Ghosts}
+use Rattle.deadpool_chronicle.specs.contracts.beginning.Beginning.{the_row}
+use Rattle.deadpool_chronicle.proofs.Sent.{beginning_keyless}
+
+pub send : (E H : RattleType) (g : Ghosts H.Denot) → IsSend (the_row E H g)
+send E H g = record {
+  owned = λ d vs. ((λ vss. (tt, ((λ uss. (tt, tt)), tt))), beginning_keyless E.coded g.names d.log);
+  leaving = λ k f vs. tt;
+}

@@ -1,0 +1,218 @@
+//! A pool's state, with the history that leads to it.
+ghost use Rattle.std.specs.Prelude.{◌≡◌, ◌+◌, ◌&&◌, [], is_some, nat_le, not};
+ghost use Rattle.std.specs.Option.{option_or};
+ghost use mathlib.Core.List.{IsPrefix};
+ghost use Rattle.deadpool_chronicle.specs.History.{Calls, calls_by};
+ghost use Rattle.deadpool_desk.specs.CoreSteps.{due_now};
+ghost use Rattle.deadpool_desk.specs.DeskState.{places};
+ghost use Rattle.deadpool_desk.specs.Replies.{Brings, IsOwnerReplyTo, IsReplyTo, Leaves};
+ghost use Rattle.deadpool_journal.specs.ByNumber.{number_in, numbered};
+ghost use Rattle.deadpool_journal.specs.Journaling.{opening};
+ghost use Rattle.deadpool_history.specs.History.{IsRetain, LeadsTo};
+ghost use Rattle.deadpool_journal.specs.Steps.{MakesNoted, MakesForOwnerNoted, RetainsNoted, TellsUnnoted};
+ghost use Rattle.deadpool_journal.specs.declared.entry.Entry.TheVariants as entry;
+
+use deadpool_chronicle::{Author, Caller, Chronicle, Says};
+use deadpool_desk::gate::Ticket;
+use deadpool_desk::{
+    Desk, OwnerDesk, OwnerReply, OwnerStep, Reply, RetainResult, Retainer, Slot, Step,
+};
+use deadpool_journal::{Entry, Journaled};
+use std::alloc::AllocError;
+use std::marker::Model;
+
+// The entry of a step of a get or an object: the step with the number of its object, and the reply.
+struct ToStep;
+
+impl Says<(Step, Option<usize>), Reply, Entry> for ToStep {
+    ghost use Rattle.std.specs.Prelude.{◌≡◌};
+    ghost use Rattle.deadpool_journal.specs.declared.entry.Entry.TheVariants.{Made};
+
+    ghost entry = { λ asked reply _ e. e ≡ Made asked.0 asked.1 reply };
+}
+
+// The entry of a step of the owner.
+struct ToOwnerStep;
+
+impl Says<OwnerStep, OwnerReply, Entry> for ToOwnerStep {
+    ghost use Rattle.std.specs.Prelude.{◌≡◌};
+    ghost use Rattle.deadpool_journal.specs.declared.entry.Entry.TheVariants.{Owner};
+
+    ghost entry = { λ step reply _ e. e ≡ Owner step reply };
+}
+
+// The entry of a retain: of those that its reply allows, one by which the history leads to the pool's state. So what
+// was given up, and where it stood, need not be at hand.
+struct ToRetain;
+
+impl<T, G> Says<Journaled<T>, Result<RetainResult<G>, AllocError>, Entry> for ToRetain {
+    ghost use Rattle.deadpool_history.specs.History.{IsRetain, LeadsWith};
+
+    ghost entry = { λ pool result log e. IsRetain result e × LeadsWith pool log e };
+}
+
+/// A pool's state with its journal, and who adds to the history. The history's entries are steps of the desk machine,
+/// from the state that the pool opened with to the one that it has.
+#[derive(Drop)]
+pub struct Recorded<T, H: Chronicle> {
+    pool: Journaled<T>,
+    author: Author<Entry, H>,
+}
+
+impl<T, H: Chronicle> Model for Recorded<T, H> {
+    ghost use Rattle.deadpool_history.specs.History.{Recording, LeadsTo};
+
+    ghost Value = { Recording T };
+
+    ghost view = { λ r. record { pool = r.pool; log = r.author.log } };
+
+    ghost invariant = { λ r. LeadsTo r.pool r.author.log };
+}
+
+// The number of the object in a hand.
+fn number_of<T>(hand: &Option<Slot<T>>) -> Option<usize>
+    ensures { result ≡ number_in hand.now }
+{
+    match hand {
+        Some(slot) => Some(slot.number),
+        None => None,
+    }
+}
+
+impl<T: Drop, H: Chronicle> Recorded<T, H> {
+    /// A pool that has made no step yet, whose history is empty.
+    pub fn new(pool: Journaled<T>, author: Author<Entry, H>) -> Self
+        requires opened { numbered pool.core.desk ≡ opening pool }
+        requires empty { author.log ≡ [] }
+        ensures pool { result.pool ≡ pool }
+        ensures log { result.log ≡ [] }
+    {
+        Recorded { pool, author }
+    }
+
+    /// Makes a step of a get or an object, which is one entry more of its caller's.
+    #[inline(always)]
+    pub fn make(
+        &mut self,
+        caller: &mut Caller<Entry, H>,
+        step: &Step,
+        hand: &mut Option<Slot<T>>,
+    ) -> Reply
+        requires brings { Brings step.now hand.old }
+        ensures made { MakesNoted self.old.pool step.now hand.old result hand.new self.new.pool }
+        ensures fits { IsReplyTo step.now result }
+        ensures hand { Leaves result hand.old hand.new }
+        ensures call { Calls
+            (λ e. e ≡ entry.Made step.now (number_in (option_or hand.old hand.new)) result)
+            self.old.log caller.old self.new.log caller.new }
+        ensures seen { IsPrefix caller.old.seen self.old.log }
+    {
+        let Recorded { pool, author, .. } = self;
+        let taken = number_of(hand);
+        let reply = pool.make(step, hand);
+        let asked = (*step, taken.or(number_of(hand)));
+        author.note::<(Step, Option<usize>), Reply, ToStep>(caller, &asked, &reply);
+        reply
+    }
+
+    /// Makes a step of the pool's owner, which is one entry more of its caller's.
+    #[inline(always)]
+    pub fn make_for_owner(&mut self, caller: &mut Caller<Entry, H>, step: &OwnerStep) -> OwnerReply
+        ensures made { MakesForOwnerNoted self.old.pool step.now result self.new.pool }
+        ensures fits { IsOwnerReplyTo step.now result }
+        ensures call { Calls (λ e. e ≡ entry.Owner step.now result)
+            self.old.log caller.old self.new.log caller.new }
+        ensures seen { IsPrefix caller.old.seen self.old.log }
+    {
+        let Recorded { pool, author, .. } = self;
+        let reply = pool.make_for_owner(step);
+        author.note::<OwnerStep, OwnerReply, ToOwnerStep>(caller, step, &reply);
+        reply
+    }
+
+    /// Asks `retainer` about each idle object, as `OwnerDesk::retain` does, which is one entry more of the caller's.
+    pub fn retain<R: Retainer<T>>(
+        &mut self,
+        caller: &mut Caller<Entry, H>,
+        retainer: &mut R,
+    ) -> Result<RetainResult<R::Left>, AllocError>
+        requires { R.can_call retainer.old }
+        ensures can_call { R.can_call retainer.new }
+        ensures retained { RetainsNoted R.Retainer
+            self.old.pool retainer.old result self.new.pool retainer.new }
+        ensures call { Calls (IsRetain result)
+            self.old.log caller.old self.new.log caller.new }
+        ensures seen { IsPrefix caller.old.seen self.old.log }
+    {
+        let Recorded { pool, author, .. } = self;
+        let result = pool.retain(retainer);
+        author.note::<Journaled<T>, Result<RetainResult<R::Left>, AllocError>, ToRetain>(
+            caller, pool, &result,
+        );
+        result
+    }
+
+    /// Lets a caller in, of which the history has nothing yet. It is no step.
+    pub fn admit(&mut self, caller: &mut Caller<Entry, H>) -> Caller<Entry, H>
+        ensures same { self.new ≡ self.old }
+        ensures caller { caller.new
+            ≡ record caller.old { admitted = caller.old.admitted + 1 } }
+        ensures mine { result.mine ≡ [] }
+        ensures admitted { result.admitted ≡ 0 }
+        ensures seen { result.seen ≡ self.old.log }
+    {
+        let Recorded { author, .. } = self;
+        author.admit(caller)
+    }
+
+    /// The history leads from the state that the pool opened with to the one that it has, and has of a caller what the
+    /// caller has. It is no step.
+    pub fn audit(&mut self, caller: &mut Caller<Entry, H>)
+        ensures same { self.new ≡ self.old }
+        ensures leads { LeadsTo self.old.pool self.old.log }
+        ensures caller { caller.new ≡ record caller.old { seen = self.old.log } }
+        ensures seen { IsPrefix caller.old.seen self.old.log }
+        ensures mine { calls_by caller.old.number self.old.log ≡ caller.old.mine }
+    {
+        let Recorded { author, .. } = self;
+        author.audit(caller);
+    }
+
+    /// Whether the pool has closed. It is no step.
+    pub fn is_closed(&self) -> bool
+        ensures { result ≡ not self.now.pool.core.desk.is_open }
+    {
+        self.pool.is_closed()
+    }
+
+    /// Whether a get that enters now, and is willing to wait, has to join the queue. It is no step.
+    pub fn would_queue(&self) -> bool
+        ensures { let desk = self.now.pool.core.desk
+            in result ≡ (desk.is_open && nat_le desk.limit (places desk)) }
+    {
+        self.pool.would_queue()
+    }
+
+    /// The number of the ticket that the next get in the queue has. It is no step.
+    pub fn next_ticket(&self) -> usize
+        ensures { result ≡ self.now.pool.core.next_ticket }
+    {
+        self.pool.next_ticket()
+    }
+
+    /// The next get in the queue that is due to be woken. It is no step, and stands in no history.
+    pub fn take_wake(&mut self) -> Option<Ticket>
+        ensures told { TellsUnnoted self.old.pool result self.new.pool }
+        ensures log { self.new.log ≡ self.old.log }
+    {
+        let Recorded { pool, .. } = self;
+        pool.take_wake()
+    }
+
+    /// Whether `take_wake` would name a get. It is no step.
+    pub fn is_wake_due(&self) -> bool
+        ensures { result ≡ is_some (due_now self.now.pool.core) }
+    {
+        self.pool.is_wake_due()
+    }
+}

@@ -1,8 +1,0 @@
-use Rattle.deadpool_unmanaged.proofs.Words.{◌≡◌, length, vec_len, rules, refl, granted_count-length, waiting_count-length}
-use Rattle.deadpool_unmanaged.proofs.state.PoolState.status.Goals as goal
-
-pub returns : goal.returns
-returns g c =
-    let waiters = c.self.inside.gets.waiters in
-    let idle : vec_len c.self.inside.idle ≡ length c.self.inside.idle.items = search rules in
-    rw (← c.self.view_is, c.waiting.ensures.count, waiting_count-length waiters, c.granted.ensures.count, granted_count-length waiters, c.len-available.ensures, idle) refl
