@@ -12,7 +12,8 @@ pub use deadpool_managed::{
     RecycleResult, RetainResult, Status, SyncHook, TimeoutType, Timeouts,
 };
 pub use deadpool_shared::{
-    Blanks, Build, Entry, Get, GetRef, Journal, Ledgers, Object, Pool, WeakPool,
+    Blanks, Build, Caller, Entry, Get, GetRef, History, Journal, Ledgers, Line, Object, Pool,
+    WeakPool,
 };
 
 /// What a user of a pool names beside it, for a crate that gives a pool of its own out.

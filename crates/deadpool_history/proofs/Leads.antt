@@ -1,40 +1,80 @@
--- One entry more leads one step further.
-use Rattle.std.proofs.Common.{◌≡◌, ℕ, [], ◌∷◌, ◌++◌, Result, Ok, Err, ap, refl}
+-- One line more leads one step further.
+use mathlib.Core.List.{IsPrefix}
+use Rattle.std.proofs.Common.{◌≡◌, ℕ, List, [], ◌∷◌, ◌++◌, Result, Ok, Err, ap, refl, sym, ◌∙◌}
 use Rattle.std.proofs.lemmas.List.{map-append}
 use Rattle.std.specs.declared.alloc.AllocError.{AllocError}
+use Rattle.deadpool_chronicle.specs.History.{Calls, Knowing}
 use Rattle.deadpool_desk.specs.Retained.{Retained}
 use Rattle.deadpool_desk.specs.declared.retain.Retainer.{Ghosts as RetainerOf}
 use Rattle.deadpool_journal.proofs.Kept.{Runs-snoc}
 use Rattle.deadpool_journal.proofs.Retains.{retain_numbered, refused_retain_numbered}
 use Rattle.deadpool_journal.specs.ByNumber.{numbered}
 use Rattle.deadpool_journal.specs.Journaling.{Journaling, Notes, opening}
+use Rattle.deadpool_journal.specs.LogState.{noted}
 use Rattle.deadpool_journal.specs.Replay.{IsStep}
 use Rattle.deadpool_journal.specs.Steps.{RetainsNoted}
 use Rattle.deadpool_journal.specs.declared.entry.Entry.{Entry}
 use Rattle.deadpool_journal.specs.declared.entry.Entry.TheVariants.{Retain}
-use Rattle.deadpool_history.specs.History.{History, IsRetain, LeadsTo, LeadsWith, entries_of}
+use Rattle.deadpool_history.specs.History.{HasCalled, History, IsLegal, IsNext, IsRetain, LeadsTo, LeadsWith}
+use Rattle.deadpool_history.specs.History.{entries_of, lines_of}
+use Rattle.deadpool_history.proofs.First.{has_first}
+use Rattle.deadpool_history.specs.declared.line.Line.{Line}
+use Rattle.deadpool_history.specs.declared.line.Line.TheVariants.{Opening, Next}
 
-entries_of-snoc : (log : History) (n : ℕ) (e : Entry) → entries_of (log ++ (n, e) ∷ []) ≡ entries_of log ++ e ∷ []
-entries_of-snoc log n e = map-append (λ (x : ℕ × Entry). x.1) log ((n, e) ∷ [])
+entries_of-snoc : (steps : List (ℕ × Entry)) (n : ℕ) (e : Entry)
+    → entries_of (steps ++ (n, e) ∷ []) ≡ entries_of steps ++ e ∷ []
+entries_of-snoc steps n e = map-append (λ (x : ℕ × Entry). x.1) steps ((n, e) ∷ [])
+
+lines_of-snoc : (steps : List (ℕ × Entry)) (n : ℕ) (e : Entry)
+    → lines_of (steps ++ (n, e) ∷ []) ≡ lines_of steps ++ (n, Next e) ∷ []
+lines_of-snoc steps n e = map-append (λ (x : ℕ × Entry). (x.0, Next x.1)) steps ((n, e) ∷ [])
 
 module _ {T : Type 0} where
   -- the entry of a step leads to where the step does
   leads_with : (j j' : Journaling T) (log : History) (e : Entry) → Notes e j j'
       → IsStep (numbered j.core.desk) e (numbered j'.core.desk) → LeadsTo j log → LeadsWith j' log e
   leads_with j j' log e notes made leads =
-      let opens : opening j' ≡ opening j = ap opening notes in
-      rw opens (Runs-snoc (opening j) (numbered j.core.desk) (numbered j'.core.desk) (entries_of log) e leads made)
+      let limit : j'.limit ≡ j.limit = ap (λ (k : Journaling T). k.limit) notes in
+      let mode : j'.mode ≡ j.mode = ap (λ (k : Journaling T). k.mode) notes in
+      let min_idle : j'.min_idle ≡ j.min_idle = ap (λ (k : Journaling T). k.min_idle) notes in
+      let kept : j'.log ≡ noted e j.log = ap (λ (k : Journaling T). k.log) notes in
+      let es = entries_of leads.0 in
+      rw (limit, mode, min_idle, kept) (
+        leads.0,
+        (
+          leads.1.0,
+          (
+            Runs-snoc (opening j) (numbered j.core.desk) (numbered j'.core.desk) es e leads.1.1.0 made,
+            has_first j.log es e leads.1.1.1,
+          ),
+        ),
+      )
 
-  pub noted_leads : (j : Journaling T) (log log' : History) (n : ℕ) (e : Entry) → log' ≡ log ++ (n, e) ∷ []
+  pub noted_leads : (j : Journaling T) (log log' : History) (n : ℕ) (e : Entry) → log' ≡ log ++ (n, Next e) ∷ []
       → LeadsWith j log e → LeadsTo j log'
-  noted_leads j log log' n e is leads = rw (is, entries_of-snoc log n e) leads
+  noted_leads j log log' n e is leads =
+      let steps = leads.0 in
+      let told = leads.1.0 in
+      let first : ℕ × Line = (told.0, Opening j.limit j.mode j.min_idle) in (
+        steps ++ (n, e) ∷ [],
+        (
+          (
+            told.0,
+            is ∙ ap (λ (l : History). l ++ (n, Next e) ∷ []) told.1
+                ∙ ap (λ (l : History). first ∷ l) (sym (lines_of-snoc steps n e)),
+          ),
+          rw (entries_of-snoc steps n e) leads.1.1,
+        ),
+      )
 
-  -- the entry that was noted is that of the step
-  pub leads_on : (j j' : Journaling T) (log log' : History) (n : ℕ) (e noted : Entry) → Notes e j j' → noted ≡ e
-      → log' ≡ log ++ (n, noted) ∷ []
+  -- the line that was noted is that of the step
+  pub leads_on : (j j' : Journaling T) (log log' : History) (n : ℕ) (e : Entry) (line : Line) → Notes e j j'
+      → IsNext (λ x. x ≡ e) line → log' ≡ log ++ (n, line) ∷ []
       → IsStep (numbered j.core.desk) e (numbered j'.core.desk) → LeadsTo j log → LeadsTo j' log'
-  leads_on j j' log log' n e noted notes same is made leads =
-      noted_leads j' log log' n e (rw same at is) (leads_with j j' log e notes made leads)
+  leads_on j j' log log' n e line notes same is made leads =
+      noted_leads j' log log' n e
+      (is ∙ ap (λ (l : Line). log ++ (n, l) ∷ []) (same.1.0 ∙ ap Next same.1.1))
+      (leads_with j j' log e notes made leads)
 
   -- there is an entry for a retain
   pub retain_leads : {R L : Type 0} (asks : RetainerOf R T L) (j j' : Journaling T) (r r' : R)
@@ -57,3 +97,28 @@ module _ {T : Type 0} where
           (refused_retain_numbered asks j.core.desk j'.core.desk r r' refused retains.0.0) leads,
     ),
   )
+
+  pub is_legal : (j : Journaling T) (log : History) → LeadsTo j log → IsLegal log
+  is_legal j log leads =
+      (j.limit, (j.mode, (j.min_idle, (leads.0, (leads.1.0, (numbered j.core.desk, leads.1.1.0))))))
+
+  -- what a call is to its caller, by what it is to the history
+  pub has_called : (j : Journaling T) (may_be : Entry → Type 0) (log log' : History) (c c' : Knowing Line)
+      → Calls (IsNext may_be) log c log' c' → IsPrefix c.seen log → LeadsTo j log' → HasCalled may_be c c'
+  has_called j may_be log log' c c' call before leads =
+      let added = call.0 in
+      let next = added.1.0 in (
+        next.0,
+        (
+          next.1.1,
+          (
+            before.0,
+            call.3 ∙ added.1.1 ∙ ap (λ (l : History). l ++ (c.number, added.0) ∷ []) (sym before.1)
+                ∙ ap (λ (l : Line). (c.seen ++ before.0) ++ (c.number, l) ∷ []) next.1.0,
+          ),
+          added.1.2 ∙ ap (λ (l : Line). c.mine ++ l ∷ []) next.1.0,
+          call.1,
+          call.2,
+          rw call.3 (is_legal j log' leads),
+        ),
+      )

@@ -1,5 +1,5 @@
 //! A pool's state, with the history that leads to it.
-ghost use Rattle.std.specs.Prelude.{◌≡◌, ◌+◌, ◌&&◌, [], is_some, nat_le, not};
+ghost use Rattle.std.specs.Prelude.{◌≡◌, ◌+◌, ◌&&◌, [], ◌∷◌, IfOk, is_some, nat_le, not};
 ghost use Rattle.std.specs.Option.{option_or};
 ghost use mathlib.Core.List.{IsPrefix};
 ghost use Rattle.deadpool_chronicle.specs.History.{Calls, calls_by};
@@ -7,48 +7,65 @@ ghost use Rattle.deadpool_desk.specs.CoreSteps.{due_now};
 ghost use Rattle.deadpool_desk.specs.DeskState.{places};
 ghost use Rattle.deadpool_desk.specs.Replies.{Brings, IsOwnerReplyTo, IsReplyTo, Leaves};
 ghost use Rattle.deadpool_journal.specs.ByNumber.{number_in, numbered};
+ghost use Rattle.deadpool_journal.specs.Copies.{HasSteps};
 ghost use Rattle.deadpool_journal.specs.Journaling.{opening};
-ghost use Rattle.deadpool_history.specs.History.{IsRetain, LeadsTo};
+ghost use Rattle.deadpool_journal.specs.LogState.{no_entries};
+ghost use Rattle.deadpool_history.specs.History.{HasCalled, IsBeginning, IsLegal, IsNext, IsRetain};
+ghost use Rattle.deadpool_history.specs.History.{LeadsTo};
+ghost use Rattle.deadpool_history.specs.declared.line.Line.TheVariants as line;
 ghost use Rattle.deadpool_journal.specs.Steps.{MakesNoted, MakesForOwnerNoted, RetainsNoted, TellsUnnoted};
 ghost use Rattle.deadpool_journal.specs.declared.entry.Entry.TheVariants as entry;
 
-use deadpool_chronicle::{Author, Caller, Chronicle, Says};
+use crate::line::Line;
+use deadpool_chronicle::{Author, Beginning, Caller, Chronicle, Says};
 use deadpool_desk::gate::Ticket;
 use deadpool_desk::{
     Desk, OwnerDesk, OwnerReply, OwnerStep, Reply, RetainResult, Retainer, Slot, Step,
 };
-use deadpool_journal::{Entry, Journaled};
+use deadpool_journal::{Journal, Journaled};
 use std::alloc::AllocError;
 use std::marker::Model;
 
 // The entry of a step of a get or an object: the step with the number of its object, and the reply.
 struct ToStep;
 
-impl Says<(Step, Option<usize>), Reply, Entry> for ToStep {
+impl Says<(Step, Option<usize>), Reply, Line> for ToStep {
     ghost use Rattle.std.specs.Prelude.{◌≡◌};
+    ghost use Rattle.deadpool_history.specs.History.{IsNext};
     ghost use Rattle.deadpool_journal.specs.declared.entry.Entry.TheVariants.{Made};
 
-    ghost entry = { λ asked reply _ e. e ≡ Made asked.0 asked.1 reply };
+    ghost entry = { λ asked reply _ line. IsNext (λ e. e ≡ Made asked.0 asked.1 reply) line };
 }
 
 // The entry of a step of the owner.
 struct ToOwnerStep;
 
-impl Says<OwnerStep, OwnerReply, Entry> for ToOwnerStep {
+impl Says<OwnerStep, OwnerReply, Line> for ToOwnerStep {
     ghost use Rattle.std.specs.Prelude.{◌≡◌};
+    ghost use Rattle.deadpool_history.specs.History.{IsNext};
     ghost use Rattle.deadpool_journal.specs.declared.entry.Entry.TheVariants.{Owner};
 
-    ghost entry = { λ step reply _ e. e ≡ Owner step reply };
+    ghost entry = { λ step reply _ line. IsNext (λ e. e ≡ Owner step reply) line };
 }
 
 // The entry of a retain: of those that its reply allows, one by which the history leads to the pool's state. So what
 // was given up, and where it stood, need not be at hand.
 struct ToRetain;
 
-impl<T, G> Says<Journaled<T>, Result<RetainResult<G>, AllocError>, Entry> for ToRetain {
-    ghost use Rattle.deadpool_history.specs.History.{IsRetain, LeadsWith};
+impl<T, G> Says<Journaled<T>, Result<RetainResult<G>, AllocError>, Line> for ToRetain {
+    ghost use Rattle.deadpool_history.specs.History.{IsNext, IsRetain, LeadsWith};
 
-    ghost entry = { λ pool result log e. IsRetain result e × LeadsWith pool log e };
+    ghost entry = { λ pool result log line. IsNext (λ e. IsRetain result e × LeadsWith pool log e) line };
+}
+
+// The first line, of a pool that opens.
+struct ToOpening;
+
+impl<T> Says<Journaled<T>, (), Line> for ToOpening {
+    ghost use Rattle.std.specs.Prelude.{◌≡◌};
+    ghost use Rattle.deadpool_history.specs.declared.line.Line.TheVariants.{Opening};
+
+    ghost entry = { λ pool _ _ line. line ≡ Opening pool.limit pool.mode pool.min_idle };
 }
 
 /// A pool's state with its journal, and who adds to the history. The history's entries are steps of the desk machine,
@@ -56,7 +73,7 @@ impl<T, G> Says<Journaled<T>, Result<RetainResult<G>, AllocError>, Entry> for To
 #[derive(Drop)]
 pub struct Recorded<T, H: Chronicle> {
     pool: Journaled<T>,
-    author: Author<Entry, H>,
+    author: Author<Line, H>,
 }
 
 impl<T, H: Chronicle> Model for Recorded<T, H> {
@@ -80,21 +97,30 @@ fn number_of<T>(hand: &Option<Slot<T>>) -> Option<usize>
 }
 
 impl<T: Drop, H: Chronicle> Recorded<T, H> {
-    /// A pool that has made no step yet, whose history is empty.
-    pub fn new(pool: Journaled<T>, author: Author<Entry, H>) -> Self
+    /// A pool that has made no step yet, whose history has how it opened, and this beginning of the history.
+    pub fn new(
+        pool: Journaled<T>,
+        mut author: Author<Line, H>,
+        first: &mut Caller<Line, H>,
+    ) -> (Self, Beginning<Line, H>)
         requires opened { numbered pool.core.desk ≡ opening pool }
         requires empty { author.log ≡ [] }
-        ensures pool { result.pool ≡ pool }
-        ensures log { result.log ≡ [] }
+        requires unnoted { pool.log ≡ no_entries pool.log.most }
+        ensures pool { result.0.pool ≡ pool }
+        ensures log { result.0.log
+            ≡ (first.old.number, line.Opening pool.limit pool.mode pool.min_idle) ∷ [] }
+        ensures beginning { result.1.log ≡ result.0.log }
     {
-        Recorded { pool, author }
+        author.note::<Journaled<T>, (), ToOpening>(first, &pool, &());
+        let beginning = author.seen();
+        (Recorded { pool, author }, beginning)
     }
 
     /// Makes a step of a get or an object, which is one entry more of its caller's.
     #[inline(always)]
     pub fn make(
         &mut self,
-        caller: &mut Caller<Entry, H>,
+        caller: &mut Caller<Line, H>,
         step: &Step,
         hand: &mut Option<Slot<T>>,
     ) -> Reply
@@ -103,9 +129,12 @@ impl<T: Drop, H: Chronicle> Recorded<T, H> {
         ensures fits { IsReplyTo step.now result }
         ensures hand { Leaves result hand.old hand.new }
         ensures call { Calls
-            (λ e. e ≡ entry.Made step.now (number_in (option_or hand.old hand.new)) result)
+            (IsNext (λ e. e ≡ entry.Made step.now (number_in (option_or hand.old hand.new)) result))
             self.old.log caller.old self.new.log caller.new }
         ensures seen { IsPrefix caller.old.seen self.old.log }
+        ensures called { HasCalled
+            (λ e. e ≡ entry.Made step.now (number_in (option_or hand.old hand.new)) result)
+            caller.old caller.new }
     {
         let Recorded { pool, author, .. } = self;
         let taken = number_of(hand);
@@ -117,12 +146,13 @@ impl<T: Drop, H: Chronicle> Recorded<T, H> {
 
     /// Makes a step of the pool's owner, which is one entry more of its caller's.
     #[inline(always)]
-    pub fn make_for_owner(&mut self, caller: &mut Caller<Entry, H>, step: &OwnerStep) -> OwnerReply
+    pub fn make_for_owner(&mut self, caller: &mut Caller<Line, H>, step: &OwnerStep) -> OwnerReply
         ensures made { MakesForOwnerNoted self.old.pool step.now result self.new.pool }
         ensures fits { IsOwnerReplyTo step.now result }
-        ensures call { Calls (λ e. e ≡ entry.Owner step.now result)
+        ensures call { Calls (IsNext (λ e. e ≡ entry.Owner step.now result))
             self.old.log caller.old self.new.log caller.new }
         ensures seen { IsPrefix caller.old.seen self.old.log }
+        ensures called { HasCalled (λ e. e ≡ entry.Owner step.now result) caller.old caller.new }
     {
         let Recorded { pool, author, .. } = self;
         let reply = pool.make_for_owner(step);
@@ -133,16 +163,17 @@ impl<T: Drop, H: Chronicle> Recorded<T, H> {
     /// Asks `retainer` about each idle object, as `OwnerDesk::retain` does, which is one entry more of the caller's.
     pub fn retain<R: Retainer<T>>(
         &mut self,
-        caller: &mut Caller<Entry, H>,
+        caller: &mut Caller<Line, H>,
         retainer: &mut R,
     ) -> Result<RetainResult<R::Left>, AllocError>
         requires { R.can_call retainer.old }
         ensures can_call { R.can_call retainer.new }
         ensures retained { RetainsNoted R.Retainer
             self.old.pool retainer.old result self.new.pool retainer.new }
-        ensures call { Calls (IsRetain result)
+        ensures call { Calls (IsNext (IsRetain result))
             self.old.log caller.old self.new.log caller.new }
         ensures seen { IsPrefix caller.old.seen self.old.log }
+        ensures called { HasCalled (IsRetain result) caller.old caller.new }
     {
         let Recorded { pool, author, .. } = self;
         let result = pool.retain(retainer);
@@ -153,7 +184,7 @@ impl<T: Drop, H: Chronicle> Recorded<T, H> {
     }
 
     /// Lets a caller in, of which the history has nothing yet. It is no step.
-    pub fn admit(&mut self, caller: &mut Caller<Entry, H>) -> Caller<Entry, H>
+    pub fn admit(&mut self, caller: &mut Caller<Line, H>) -> Caller<Line, H>
         ensures same { self.new ≡ self.old }
         ensures caller { caller.new
             ≡ record caller.old { admitted = caller.old.admitted + 1 } }
@@ -165,17 +196,54 @@ impl<T: Drop, H: Chronicle> Recorded<T, H> {
         author.admit(caller)
     }
 
+    /// What was seen is a beginning of the history. It is no step.
+    pub fn above(&mut self, seen: &Beginning<Line, H>)
+        ensures same { self.new ≡ self.old }
+        ensures seen { IsPrefix seen.now.log self.old.log }
+    {
+        let Recorded { author, .. } = self;
+        author.above(seen);
+    }
+
     /// The history leads from the state that the pool opened with to the one that it has, and has of a caller what the
     /// caller has. It is no step.
-    pub fn audit(&mut self, caller: &mut Caller<Entry, H>)
+    pub fn audit(&mut self, caller: &mut Caller<Line, H>)
         ensures same { self.new ≡ self.old }
         ensures leads { LeadsTo self.old.pool self.old.log }
+        ensures legal { IsLegal self.old.log }
         ensures caller { caller.new ≡ record caller.old { seen = self.old.log } }
         ensures seen { IsPrefix caller.old.seen self.old.log }
         ensures mine { calls_by caller.old.number self.old.log ≡ caller.old.mine }
     {
         let Recorded { author, .. } = self;
         author.audit(caller);
+    }
+
+    /// A copy of the journal. It is no step.
+    pub fn journal(&self) -> Result<Journal, AllocError>
+        ensures limit { IfOk result (λ journal. journal.limit ≡ self.now.pool.limit) }
+        ensures mode { IfOk result (λ journal. journal.mode ≡ self.now.pool.mode) }
+        ensures min_idle { IfOk result (λ journal. journal.min_idle ≡ self.now.pool.min_idle) }
+        ensures entries { IfOk result (λ journal.
+            journal.entries.items ≡ self.now.pool.log.entries) }
+        ensures full { IfOk result (λ journal. journal.full ≡ self.now.pool.log.is_full) }
+        ensures steps { IfOk result HasSteps }
+    {
+        self.pool.journal()
+    }
+
+    /// A copy of the journal, which is a beginning of the history: its entries are those of the first steps, of all of
+    /// them if it is not full. The caller has then seen all of the history.
+    pub fn journal_by(&mut self, caller: &mut Caller<Line, H>) -> Result<Journal, AllocError>
+        ensures same { self.new ≡ self.old }
+        ensures caller { caller.new ≡ record caller.old { seen = self.old.log } }
+        ensures seen { IsPrefix caller.old.seen self.old.log }
+        ensures legal { IsLegal self.old.log }
+        ensures beginning { IfOk result (λ journal. IsBeginning journal self.old.log) }
+        ensures steps { IfOk result HasSteps }
+    {
+        self.audit(caller);
+        self.pool.journal()
     }
 
     /// Whether the pool has closed. It is no step.

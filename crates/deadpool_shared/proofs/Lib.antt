@@ -1,2 +1,4 @@
 -- What the proofs of this crate stand on.
+mod Calls
+mod Lent
 mod Pending

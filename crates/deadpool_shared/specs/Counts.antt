@@ -1,5 +1,7 @@
 -- The three counts of a pool, and what one holder has of them.
-use Rattle.std.specs.Prelude.{ℕ, ◌+◌, ◌-◌, ◌≤◌, ⊤, Option, Some, None}
+use Rattle.std.specs.Prelude.{◌≡◌, ℕ, ◌+◌, ◌-◌, ◌≤◌, ⊤, [], Option, Some, None}
+use Rattle.deadpool_chronicle.specs.History.{Knowing}
+use Rattle.deadpool_history.specs.declared.line.Line.{Line}
 use Rattle.deadpool_journal.specs.Journaling.{Journaling}
 use Rattle.deadpool_managed.specs.Held.{held_at}
 use Rattle.deadpool_managed.specs.Stages.{Stage}
@@ -31,10 +33,28 @@ counts_of holding.Place = counts 1 0 0
 counts_of holding.Creation = counts 0 1 0
 counts_of holding.Object = counts 0 0 1
 
+-- a holder of shares: what it has, and what it knows of the history as a caller
+pub record Holder : Type 0 where
+  pub has : Counts
+  pub caller : Knowing Line
+
 -- what a holder has that maybe was handed out no shares yet
-abbrev pub had : Option Counts → Counts
-had (Some c) = c
+abbrev pub had : Option Holder → Counts
+had (Some h) = h.has
 had None = counts 0 0 0
+
+-- its caller, if it was handed out shares
+abbrev pub caller_of : Option Holder → Option (Knowing Line)
+caller_of (Some h) = Some h.caller
+caller_of None = None
+
+-- a caller that has made no step and has let nobody in yet
+abbrev pub IsNewCaller : Knowing Line → Type 0
+IsNewCaller c = (c.mine ≡ []) × (c.admitted ≡ 0)
+
+-- a holder that has made no step yet and has nothing
+abbrev pub IsNewHolder : Holder → Type 0
+IsNewHolder h = (h.has ≡ counts_of holding.Nothing) × IsNewCaller h.caller
 
 -- what a get holds at a stage, until it has ended and lost its home
 abbrev pub held_by : {H V C R S : Type 0} → Option H → Stage V C R S → Holding

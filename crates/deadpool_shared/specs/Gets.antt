@@ -1,8 +1,63 @@
--- What a get gives to who polls it.
-use Rattle.std.specs.Prelude.{Result, IfOk}
+-- What a get gives to who polls it, and what its poll is at its seat.
+use Rattle.std.specs.Option.{option_or}
+use Rattle.std.specs.Prelude.{◌≡◌, ◌||◌, true, is_some, Option, Some, Result, Ok, Err, IfOk}
+use Rattle.futures.specs.Poll.{OnPending}
+use Rattle.futures.specs.declared.task.Poll.{Poll}
+use Rattle.futures.specs.declared.task.Poll.TheVariants as poll
+use Rattle.deadpool_parts.specs.declared.errors.PoolError.{PoolError}
+use Rattle.deadpool_parts.specs.declared.moment.Moment.{Moment}
+use Rattle.deadpool_desk.specs.declared.desk.Desk.{Ghosts as DeskOf}
+use Rattle.deadpool_desk.specs.declared.slot.Slot.{Slot}
+use Rattle.deadpool_journal.specs.ByNumber.{number_in}
+use Rattle.deadpool_managed.specs.Stages.{Stage}
+use Rattle.deadpool_managed.specs.Steps.{Lent, PollsAt}
+use Rattle.deadpool_managed.specs.declared.get.Turn.{Turn}
+use Rattle.deadpool_managed.specs.declared.get.Turn.TheVariants as turn
+use Rattle.deadpool_managed.specs.declared.kept.Kept.{Kept}
+use Rattle.deadpool_shared.specs.Calling.{CallsFromSeat}
+use Rattle.deadpool_shared.specs.Counts.{Holder, IsKnown, counts_of, had}
 
 module _ {O W E : Type 0} where
   -- What is given comes from an object that is ready. The relation says what comes from which object, the test which
   -- objects are ready.
   abbrev pub GivesReady : (O → W → Type 0) → (O → Type 0) → Result W E → Type 0
   GivesReady comes_from is_ready r = IfOk r (λ w. (o : O) × (is_ready o × comes_from o w))
+
+module _ {O W E H R : Type 0} where
+  -- A get that has ended gives nothing more. An object goes back to the pool that was asked.
+  abbrev pub GivesOnce : (O → W → Type 0) → (O → Type 0) → (O → H) → Option H → Option R → Result W E → Type 0
+  GivesOnce comes_from is_ready home_of home refusal r =
+      ((is_some home || is_some refusal) ≡ true)
+      × GivesReady comes_from (λ o. is_ready o × (home ≡ Some (home_of o))) r
+
+  -- while it is pending it gives no more than it might have given before
+  abbrev pub StaysGiving : (O → W → Type 0) → (O → Type 0) → (O → H) → Option H → Option R → Option H → Option R
+      → Poll (Result W E) → Type 0
+  StaysGiving comes_from is_ready home_of home refusal home' refusal' polled =
+      OnPending polled ((x : Result W E) → GivesOnce comes_from is_ready home_of home' refusal' x
+      → GivesOnce comes_from is_ready home_of home refusal x)
+
+-- the seat of a holder, as a desk: each step is one call of its caller's
+abbrev pub seat_desk : {T : Type 0} → DeskOf (Option Holder) T
+seat_desk = record {
+  holds = λ seat holding. had seat ≡ counts_of holding;
+  makes = λ s step was reply hand s'.
+      IsKnown step reply × CallsFromSeat step (number_in (option_or was hand)) reply s s';
+}
+
+module _ {O W V E : Type 0} (comes_from : O → W → Type 0) (slot_of : O → Slot (Kept V)) (holder_of : O → Holder) where
+  -- how a poll ends: an object that is given takes what the holder has with it, which otherwise stays with the get
+  abbrev pub Ends : Turn V E → Option Holder → Option Holder → Poll (Result W (PoolError E)) → Type 0
+  Ends (turn.Done (Ok slot)) holder left (poll.Ready (Ok w)) =
+      (o : O) × (comes_from o w × (slot_of o ≡ slot) × (holder ≡ Some (holder_of o)))
+  Ends (turn.Done (Err cause)) holder left (poll.Ready (Err given)) = (given ≡ cause) × (left ≡ holder)
+  Ends turn.Pending holder left poll.Pending = left ≡ holder
+  Ends turn.More holder left poll.Pending = left ≡ holder
+  Ends _ _ _ _ = ⊥
+
+  -- One poll of a get between threads: its calls are those of one run of a get's definition, one after the other.
+  abbrev pub PollsFrom : {C R S F A : Type 0} → (Moment → Lent V E C R S F A) → Option Holder → Stage V C R S
+      → Option Holder → Stage V C R S → Poll (Result W (PoolError E)) → Type 0
+  PollsFrom lent holder stage left stage' polled =
+      (now : Moment) × ((came : Turn V E) × ((after : Option Holder)
+      × (PollsAt seat_desk (lent now) holder stage after stage' came × Ends came after left polled)))

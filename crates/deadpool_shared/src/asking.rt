@@ -4,9 +4,10 @@ ghost use Rattle.futures.specs.Poll.{IfReady, OnPending};
 ghost use Rattle.futures.specs.Task.{Hears, IsArmed, Keeps};
 ghost use Rattle.deadpool_managed.specs.Held.{held_at};
 ghost use Rattle.deadpool_managed.specs.Phases.{stage_of};
+ghost use Rattle.deadpool_managed.specs.Steps.{lent};
 ghost use Rattle.deadpool_managed.specs.declared.work.Phase.TheVariants.{Unpolled};
 ghost use Rattle.deadpool_shared.specs.Counts.{counts, counts_of, had, held_by};
-ghost use Rattle.deadpool_shared.specs.Gets.{GivesReady};
+ghost use Rattle.deadpool_shared.specs.Gets.{GivesReady, PollsFrom};
 
 use crate::ledgers::Ledgers;
 use crate::object::{Object, OutStake};
@@ -57,6 +58,7 @@ impl<M: Manager, F: SyncHook<M>, A: AsyncHook<M>, C: Clock, R: Wait + Drop, L: L
         ensures refused { IfErr home
             (λ refusal. (result.home ≡ None) × (result.refusal ≡ Some refusal)) }
         ensures progress { result.progress ≡ record { phase = Unpolled; slot = None } }
+        ensures shares { result.shares ≡ None }
     {
         let (home, refusal) = match home {
             Ok(home) => (Some(home), None),
@@ -94,6 +96,11 @@ impl<M: Manager, F: SyncHook<M>, A: AsyncHook<M>, C: Clock, R: Wait + Drop, L: L
         shared: &Shared<M, F, A, C, R, L>,
         cx: &mut Context<'_>,
     ) -> Poll<Result<W, PoolError<M::Error>>>
+        ensures polled { IfSome self.old.home (λ _.
+            PollsFrom W.from_gives (λ o. o.slot) (λ o. o.out.shares)
+            (λ now. lent M.Manager F.SyncHook A.AsyncHook shared.now.environment now timeouts.now)
+            self.old.shares (stage_of self.old.progress.phase self.old.progress.slot)
+            self.new.shares (stage_of self.new.progress.phase self.new.progress.slot) result) }
         ensures begun { IfReady result
             (λ _. (is_some self.old.home || is_some self.old.refusal) ≡ true) }
         ensures stays { OnPending result ((is_some self.new.home || is_some self.new.refusal)
@@ -196,6 +203,10 @@ fn poll_party<
         ≡ counts_of (held_at (stage_of progress.old.phase progress.old.slot)) }
     ensures backed { had shares.new
         ≡ counts_of (held_by home.new (stage_of progress.new.phase progress.new.slot)) }
+    ensures polled { PollsFrom W.from_gives (λ o. o.slot) (λ o. o.out.shares)
+        (λ now. lent M.Manager F.SyncHook A.AsyncHook shared.now.environment now timeouts.now)
+        shares.old (stage_of progress.old.phase progress.old.slot)
+        shares.new (stage_of progress.new.phase progress.new.slot) result }
     ensures stays { OnPending result (home.new ≡ Some owner) }
     ensures gives { IfReady result (GivesReady W.from_gives
         (λ o. M.is_ready o.slot.value.value × (Some owner ≡ Some o.out.home))) }

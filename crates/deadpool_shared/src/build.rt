@@ -1,7 +1,8 @@
 //! A pool for threads and tasks, built of what its builder was given.
-ghost use Rattle.std.specs.Prelude.{◌≡◌, ◌↔◌, true, IfOk, Err};
+ghost use Rattle.std.specs.Prelude.{◌≡◌, ◌↔◌, [], ◌∷◌, true, IfOk, Err};
 ghost use Rattle.deadpool_parts.specs.declared.errors.BuildError.TheVariants.{NoRuntimeSpecified};
 ghost use Rattle.deadpool_builder.specs.Building.{lacks_any_runtime};
+ghost use Rattle.deadpool_history.specs.declared.line.Line.TheVariants as line;
 
 use crate::ledgers::{Blanks, Ledgers};
 use crate::locked::Locked;
@@ -48,6 +49,8 @@ where
             ≡ record { manager = self.manager; hooks = self.hooks; runtime = self.runtime }) }
         ensures timeouts { IfOk result (λ pool. pool.handle.timeouts ≡ self.timeouts) }
         ensures clock { IfOk result (λ pool. pool.handle.clock ≡ self.clock) }
+        ensures opening { IfOk result (λ pool. pool.handle.opening.log
+            ≡ (0, line.Opening self.max_size self.queue_mode self.min_idle) ∷ []) }
     {
         let PoolParts {
             environment,
@@ -60,11 +63,13 @@ where
             alloc,
         } = self.into_parts()?;
         let pool = Journaled::new(alloc, max_size, queue_mode, journal, min_idle)?;
+        let (locked, opening) = Locked::new(alloc, pool, blanks);
         let shared = Shared {
             environment,
             timeouts,
             clock,
-            lock: StepLock::new(Locked::new(alloc, pool, blanks), rt),
+            opening,
+            lock: StepLock::new(locked, rt),
         };
         Ok(Pool::open(alloc, shared)?)
     }

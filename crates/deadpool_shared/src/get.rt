@@ -1,7 +1,12 @@
 //! A get, as a future: one that counts as a handle of its pool, and one that borrows a handle.
-ghost use Rattle.std.specs.Prelude.{◌≡◌, ◌||◌, ◌⊎◌, true, is_some, Some, None, IfOk, IfSome, IsSome, IsSomeAnd};
+ghost use Rattle.std.specs.Prelude.{◌≡◌, ◌⊎◌, ⊤, Some, None, IfOk, IfSome, IsSome, IsSomeAnd};
+ghost use Rattle.std.specs.Option.{unwrap_or};
+ghost use Rattle.futures.specs.Poll.{IfReady, OnPending};
+ghost use Rattle.futures.specs.Task.{Covers, Keeps};
+ghost use Rattle.deadpool_managed.specs.Phases.{stage_of};
+ghost use Rattle.deadpool_managed.specs.Steps.{lent};
 ghost use Rattle.deadpool_managed.specs.declared.work.Phase.TheVariants.{Unpolled};
-ghost use Rattle.deadpool_shared.specs.Gets.{GivesReady};
+ghost use Rattle.deadpool_shared.specs.Gets.{GivesOnce, PollsFrom, StaysGiving};
 
 use crate::asking::Asking;
 use crate::ledgers::Ledgers;
@@ -57,6 +62,7 @@ impl<M: Manager, F: SyncHook<M>, A: AsyncHook<M>, C: Clock, R: Wait + Drop, L: L
             ⊎ IsSome result.asking.refusal }
         ensures progress { result.asking.progress ≡ record { phase = Unpolled; slot = None } }
         ensures timeouts { result.timeouts ≡ timeouts }
+        ensures shares { result.asking.shares ≡ None }
     {
         let (handle, home) = match begin(pool) {
             Ok((handle, home)) => (Some(handle), Ok(home)),
@@ -99,10 +105,33 @@ where
     ghost needs = { λ get s. IsSomeAnd get.handle (λ handle. s ≡ handle.lock.source.id) };
 
     // A get that has ended gives nothing more. An object goes back to the pool that was asked.
-    ghost gives = { λ get r. ((is_some get.asking.home || is_some get.asking.refusal) ≡ true)
-        × GivesReady W.from_gives (λ o. M.is_ready o.slot.value.value × (get.asking.home ≡ Some o.out.home)) r };
+    ghost gives = { λ get. GivesOnce W.from_gives
+        (λ o. M.is_ready o.slot.value.value) (λ o. o.out.home) get.asking.home get.asking.refusal };
 
-    fn poll(&mut self, cx: &mut Context<'_>) -> Poll<Self::Output> {
+    fn poll(&mut self, cx: &mut Context<'_>) -> Poll<Self::Output>
+        ensures value { IfReady result (GivesOnce W.from_gives
+            (λ o. M.is_ready o.slot.value.value) (λ o. o.out.home)
+            self.old.asking.home self.old.asking.refusal) }
+        ensures again { OnPending result ⊤ }
+        ensures same { StaysGiving W.from_gives
+            (λ o. M.is_ready o.slot.value.value) (λ o. o.out.home)
+            self.old.asking.home self.old.asking.refusal
+            self.new.asking.home self.new.asking.refusal result }
+        ensures registered { OnPending result
+            (Covers cx.new (λ s. IsSomeAnd self.new.handle (λ handle. s ≡ handle.lock.source.id))) }
+        ensures kept { Keeps cx.old cx.new }
+        ensures handle { self.new.handle ≡ self.old.handle }
+        ensures timeouts { self.new.timeouts ≡ self.old.timeouts }
+        ensures home { OnPending result (self.new.asking.home ≡ self.old.asking.home) }
+        ensures polled { IfSome self.old.handle (λ handle. IfSome self.old.asking.home (λ _.
+            PollsFrom W.from_gives (λ o. o.slot) (λ o. o.out.shares)
+            (λ now. lent M.Manager F.SyncHook A.AsyncHook
+            handle.environment now (unwrap_or self.old.timeouts handle.timeouts))
+            self.old.asking.shares
+            (stage_of self.old.asking.progress.phase self.old.asking.progress.slot)
+            self.new.asking.shares
+            (stage_of self.new.asking.progress.phase self.new.asking.progress.slot) result)) }
+    {
         let Some(handle) = &self.handle else {
             return self.asking.poll_without(None, cx);
         };
@@ -151,6 +180,7 @@ impl<
         ensures begun { IsSome result.asking.home ⊎ IsSome result.asking.refusal }
         ensures progress { result.asking.progress ≡ record { phase = Unpolled; slot = None } }
         ensures timeouts { result.timeouts.now ≡ timeouts.now }
+        ensures shares { result.asking.shares ≡ None }
     {
         GetRef {
             asking: Asking::new(handle.uncounted()),
@@ -195,10 +225,33 @@ where
     ghost needs = { λ get s. s ≡ get.handle.now.lock.source.id };
 
     // A get that has ended gives nothing more. An object goes back to the pool that was asked.
-    ghost gives = { λ get r. ((is_some get.asking.home || is_some get.asking.refusal) ≡ true)
-        × GivesReady W.from_gives (λ o. M.is_ready o.slot.value.value × (get.asking.home ≡ Some o.out.home)) r };
+    ghost gives = { λ get. GivesOnce W.from_gives
+        (λ o. M.is_ready o.slot.value.value) (λ o. o.out.home) get.asking.home get.asking.refusal };
 
-    fn poll(&mut self, cx: &mut Context<'_>) -> Poll<Self::Output> {
+    fn poll(&mut self, cx: &mut Context<'_>) -> Poll<Self::Output>
+        ensures value { IfReady result (GivesOnce W.from_gives
+            (λ o. M.is_ready o.slot.value.value) (λ o. o.out.home)
+            self.old.asking.home self.old.asking.refusal) }
+        ensures again { OnPending result ⊤ }
+        ensures same { StaysGiving W.from_gives
+            (λ o. M.is_ready o.slot.value.value) (λ o. o.out.home)
+            self.old.asking.home self.old.asking.refusal
+            self.new.asking.home self.new.asking.refusal result }
+        ensures registered { OnPending result
+            (Covers cx.new (λ s. s ≡ self.new.handle.now.lock.source.id)) }
+        ensures kept { Keeps cx.old cx.new }
+        ensures handle { self.new.handle.now ≡ self.old.handle.now }
+        ensures timeouts { self.new.timeouts.now ≡ self.old.timeouts.now }
+        ensures home { OnPending result (self.new.asking.home ≡ self.old.asking.home) }
+        ensures polled { IfSome self.old.asking.home (λ _.
+            PollsFrom W.from_gives (λ o. o.slot) (λ o. o.out.shares)
+            (λ now. lent M.Manager F.SyncHook A.AsyncHook
+            self.old.handle.now.environment now self.old.timeouts.now)
+            self.old.asking.shares
+            (stage_of self.old.asking.progress.phase self.old.asking.progress.slot)
+            self.new.asking.shares
+            (stage_of self.new.asking.progress.phase self.new.asking.progress.slot) result) }
+    {
         self.asking.poll(self.timeouts, self.handle.shared(), cx)
     }
 }

@@ -17,9 +17,11 @@ mod shares;
 mod steps;
 
 pub use build::Build;
+pub use deadpool_chronicle::Caller;
+pub use deadpool_history::Line;
 pub use deadpool_journal::{Entry, Journal};
 pub use get::{Get, GetRef};
-pub use ledgers::{Blanks, Ledgers};
+pub use ledgers::{Blanks, History, Ledgers};
 pub use object::Object;
 pub use pool::{Pool, WeakPool};
 pub use seat::Seat;

@@ -1,16 +1,29 @@
 //! What the lock of a pool keeps.
-ghost use Rattle.std.specs.Prelude.{◌≡◌, not, is_some, nat_lt, [], None, IfOk, IfSome};
+ghost use Rattle.std.specs.Prelude.{◌≡◌, not, is_some, nat_lt, [], ◌∷◌, None, IfOk, IfSome};
+ghost use Rattle.std.specs.Option.{option_or};
+ghost use mathlib.Core.List.{IsPrefix};
+ghost use Rattle.deadpool_chronicle.specs.History.{calls_by};
 ghost use Rattle.deadpool_desk.specs.CoreSteps.{due_now};
 ghost use Rattle.deadpool_desk.specs.Replies.{Brings, IsOwnerReplyTo, IsReplyTo, Leaves, left_by, needed};
 ghost use Rattle.deadpool_desk.specs.declared.step.Holding.{Holding};
+ghost use Rattle.deadpool_history.specs.History.{HasCalled, IsBeginning, IsLegal, IsRetain};
+ghost use Rattle.deadpool_history.specs.declared.line.Line.TheVariants as line;
+ghost use Rattle.deadpool_journal.specs.ByNumber.{number_in, numbered};
 ghost use Rattle.deadpool_journal.specs.Copies.{HasSteps};
+ghost use Rattle.deadpool_journal.specs.Journaling.{opening};
+ghost use Rattle.deadpool_journal.specs.LogState.{no_entries};
 ghost use Rattle.deadpool_journal.specs.Steps.{MakesNoted, MakesForOwnerNoted, RetainsNoted};
-ghost use Rattle.deadpool_shared.specs.Counts.{AreIn, IsKnown, counts, counts_of, counted, shifted};
+ghost use Rattle.deadpool_journal.specs.declared.entry.Entry.TheVariants as entry;
+ghost use Rattle.deadpool_shared.specs.Calling.{CallsOrRefuses};
+ghost use Rattle.deadpool_shared.specs.Counts.{AreIn, IsKnown, IsNewCaller, IsNewHolder};
+ghost use Rattle.deadpool_shared.specs.Counts.{counts, counts_of, counted, shifted};
 ghost use Rattle.deadpool_shared.specs.Locked.{MakesLocked, TellsLocked, IsCopy};
 
-use crate::ledgers::{Blanks, Ledgers};
+use crate::ledgers::{Blanks, History, Ledgers};
 use crate::shares::{Books, Shares};
 use crate::steps::{left_by, may_wait, needed, ticket_after, ticket_of};
+use deadpool_chronicle::{Beginning, Caller};
+use deadpool_history::{Line, Recorded};
 use deadpool_journal::{Journal, Journaled};
 use deadpool_lock::{Wakers, Wakes};
 use deadpool_managed::{
@@ -19,40 +32,95 @@ use deadpool_managed::{
 use futures::task::Waker;
 use std::alloc::{AllocError, Global};
 
-/// A pool's state with its journal, the books whose totals are its three counts, and the wakers of those in its queue.
+/// A pool's state with its journal and its history, the first caller, which lets the others in, the books whose totals
+/// are the pool's three counts, and the wakers of those in its queue.
 #[derive(Drop)]
 pub struct Locked<T, L: Ledgers> {
-    pool: Journaled<T>,
+    recorded: Recorded<T, History<L>>,
+    first: Caller<Line, History<L>>,
     books: Books<L>,
     wakers: Wakers,
-    ghost counted: { counted pool ≡ books.totals },
+    ghost counted: { counted recorded.pool ≡ books.totals },
 }
 
 impl<T: Drop, L: Ledgers> Locked<T, L> {
-    /// A state that nobody holds anything of, with all parts of three new ledgers.
-    pub fn new(alloc: Global, pool: Journaled<T>, blanks: Blanks) -> Locked<T, L>
+    /// A state that nobody holds anything of, with all parts of three new ledgers, and the beginning of its history,
+    /// which says how it opened.
+    pub fn new(
+        alloc: Global,
+        pool: Journaled<T>,
+        blanks: Blanks,
+    ) -> (Locked<T, L>, Beginning<Line, History<L>>)
         requires empty { counted pool ≡ counts 0 0 0 }
+        requires opened { numbered pool.core.desk ≡ opening pool }
+        requires unnoted { pool.log ≡ no_entries pool.log.most }
         requires opens { blanks ≡ L.names }
-        ensures pool { result.pool ≡ pool }
-        ensures left { result.books.left ≡ u64.MAX }
-        ensures wakers { result.wakers ≡ [] }
+        ensures pool { result.0.recorded.pool ≡ pool }
+        ensures log { result.0.recorded.log
+            ≡ (0, line.Opening pool.limit pool.mode pool.min_idle) ∷ [] }
+        ensures opening { result.1.log ≡ result.0.recorded.log }
+        ensures left { result.0.books.left ≡ u64.MAX }
+        ensures wakers { result.0.wakers ≡ [] }
     {
-        Locked {
-            pool,
-            books: Books::new(blanks),
+        let (ledgers, history) = blanks.into_parts();
+        let (author, mut first) = history.open::<Line, History<L>>();
+        let (recorded, opening) = Recorded::new(pool, author, &mut first);
+        let locked = Locked {
+            recorded,
+            first,
+            books: Books::new(ledgers),
             wakers: Wakers::new(alloc),
-        }
+        };
+        (locked, opening)
     }
 
-    /// Shares for a new get, if a part of each ledger is left. It is no step.
+    /// Shares for a new get, if a part of each ledger is left, with a caller that has made no step yet. It is no step.
     pub fn hand_out(&mut self) -> Option<Shares<L>>
-        ensures shares { IfSome result (λ shares. shares ≡ counts_of Holding.Nothing) }
+        ensures shares { IfSome result IsNewHolder }
         ensures given { is_some result ≡ nat_lt 0 self.old.books.left }
-        ensures pool { self.new.pool ≡ self.old.pool }
+        ensures recorded { self.new.recorded ≡ self.old.recorded }
         ensures wakers { self.new.wakers ≡ self.old.wakers }
     {
+        let caller = self.admit();
         let Locked { books, .. } = self;
-        books.hand_out()
+        books.hand_out(caller)
+    }
+
+    /// The history begins with how the pool opened, and has of a caller what the caller has, which has then seen all of
+    /// it. It is no step.
+    pub fn audit(
+        &mut self,
+        caller: &mut Caller<Line, History<L>>,
+        opening: &Beginning<Line, History<L>>,
+    )
+        ensures recorded { self.new.recorded ≡ self.old.recorded }
+        ensures wakers { self.new.wakers ≡ self.old.wakers }
+        ensures caller { caller.new
+            ≡ record caller.old { seen = self.old.recorded.log } }
+        ensures seen { IsPrefix caller.old.seen caller.new.seen }
+        ensures opened { IsPrefix opening.now.log caller.new.seen }
+        ensures legal { IsLegal caller.new.seen }
+        ensures mine { calls_by caller.old.number caller.new.seen ≡ caller.old.mine }
+    {
+        let Locked { recorded, .. } = self;
+        recorded.above(opening);
+        recorded.audit(caller);
+    }
+
+    /// A caller that has made no step yet. It is no step.
+    pub fn admit(&mut self) -> Caller<Line, History<L>>
+        ensures caller { IsNewCaller result }
+        ensures seen { result.seen ≡ self.old.recorded.log }
+        ensures recorded { self.new.recorded ≡ self.old.recorded }
+        ensures books { self.new.books ≡ self.old.books }
+        ensures wakers { self.new.wakers ≡ self.old.wakers }
+    {
+        let Locked {
+            recorded,
+            first,
+            ..
+        } = self;
+        recorded.admit(first)
     }
 
     /// Makes a step of a get or an object, whose shares are those of what it holds, and gives the reply. A get that
@@ -67,25 +135,31 @@ impl<T: Drop, L: Ledgers> Locked<T, L> {
         waker: &mut Option<Waker>,
     ) -> (Reply, Option<Waker>)
         requires brings { Brings step.now hand.old }
-        requires shares { shares.old ≡ counts_of (needed step.now) }
-        ensures holds { shares.new ≡ counts_of (left_by step.now result.0) }
+        requires shares { shares.old.has ≡ counts_of (needed step.now) }
+        ensures holds { shares.new.has ≡ counts_of (left_by step.now result.0) }
         ensures known { IsKnown step.now result.0 }
         ensures fits { IsReplyTo step.now result.0 }
         ensures hand { Leaves result.0 hand.old hand.new }
-        ensures made { MakesLocked self.old.pool self.old.wakers step.now hand.old waker.old
-            result.0 hand.new self.new.pool self.new.wakers waker.new result.1 }
+        ensures made { MakesLocked self.old.recorded.pool self.old.wakers
+            step.now hand.old waker.old result.0 hand.new
+            self.new.recorded.pool self.new.wakers waker.new result.1 }
+        ensures call { CallsOrRefuses step.now (number_in (option_or hand.old hand.new)) result.0
+            shares.old.caller shares.new.caller }
     {
         let Locked {
-            pool,
+            recorded,
             books,
             wakers,
             ..
         } = self;
-        if may_wait(step) && pool.would_queue() && wakers.make_room(pool.next_ticket()).is_err() {
+        if may_wait(step)
+            && recorded.would_queue()
+            && wakers.make_room(recorded.next_ticket()).is_err()
+        {
             return (Reply::OutOfMemory, None);
         }
         books.audit(shares);
-        let reply = make_counted(pool, step, hand);
+        let reply = make_counted(recorded, &mut shares.caller, step, hand);
         books.shift(shares, needed(step), left_by(step, &reply));
         let spare = wakers.follow(ticket_of(step), ticket_after(&reply), waker);
         (reply, spare)
@@ -93,75 +167,115 @@ impl<T: Drop, L: Ledgers> Locked<T, L> {
 
     /// Makes a step of the pool's owner, and gives the reply. No get's waker comes or goes with it.
     #[inline(always)]
-    pub fn make_for_owner(&mut self, step: &OwnerStep) -> OwnerReply
-        ensures made { MakesForOwnerNoted self.old.pool step.now result self.new.pool }
+    pub fn make_for_owner(
+        &mut self,
+        caller: &mut Caller<Line, History<L>>,
+        step: &OwnerStep,
+    ) -> OwnerReply
+        ensures made { MakesForOwnerNoted self.old.recorded.pool step.now result
+            self.new.recorded.pool }
         ensures fits { IsOwnerReplyTo step.now result }
         ensures wakers { self.new.wakers ≡ self.old.wakers }
+        ensures call { HasCalled (λ e. e ≡ entry.Owner step.now result) caller.old caller.new }
     {
-        let Locked { pool, .. } = self;
-        pool.make_for_owner(step)
+        let Locked { recorded, .. } = self;
+        recorded.make_for_owner(caller, step)
     }
 
     /// Asks `retainer` about each idle object, and gives out what it left of those that were removed and how many
     /// objects stay. If there was no memory for what it leaves, all stay.
     pub fn retain<R: Retainer<T>>(
         &mut self,
+        caller: &mut Caller<Line, History<L>>,
         retainer: &mut R,
     ) -> Result<RetainResult<R::Left>, AllocError>
         requires { R.can_call retainer.old }
         ensures can_call { R.can_call retainer.new }
         ensures retained { RetainsNoted R.Retainer
-            self.old.pool retainer.old result self.new.pool retainer.new }
+            self.old.recorded.pool retainer.old result self.new.recorded.pool retainer.new }
         ensures wakers { self.new.wakers ≡ self.old.wakers }
+        ensures call { HasCalled (IsRetain result) caller.old caller.new }
     {
-        let Locked { pool, .. } = self;
-        pool.retain(retainer)
+        let Locked { recorded, .. } = self;
+        recorded.retain(caller, retainer)
     }
 
     /// It is no step.
     pub fn is_closed(&self) -> bool
-        ensures { result ≡ not self.now.pool.core.desk.is_open }
+        ensures { result ≡ not self.now.recorded.pool.core.desk.is_open }
     {
-        self.pool.is_closed()
+        self.recorded.is_closed()
     }
 
     /// A copy of the journal. It is no step.
     pub fn journal(&self) -> Result<Journal, AllocError>
-        ensures copy { IfOk result (IsCopy self.now.pool) }
+        ensures copy { IfOk result (IsCopy self.now.recorded.pool) }
         ensures steps { IfOk result HasSteps }
     {
-        self.pool.journal()
+        self.recorded.journal()
+    }
+
+    /// A copy of the journal, which is a beginning of the history. The caller has then seen all of that. It is no step.
+    pub fn journal_by(
+        &mut self,
+        caller: &mut Caller<Line, History<L>>,
+    ) -> Result<Journal, AllocError>
+        ensures recorded { self.new.recorded ≡ self.old.recorded }
+        ensures wakers { self.new.wakers ≡ self.old.wakers }
+        ensures caller { caller.new
+            ≡ record caller.old { seen = self.old.recorded.log } }
+        ensures seen { IsPrefix caller.old.seen caller.new.seen }
+        ensures legal { IsLegal caller.new.seen }
+        ensures beginning { IfOk result (λ journal. IsBeginning journal caller.new.seen) }
+        ensures steps { IfOk result HasSteps }
+    {
+        let Locked { recorded, .. } = self;
+        recorded.journal_by(caller)
     }
 }
 
 // Neither is a step.
 impl<T: Drop, L: Ledgers> Wakes for Locked<T, L> {
     fn is_wake_due(&self) -> bool
-        ensures { result ≡ is_some (due_now self.now.pool.core) }
+        ensures { result ≡ is_some (due_now self.now.recorded.pool.core) }
     {
-        self.pool.is_wake_due()
+        self.recorded.is_wake_due()
     }
 
     fn take_wake(&mut self) -> Option<Waker>
-        ensures { TellsLocked self.old.pool self.old.wakers result self.new.pool self.new.wakers }
+        ensures { TellsLocked self.old.recorded.pool self.old.wakers result
+            self.new.recorded.pool self.new.wakers }
     {
-        let Locked { pool, wakers, .. } = self;
-        let ticket = pool.take_wake()?;
+        let Locked {
+            recorded,
+            wakers,
+            ..
+        } = self;
+        let ticket = recorded.take_wake()?;
         wakers.take(ticket)
     }
 }
 
 // A step of a holder whose share is in the pool's counts. They have what the reply leaves it.
 #[inline(always)]
-fn make_counted<T: Drop>(pool: &mut Journaled<T>, step: &Step, hand: &mut Option<Slot<T>>) -> Reply
+fn make_counted<T: Drop, L: Ledgers>(
+    recorded: &mut Recorded<T, History<L>>,
+    caller: &mut Caller<Line, History<L>>,
+    step: &Step,
+    hand: &mut Option<Slot<T>>,
+) -> Reply
     requires brings { Brings step.now hand.old }
-    requires shares { AreIn (counts_of (needed step.now)) (counted pool.old) }
-    ensures made { MakesNoted pool.old step.now hand.old result hand.new pool.new }
+    requires shares { AreIn (counts_of (needed step.now)) (counted recorded.old.pool) }
+    ensures made { MakesNoted
+        recorded.old.pool step.now hand.old result hand.new recorded.new.pool }
     ensures fits { IsReplyTo step.now result }
     ensures hand { Leaves result hand.old hand.new }
     ensures known { IsKnown step.now result }
-    ensures counts { counted pool.new
-        ≡ shifted (needed step.now) (left_by step.now result) (counted pool.old) }
+    ensures counts { counted recorded.new.pool
+        ≡ shifted (needed step.now) (left_by step.now result) (counted recorded.old.pool) }
+    ensures called { HasCalled
+        (λ e. e ≡ entry.Made step.now (number_in (option_or hand.old hand.new)) result)
+        caller.old caller.new }
 {
-    pool.make(step, hand)
+    recorded.make(caller, step, hand)
 }

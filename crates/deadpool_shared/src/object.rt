@@ -1,15 +1,21 @@
 //! An object that is out.
-ghost use Rattle.std.specs.Prelude.{◌≡◌, IfOk, IfSome};
+ghost use Rattle.std.specs.Prelude.{◌≡◌, Some, None, IfOk, IfSome};
 ghost use Rattle.deadpool_managed.specs.Answers.{LeavesOrKeeps};
 ghost use Rattle.deadpool_managed.specs.Prepare.{with_value};
 ghost use Rattle.deadpool_desk.specs.declared.step.Holding.{Holding};
+ghost use Rattle.deadpool_desk.specs.declared.step.Reply.{Reply};
+ghost use Rattle.deadpool_desk.specs.declared.step.Step.TheVariants as step;
+ghost use Rattle.deadpool_history.specs.History.{HasCalled};
+ghost use Rattle.deadpool_journal.specs.declared.entry.Entry.TheVariants as entry;
 ghost use Rattle.deadpool_shared.specs.Counts.{counts, counts_of};
 
-use crate::ledgers::Ledgers;
+use crate::ledgers::{History, Ledgers};
 use crate::pool::Pool;
 use crate::seat::Seat;
 use crate::shared::Shared;
 use crate::shares::Shares;
+use deadpool_chronicle::Caller;
+use deadpool_history::Line;
 use deadpool_lock::{Home, Listener};
 use deadpool_managed::{
     AsyncHook, Clock, Desk, Kept, Manager, Metrics, ObjectId, Reply, Slot, Step, SyncHook,
@@ -29,7 +35,7 @@ pub(crate) struct OutStake<
 > {
     pub(crate) home: Home<Shared<M, F, A, C, R, L>>,
     pub(crate) shares: Shares<L>,
-    ghost is_out: { shares ≡ counts_of Holding.Object },
+    ghost is_out: { shares.has ≡ counts_of Holding.Object },
 }
 
 impl<M: Manager, F: SyncHook<M>, A: AsyncHook<M>, C: Clock, R: Wait + Drop, L: Ledgers> OutStake<
@@ -41,8 +47,9 @@ impl<M: Manager, F: SyncHook<M>, A: AsyncHook<M>, C: Clock, R: Wait + Drop, L: L
     L,
 > {
     pub(crate) fn new(home: Home<Shared<M, F, A, C, R, L>>, shares: Shares<L>) -> Self
-        requires { shares ≡ counts_of Holding.Object }
+        requires { shares.has ≡ counts_of Holding.Object }
         ensures home { result.home ≡ home }
+        ensures shares { result.shares ≡ shares }
     {
         OutStake { home, shares }
     }
@@ -76,6 +83,17 @@ impl<M: Manager, F: SyncHook<M>, A: AsyncHook<M>, C: Clock, R: Wait + Drop, L: L
         ensures { LeavesOrKeeps (M.may_detach this.out.home.environment.manager)
             this.slot.value.value result }
     {
+        let (value, _) = Object::take_by(this);
+        value
+    }
+
+    /// `take`, and the caller that the history has it of, with the steps of the object and of the get before it.
+    pub fn take_by(this: Self) -> (M::Type, Caller<Line, History<L>>)
+        ensures value { LeavesOrKeeps (M.may_detach this.out.home.environment.manager)
+            this.slot.value.value result.0 }
+        ensures call { (reply : Reply) × HasCalled (λ e. e ≡ entry.Made step.Take None reply)
+            this.out.shares.caller result.1 }
+    {
         let Self { out, slot } = this;
         let OutStake { home, shares } = out;
         let mut listener = Listener::new();
@@ -83,11 +101,40 @@ impl<M: Manager, F: SyncHook<M>, A: AsyncHook<M>, C: Clock, R: Wait + Drop, L: L
         let mut value = slot.value.value;
         let mut hand = None;
         let reply = seat.make(&Step::Take, &mut hand);
-        seat.leave();
+        let Some(caller) = seat.leave() else {
+            unreachable!();
+        };
         if let Reply::Taken { detach: true } = reply {
             home.shared().environment.manager.detach(&mut value);
         }
-        value
+        (value, caller)
+    }
+
+    /// Gives the object back, as its drop does, and the caller that the history has it of, with the steps of the object
+    /// and of the get before it.
+    pub fn give_back(this: Self) -> Caller<Line, History<L>>
+        ensures { (reply : Reply)
+            × HasCalled (λ e. e ≡ entry.Made step.Back (Some this.slot.number) reply)
+            this.out.shares.caller result }
+    {
+        let Self { out, slot } = this;
+        let OutStake { home, shares } = out;
+        let mut listener = Listener::new();
+        let mut seat = Seat::new(home.shared(), Some(shares), &mut listener);
+        let mut hand = Some(slot);
+        let reply = seat.make(&Step::Back, &mut hand);
+        let Some(caller) = seat.leave() else {
+            unreachable!();
+        };
+        if reply == Reply::Detach {
+            if let Some(mut slot) = hand {
+                home.shared()
+                    .environment
+                    .manager
+                    .detach(&mut slot.value.value);
+            }
+        }
+        caller
     }
 
     /// The object's identifier.
@@ -116,21 +163,7 @@ impl<M: Manager, F: SyncHook<M>, A: AsyncHook<M>, C: Clock, R: Wait + Drop, L: L
 impl<M: Manager, F: SyncHook<M>, A: AsyncHook<M>, C: Clock, R: Wait + Drop, L: Ledgers> Drop
     for Object<M, F, A, C, R, L> {
     fn drop(self) {
-        let Self { out, slot } = self;
-        let OutStake { home, shares } = out;
-        let mut listener = Listener::new();
-        let mut seat = Seat::new(home.shared(), Some(shares), &mut listener);
-        let mut hand = Some(slot);
-        let reply = seat.make(&Step::Back, &mut hand);
-        seat.leave();
-        if reply == Reply::Detach {
-            if let Some(mut slot) = hand {
-                home.shared()
-                    .environment
-                    .manager
-                    .detach(&mut slot.value.value);
-            }
-        }
+        Object::give_back(self);
     }
 }
 

@@ -1,14 +1,24 @@
 //! The handles of a pool.
 ghost use Rattle.std.specs.Prelude.{◌≡◌, ◌⊎◌, Some, None, IfOk, IfSome, IsSome};
+ghost use mathlib.Core.List.{IsPrefix};
+ghost use Rattle.deadpool_chronicle.specs.History.{calls_by};
+ghost use Rattle.deadpool_desk.specs.declared.owner_step.OwnerReply.TheVariants as reply;
+ghost use Rattle.deadpool_desk.specs.declared.owner_step.OwnerStep.TheVariants as step;
+ghost use Rattle.deadpool_history.specs.History.{HasCalled, IsBeginning, IsLegal, IsRetain};
 ghost use Rattle.deadpool_journal.specs.Copies.{HasSteps};
+ghost use Rattle.deadpool_journal.specs.declared.entry.Entry.TheVariants as entry;
 ghost use Rattle.deadpool_managed.specs.declared.work.Phase.TheVariants.{Unpolled};
 ghost use Rattle.deadpool_builder.specs.Building.{newly};
+ghost use Rattle.deadpool_shared.specs.Calling.{IsResize};
+ghost use Rattle.deadpool_shared.specs.Counts.{IsNewCaller};
 
 use crate::get::{Get, GetRef};
-use crate::ledgers::Ledgers;
+use crate::ledgers::{History, Ledgers};
 use crate::object::Object;
 use crate::shared::Shared;
 use deadpool_builder::PoolBuilder;
+use deadpool_chronicle::Caller;
+use deadpool_history::Line;
 use deadpool_journal::Journal;
 use deadpool_lock::{Handle, Home};
 use deadpool_managed::{
@@ -124,6 +134,7 @@ impl<M: Manager, F: SyncHook<M>, A: AsyncHook<M>, C: Clock, R: Wait + Drop, L: L
             ⊎ IsSome result.asking.refusal }
         ensures progress { result.asking.progress ≡ record { phase = Unpolled; slot = None } }
         ensures timeouts { result.timeouts ≡ None }
+        ensures shares { result.asking.shares ≡ None }
     {
         Get::new(&self.handle, None)
     }
@@ -136,6 +147,7 @@ impl<M: Manager, F: SyncHook<M>, A: AsyncHook<M>, C: Clock, R: Wait + Drop, L: L
             ⊎ IsSome result.asking.refusal }
         ensures progress { result.asking.progress ≡ record { phase = Unpolled; slot = None } }
         ensures timeouts { result.timeouts ≡ Some timeouts.now }
+        ensures shares { result.asking.shares ≡ None }
     {
         Get::new(&self.handle, Some(*timeouts))
     }
@@ -147,6 +159,7 @@ impl<M: Manager, F: SyncHook<M>, A: AsyncHook<M>, C: Clock, R: Wait + Drop, L: L
         ensures begun { IsSome result.asking.home ⊎ IsSome result.asking.refusal }
         ensures progress { result.asking.progress ≡ record { phase = Unpolled; slot = None } }
         ensures timeouts { result.timeouts.now ≡ self.now.handle.timeouts }
+        ensures shares { result.asking.shares ≡ None }
     {
         GetRef::new(&self.handle, &self.handle.shared().timeouts)
     }
@@ -158,6 +171,7 @@ impl<M: Manager, F: SyncHook<M>, A: AsyncHook<M>, C: Clock, R: Wait + Drop, L: L
         ensures begun { IsSome result.asking.home ⊎ IsSome result.asking.refusal }
         ensures progress { result.asking.progress ≡ record { phase = Unpolled; slot = None } }
         ensures timeouts { result.timeouts.now ≡ timeouts.now }
+        ensures shares { result.asking.shares ≡ None }
     {
         GetRef::new(&self.handle, timeouts)
     }
@@ -170,6 +184,22 @@ impl<M: Manager, F: SyncHook<M>, A: AsyncHook<M>, C: Clock, R: Wait + Drop, L: L
         match self.handle.shared().make_for_owner(&step) {
             OwnerReply::OutOfMemory => Err(AllocError),
             _ => Ok(()),
+        }
+    }
+
+    /// `resize` by a caller that the history has it of.
+    pub fn resize_by(
+        &self,
+        caller: &mut Caller<Line, History<L>>,
+        limit: usize,
+    ) -> Result<(), AllocError>
+        ensures { HasCalled (IsResize limit result) caller.old caller.new }
+    {
+        let step = OwnerStep::Resize { limit };
+        match self.handle.shared().make_for_owner_by(caller, &step) {
+            OwnerReply::OutOfMemory => Err(AllocError),
+            OwnerReply::Done => Ok(()),
+            _ => unreachable!(),
         }
     }
 
@@ -188,6 +218,44 @@ impl<M: Manager, F: SyncHook<M>, A: AsyncHook<M>, C: Clock, R: Wait + Drop, L: L
             manager: self.manager(),
         };
         self.handle.shared().retain(&mut retainer)
+    }
+
+    /// `retain` by a caller that the history has it of.
+    pub fn retain_by<P: FnMut(&M::Type, Metrics) -> bool + Drop>(
+        &self,
+        caller: &mut Caller<Line, History<L>>,
+        predicate: P,
+    ) -> Result<RetainResult<M::Type>, AllocError>
+        requires { P.IsAlwaysCallable predicate }
+        ensures { HasCalled (IsRetain result) caller.old caller.new }
+    {
+        let mut retainer = ByPredicate {
+            predicate,
+            manager: self.manager(),
+        };
+        self.handle.shared().retain_by(caller, &mut retainer)
+    }
+
+    /// A caller that the history has nothing of yet, for calls of its own. It takes no bytes.
+    pub fn caller(&self) -> Caller<Line, History<L>>
+        ensures { IsNewCaller result }
+    {
+        self.handle.shared().caller()
+    }
+
+    /// The history is legal, begins with how the pool opened, and has of two callers what they have, which have then
+    /// seen all of it. It is no step.
+    pub fn audit(&self, one: &mut Caller<Line, History<L>>, two: &mut Caller<Line, History<L>>)
+        ensures one { one.new ≡ record one.old { seen = one.new.seen } }
+        ensures two { two.new ≡ record two.old { seen = one.new.seen } }
+        ensures seen_by_one { IsPrefix one.old.seen one.new.seen }
+        ensures seen_by_two { IsPrefix two.old.seen one.new.seen }
+        ensures opened { IsPrefix self.now.handle.opening.log one.new.seen }
+        ensures legal { IsLegal one.new.seen }
+        ensures calls_of_one { calls_by one.old.number one.new.seen ≡ one.old.mine }
+        ensures calls_of_two { calls_by two.old.number one.new.seen ≡ two.old.mine }
+    {
+        self.handle.shared().audit(one, two);
     }
 
     /// The timeouts that the pool was built with.
@@ -211,6 +279,19 @@ impl<M: Manager, F: SyncHook<M>, A: AsyncHook<M>, C: Clock, R: Wait + Drop, L: L
         self.handle.shared().make_for_owner(&OwnerStep::Close);
     }
 
+    /// `close` by a caller that the history has it of.
+    pub fn close_by(&self, caller: &mut Caller<Line, History<L>>)
+        ensures { HasCalled (λ e. e ≡ entry.Owner step.Close reply.Done) caller.old caller.new }
+    {
+        let OwnerReply::Done = self
+            .handle
+            .shared()
+            .make_for_owner_by(caller, &OwnerStep::Close)
+        else {
+            unreachable!();
+        };
+    }
+
     /// Whether the pool was closed.
     pub fn is_closed(&self) -> bool {
         self.handle.shared().is_closed()
@@ -221,12 +302,32 @@ impl<M: Manager, F: SyncHook<M>, A: AsyncHook<M>, C: Clock, R: Wait + Drop, L: L
         self.handle.shared().status()
     }
 
+    /// `status` by a caller that the history has it of.
+    pub fn status_by(&self, caller: &mut Caller<Line, History<L>>) -> Status
+        ensures { HasCalled (λ e. e ≡ entry.Owner step.Status (reply.Stands result))
+            caller.old caller.new }
+    {
+        self.handle.shared().status_by(caller)
+    }
+
     /// A copy of the pool's journal: the state that the pool opened with, and its first steps since, each with the
     /// reply that it got. `AllocError` says that there was no memory for the copy.
     pub fn journal(&self) -> Result<Journal, AllocError>
         ensures { IfOk result HasSteps }
     {
         self.handle.shared().journal()
+    }
+
+    /// `journal`, which is a beginning of the history: its entries are those of the first steps, of all of them if it
+    /// is not full. The caller has then seen all of the history.
+    pub fn journal_by(&self, caller: &mut Caller<Line, History<L>>) -> Result<Journal, AllocError>
+        ensures caller { caller.new ≡ record caller.old { seen = caller.new.seen } }
+        ensures seen { IsPrefix caller.old.seen caller.new.seen }
+        ensures legal { IsLegal caller.new.seen }
+        ensures beginning { IfOk result (λ journal. IsBeginning journal caller.new.seen) }
+        ensures steps { IfOk result HasSteps }
+    {
+        self.handle.shared().journal_by(caller)
     }
 
     /// A handle that is not counted. `AllocError` says that there was no memory for it.

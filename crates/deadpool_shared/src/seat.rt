@@ -1,11 +1,17 @@
 //! The lock of a pool, with what one holder has.
 ghost use Rattle.std.specs.Prelude.{◌≡◌};
+ghost use Rattle.std.specs.Option.{option_or};
 ghost use Rattle.deadpool_desk.specs.declared.step.Holding.{Holding};
-ghost use Rattle.deadpool_shared.specs.Counts.{IsKnown, counts_of, had};
+ghost use Rattle.deadpool_journal.specs.ByNumber.{number_in};
+ghost use Rattle.deadpool_shared.specs.Calling.{CallsFromSeat, IsSupplied};
+ghost use Rattle.deadpool_shared.specs.Counts.{IsKnown, caller_of, counts_of, had};
 
-use crate::ledgers::Ledgers;
+use crate::ledgers::{History, Ledgers};
+use crate::locked::Locked;
 use crate::shared::Shared;
 use crate::shares::Shares;
+use deadpool_chronicle::Caller;
+use deadpool_history::Line;
 use deadpool_lock::Listener;
 use deadpool_managed::{AsyncHook, Clock, Desk, Kept, Manager, Reply, Slot, Step, SyncHook};
 use std::marker::Model;
@@ -14,9 +20,9 @@ use std::sync::Wait;
 /// The lock of a pool, which is lent it, with the shares of one get or object, and what the get hears by. Each step is
 /// one section of the lock. After it, with the lock given back, the wakers are called of the gets that it made due.
 ///
-/// A get without shares is handed out some as it enters. Contracts see a seat as its shares. A step that lowers a
-/// count asks that the shares have what it lowers, and is then never answered `Unknown`. A seat cannot be dropped,
-/// since its shares cannot.
+/// A get without shares is handed out some as it enters. Contracts see a seat as its shares, if it has some. A step
+/// that lowers a count asks that the shares have what it lowers, and is then never answered `Unknown`. A seat cannot
+/// be dropped, since its shares cannot.
 pub struct Seat<
     'a,
     M: Manager,
@@ -34,26 +40,26 @@ pub struct Seat<
 
 impl<'a, M: Manager, F: SyncHook<M>, A: AsyncHook<M>, C: Clock, R: Wait + Drop, L: Ledgers> Model
     for Seat<'a, M, F, A, C, R, L> {
-    ghost use Rattle.deadpool_shared.specs.Counts.{Counts, had};
+    ghost use Rattle.std.specs.Prelude.{Option};
+    ghost use Rattle.deadpool_shared.specs.Counts.{Holder};
 
-    ghost Value = { Counts };
+    ghost Value = { Option Holder };
 
-    ghost view = { λ s. had s.shares };
+    ghost view = { λ s. s.shares };
 }
 
 impl<'a, M: Manager, F: SyncHook<M>, A: AsyncHook<M>, C: Clock, R: Wait + Drop, L: Ledgers> Desk<
     Kept<M::Type>,
 > for Seat<'a, M, F, A, C, R, L> {
-    ghost holds = { λ seat holding. seat ≡ counts_of holding };
+    ghost holds = { λ seat holding. had seat ≡ counts_of holding };
 
-    ghost makes = { λ _ step _ reply _ _. IsKnown step reply };
+    ghost makes = { λ s step was reply hand s'. IsKnown step reply
+        × CallsFromSeat step (number_in (option_or was hand)) reply s s' };
 
     #[inline(always)]
     fn make(&mut self, step: &Step, hand: &mut Option<Slot<Kept<M::Type>>>) -> Reply {
         let mut section = self.shared.lock.begin();
-        if self.shares.is_none() {
-            Shares::put(&mut self.shares, section.kept().hand_out());
-        }
+        supply(section.kept(), &mut self.shares);
         let (reply, spare) = match &mut self.shares {
             Some(shares) => section
                 .kept()
@@ -86,7 +92,7 @@ impl<'a, M: Manager, F: SyncHook<M>, A: AsyncHook<M>, C: Clock, R: Wait + Drop, 
         shares: Option<Shares<L>>,
         listener: &'a mut Listener,
     ) -> Self
-        ensures { result ≡ had shares }
+        ensures { result ≡ shares }
     {
         Seat {
             shared,
@@ -95,16 +101,17 @@ impl<'a, M: Manager, F: SyncHook<M>, A: AsyncHook<M>, C: Clock, R: Wait + Drop, 
         }
     }
 
-    // Uses up a seat whose holder has given back what it had.
-    pub(crate) fn leave(self)
-        requires nothing { self ≡ counts_of Holding.Nothing }
+    // Uses up a seat whose holder has given back what it had, and gives its caller back.
+    pub(crate) fn leave(self) -> Option<Caller<Line, History<L>>>
+        requires nothing { had self ≡ counts_of Holding.Nothing }
+        ensures { result ≡ caller_of self.entry }
     {
-        Shares::hand_in(self.into_shares());
+        Shares::hand_in(self.into_shares())
     }
 
     // What is left with the seat's holder.
     pub(crate) fn into_shares(self) -> Option<Shares<L>>
-        ensures { had result ≡ self.entry }
+        ensures { result ≡ self.entry }
     {
         let Seat {
             shared: _,
@@ -112,5 +119,16 @@ impl<'a, M: Manager, F: SyncHook<M>, A: AsyncHook<M>, C: Clock, R: Wait + Drop, 
             listener: _,
         } = self;
         shares
+    }
+}
+
+// Hands shares out to a holder that has none yet, if some are left.
+#[inline(always)]
+fn supply<T: Drop, L: Ledgers>(locked: &mut Locked<T, L>, shares: &mut Option<Shares<L>>)
+    ensures same { had shares.new ≡ had shares.old }
+    ensures supplied { IsSupplied shares.old shares.new }
+{
+    if shares.is_none() {
+        Shares::put(shares, locked.hand_out());
     }
 }

@@ -1,10 +1,19 @@
 //! What the handles of a pool share.
-ghost use Rattle.std.specs.Prelude.{IfOk};
+ghost use Rattle.std.specs.Prelude.{◌≡◌, IfOk};
+ghost use mathlib.Core.List.{IsPrefix};
+ghost use Rattle.deadpool_chronicle.specs.History.{calls_by};
 ghost use Rattle.deadpool_desk.specs.Replies.{IsOwnerReplyTo};
+ghost use Rattle.deadpool_desk.specs.declared.owner_step.OwnerReply.TheVariants as reply;
+ghost use Rattle.deadpool_desk.specs.declared.owner_step.OwnerStep.TheVariants as step;
+ghost use Rattle.deadpool_history.specs.History.{HasCalled, IsBeginning, IsLegal, IsRetain};
 ghost use Rattle.deadpool_journal.specs.Copies.{HasSteps};
+ghost use Rattle.deadpool_journal.specs.declared.entry.Entry.TheVariants as entry;
+ghost use Rattle.deadpool_shared.specs.Counts.{IsNewCaller};
 
-use crate::ledgers::Ledgers;
+use crate::ledgers::{History, Ledgers};
 use crate::locked::Locked;
+use deadpool_chronicle::{Beginning, Caller};
+use deadpool_history::Line;
 use deadpool_journal::Journal;
 use deadpool_lock::{Counted, StepLock};
 use deadpool_managed::{
@@ -29,6 +38,8 @@ pub struct Shared<
     /// Those of a get that is started without its own.
     pub timeouts: Timeouts,
     pub clock: C,
+    /// The beginning of the history, which says how the pool opened.
+    pub opening: Beginning<Line, History<L>>,
     pub lock: StepLock<Locked<Kept<M::Type>, L>, R>,
 }
 
@@ -40,21 +51,75 @@ impl<M: Manager, F: SyncHook<M>, A: AsyncHook<M>, C: Clock, R: Wait + Drop, L: L
     R,
     L,
 > {
+    /// A caller that has made no step yet. It is no step.
+    pub fn caller(&self) -> Caller<Line, History<L>>
+        ensures { IsNewCaller result }
+    {
+        self.lock.look().admit()
+    }
+
+    /// The history is legal, begins with how the pool opened, and has of two callers what they have, which have then
+    /// seen all of it. It is no step.
+    pub fn audit(&self, one: &mut Caller<Line, History<L>>, two: &mut Caller<Line, History<L>>)
+        ensures one { one.new ≡ record one.old { seen = one.new.seen } }
+        ensures two { two.new ≡ record two.old { seen = one.new.seen } }
+        ensures seen_by_one { IsPrefix one.old.seen one.new.seen }
+        ensures seen_by_two { IsPrefix two.old.seen one.new.seen }
+        ensures opened { IsPrefix self.now.opening.log one.new.seen }
+        ensures legal { IsLegal one.new.seen }
+        ensures calls_of_one { calls_by one.old.number one.new.seen ≡ one.old.mine }
+        ensures calls_of_two { calls_by two.old.number one.new.seen ≡ two.old.mine }
+    {
+        let mut locked = self.lock.look();
+        locked.audit(one, &self.opening);
+        locked.audit(two, &self.opening);
+    }
+
     /// Makes a step of the pool's owner, and gives the reply. Idle objects that go are dropped with the lock taken.
     /// Gets that the step made due are told.
+    #[inline(always)]
+    pub fn make_for_owner_by(
+        &self,
+        caller: &mut Caller<Line, History<L>>,
+        step: &OwnerStep,
+    ) -> OwnerReply
+        ensures fits { IsOwnerReplyTo step.now result }
+        ensures call { HasCalled (λ e. e ≡ entry.Owner step.now result) caller.old caller.new }
+    {
+        let mut locked = self.lock.begin();
+        let reply = locked.kept().make_for_owner(caller, step);
+        self.lock.end(locked);
+        reply
+    }
+
+    /// The same by a new caller.
     #[inline(always)]
     pub fn make_for_owner(&self, step: &OwnerStep) -> OwnerReply
         ensures { IsOwnerReplyTo step.now result }
     {
         let mut locked = self.lock.begin();
-        let reply = locked.kept().make_for_owner(step);
+        let mut caller = locked.kept().admit();
+        let reply = locked.kept().make_for_owner(&mut caller, step);
         self.lock.end(locked);
         reply
     }
 
     /// How the pool stands, which the journal notes. It makes nobody due.
+    pub fn status_by(&self, caller: &mut Caller<Line, History<L>>) -> Status
+        ensures { HasCalled (λ e. e ≡ entry.Owner step.Status (reply.Stands result))
+            caller.old caller.new }
+    {
+        match self.lock.look().make_for_owner(caller, &OwnerStep::Status) {
+            OwnerReply::Stands(status) => status,
+            _ => unreachable!(),
+        }
+    }
+
+    /// The same by a new caller.
     pub fn status(&self) -> Status {
-        match self.lock.look().make_for_owner(&OwnerStep::Status) {
+        let mut locked = self.lock.look();
+        let mut caller = locked.admit();
+        match locked.make_for_owner(&mut caller, &OwnerStep::Status) {
             OwnerReply::Stands(status) => status,
             _ => unreachable!(),
         }
@@ -72,7 +137,34 @@ impl<M: Manager, F: SyncHook<M>, A: AsyncHook<M>, C: Clock, R: Wait + Drop, L: L
         self.lock.look().journal()
     }
 
+    /// The same, which is a beginning of the history. The caller has then seen all of that.
+    pub fn journal_by(&self, caller: &mut Caller<Line, History<L>>) -> Result<Journal, AllocError>
+        ensures caller { caller.new ≡ record caller.old { seen = caller.new.seen } }
+        ensures seen { IsPrefix caller.old.seen caller.new.seen }
+        ensures legal { IsLegal caller.new.seen }
+        ensures beginning { IfOk result (λ journal. IsBeginning journal caller.new.seen) }
+        ensures steps { IfOk result HasSteps }
+    {
+        self.lock.look().journal_by(caller)
+    }
+
     /// Gives up the idle objects that are not kept. The retainer is asked with the lock taken.
+    pub fn retain_by<K: Retainer<Kept<M::Type>>>(
+        &self,
+        caller: &mut Caller<Line, History<L>>,
+        retainer: &mut K,
+    ) -> Result<RetainResult<K::Left>, AllocError>
+        requires { K.can_call retainer.old }
+        ensures can_call { K.can_call retainer.new }
+        ensures call { HasCalled (IsRetain result) caller.old caller.new }
+    {
+        let mut step = self.lock.begin();
+        let retained = step.kept().retain(caller, retainer);
+        self.lock.end(step);
+        retained
+    }
+
+    /// The same by a new caller.
     pub fn retain<K: Retainer<Kept<M::Type>>>(
         &self,
         retainer: &mut K,
@@ -81,7 +173,8 @@ impl<M: Manager, F: SyncHook<M>, A: AsyncHook<M>, C: Clock, R: Wait + Drop, L: L
         ensures { K.can_call retainer.new }
     {
         let mut step = self.lock.begin();
-        let retained = step.kept().retain(retainer);
+        let mut caller = step.kept().admit();
+        let retained = step.kept().retain(&mut caller, retainer);
         self.lock.end(step);
         retained
     }

@@ -1,47 +1,58 @@
 //! What is known of the three counts of a pool: three ledgers.
-ghost use Rattle.std.specs.Prelude.{◌≡◌, ◌≤◌, ◌<◌, ◌-◌, is_some, nat_lt, IfSome};
-ghost use Rattle.deadpool_shared.specs.Counts.{counts, counts_of, had, shifted};
+ghost use Rattle.std.specs.Prelude.{◌≡◌, ◌≤◌, ◌<◌, ◌-◌, ◌^◌, is_some, nat_lt, IfSome};
+ghost use Rattle.deadpool_shared.specs.Counts.{caller_of, counts, counts_of, had, shifted};
 ghost use Rattle.deadpool_desk.specs.declared.step.Holding.{Holding};
 
-use crate::ledgers::{Blanks, Creations, Going, Ledgers, Outside};
+use crate::ledgers::{Creations, Going, History, Ledgers, Outside};
+use deadpool_chronicle::Caller;
+use deadpool_history::Line;
 use deadpool_managed::Holding;
 use std::marker::Model;
 use std::mem;
-use std::sync::ledger::{Book, Share};
+use std::sync::ledger::{Blank, Book, Share};
 
-/// What one holder has of the three counts. It takes no bytes. It cannot be dropped: `hand_in` alone takes it, from a
-/// holder that has nothing, so that no holder is let go of before the step by which it gives back what it has.
+/// What one holder has of the three counts, and the caller by whose name its steps stand in the history. It takes no
+/// bytes. It cannot be dropped: `hand_in` alone takes it, from a holder that has nothing, so that no holder is let go
+/// of before the step by which it gives back what it has.
 pub struct Shares<L: Ledgers> {
     going: Share<Going<L>>,
     creations: Share<Creations<L>>,
     outside: Share<Outside<L>>,
+    pub(crate) caller: Caller<Line, History<L>>,
 }
 
 impl<L: Ledgers> Model for Shares<L> {
     ghost use Rattle.std.specs.Prelude.{◌≡◌};
-    ghost use Rattle.deadpool_shared.specs.Counts.{Counts, counts};
+    ghost use Rattle.deadpool_shared.specs.Counts.{Holder, counts};
 
-    ghost Value = { Counts };
+    ghost Value = { Holder };
 
-    ghost view = { λ s. counts s.going.amount s.creations.amount s.outside.amount };
+    ghost view = { λ s. record {
+      has = counts s.going.amount s.creations.amount s.outside.amount;
+      caller = s.caller;
+    } };
 
     ghost invariant = { λ s. (s.going.parts ≡ 1) × (s.creations.parts ≡ 1) × (s.outside.parts ≡ 1) };
 }
 
 impl<L: Ledgers> Shares<L> {
-    /// Uses up the shares of a holder that has nothing, if it was handed out some.
+    /// Uses up the shares of a holder that has nothing, if it was handed out some, and gives its caller back.
     #[inline(always)]
-    pub fn hand_in(shares: Option<Self>)
+    pub fn hand_in(shares: Option<Self>) -> Option<Caller<Line, History<L>>>
         requires nothing { had shares ≡ counts_of Holding.Nothing }
+        ensures { result ≡ caller_of shares }
     {
-        if let Some(
-            Shares {
-                going: _,
-                creations: _,
-                outside: _,
-            },
-        ) = shares
-        {}
+        match shares {
+            Some(
+                Shares {
+                    going: _,
+                    creations: _,
+                    outside: _,
+                    caller,
+                },
+            ) => Some(caller),
+            None => None,
+        }
     }
 
     /// Puts what a holder has in its place, where nothing is.
@@ -93,11 +104,14 @@ fn amounts(holding: Holding) -> (u64, u64, u64)
 
 impl<L: Ledgers> Books<L> {
     /// Three new ledgers, of which nobody has a share.
-    pub fn new(blanks: Blanks) -> Self
-        requires opens { blanks ≡ L.names }
+    pub fn new(blanks: (Blank, Blank, Blank)) -> Self
+        requires names { (blanks.0.name ≡ L.names.going)
+            × (blanks.1.name ≡ L.names.creations) × (blanks.2.name ≡ L.names.outside) }
+        requires parts { (blanks.0.parts ≡ 2 ^ 64 - 1)
+            × (blanks.1.parts ≡ 2 ^ 64 - 1) × (blanks.2.parts ≡ 2 ^ 64 - 1) }
         ensures { result ≡ record { totals = counts 0 0 0; left = u64.MAX } }
     {
-        let (going, creations, outside) = blanks.into_parts();
+        let (going, creations, outside) = blanks;
         let (going, going_left) = going.open::<Going<L>>();
         let (creations, creations_left) = creations.open::<Creations<L>>();
         let (outside, outside_left) = outside.open::<Outside<L>>();
@@ -112,9 +126,10 @@ impl<L: Ledgers> Books<L> {
         }
     }
 
-    /// Shares for one holder that has nothing yet, if a part of each ledger is left.
-    pub fn hand_out(&mut self) -> Option<Shares<L>>
-        ensures shares { IfSome result (λ shares. shares ≡ counts_of Holding.Nothing) }
+    /// Shares for one holder that has nothing yet and calls by this name, if a part of each ledger is left.
+    pub fn hand_out(&mut self, caller: Caller<Line, History<L>>) -> Option<Shares<L>>
+        ensures shares { IfSome result (λ shares.
+            shares ≡ record { has = counts_of Holding.Nothing; caller = caller }) }
         ensures given { is_some result ≡ nat_lt 0 self.old.left }
         ensures left { self.new ≡ record self.old { left = self.old.left - 1 } }
     {
@@ -129,6 +144,7 @@ impl<L: Ledgers> Books<L> {
             going,
             creations,
             outside,
+            caller,
         })
     }
 
@@ -136,9 +152,9 @@ impl<L: Ledgers> Books<L> {
     pub fn audit(&mut self, shares: &mut Shares<L>)
         ensures totals { self.new ≡ self.old }
         ensures shares { shares.new ≡ shares.old }
-        ensures going { shares.old.going ≤ self.old.totals.going }
-        ensures creations { shares.old.creations ≤ self.old.totals.creations }
-        ensures outside { shares.old.outside ≤ self.old.totals.outside }
+        ensures going { shares.old.has.going ≤ self.old.totals.going }
+        ensures creations { shares.old.has.creations ≤ self.old.totals.creations }
+        ensures outside { shares.old.has.outside ≤ self.old.totals.outside }
     {
         self.going.audit(&mut shares.going);
         self.creations.audit(&mut shares.creations);
@@ -147,9 +163,9 @@ impl<L: Ledgers> Books<L> {
 
     /// A holder has something else from now on.
     pub fn shift(&mut self, shares: &mut Shares<L>, old: Holding, new: Holding)
-        requires { shares.old ≡ counts_of old }
+        requires { shares.old.has ≡ counts_of old }
         ensures totals { self.new ≡ record self.old { totals = shifted old new self.old.totals } }
-        ensures shares { shares.new ≡ counts_of new }
+        ensures shares { shares.new ≡ record shares.old { has = counts_of new } }
     {
         let (going, creations, outside) = amounts(old);
         self.going.sub(&mut shares.going, going);

@@ -4,11 +4,9 @@ ghost use Rattle.std.specs.Prelude.{◌≡◌};
 
 use crate::tests::examples::threads::{Numbers, Zeros, total};
 use deadpool_builder::PoolBuilder;
-use deadpool_managed::{Reply, Status, Step};
 use deadpool_parts::NoTime;
-use deadpool_shared::{Blanks, Build, Entry, Journal, Ledgers};
+use deadpool_shared::{Blanks, Build, Ledgers};
 use futures::executor::block_on;
-use std::alloc::Global;
 use std::marker::Brand;
 use std::process::Abort;
 use std::random::RandomSource;
@@ -17,7 +15,6 @@ use std::test::Fail;
 use std::thread;
 use std::thread::Threads;
 use test_support::expected::expect;
-use test_support::journals::ends_so;
 
 const THREADS: u64 = 10;
 
@@ -54,76 +51,31 @@ where
     Ok(())
 }
 
-// How many of a journal's entries are of these kinds.
-#[derive(Clone, Copy, Debug, PartialEq, Eq)]
-struct Tally {
-    enters: u32,
-    backs: u32,
-    unknown: u32,
-}
-
-fn tally_of(journal: &Journal) -> Tally {
-    let mut tally = Tally {
-        enters: 0,
-        backs: 0,
-        unknown: 0,
-    };
-    for entry in &journal.entries {
-        let Entry::Made(step, _, reply) = entry else {
-            continue;
-        };
-        // (the step found nothing to do)
-        if *reply == Reply::Unknown {
-            tally.unknown = tally.unknown.saturating_add(1);
-        }
-        match step {
-            Step::Enter { .. } => tally.enters = tally.enters.saturating_add(1),
-            Step::Back => tally.backs = tally.backs.saturating_add(1),
-            _ => {}
-        }
-    }
-    tally
-}
-
 fn all_jobs<R, L>(rt: R, blanks: Blanks) -> Result<(), Fail>
 where
     R: Wait + Threads + RandomSource + AllocGlobal + Abort + Drop + Copy + Send + Sync + 'static,
     L: Ledgers + Send + Sync + 'static,
     requires { blanks ≡ L.names }
 {
-    let builder = PoolBuilder::new(rt.alloc(), Zeros, NoTime)
-        .max_size(3)
-        .journal(10_000);
+    let builder = PoolBuilder::new(rt.alloc(), Zeros, NoTime).max_size(3);
     let pool: Numbers<R, L> = builder.build(blanks, rt)?;
     work(rt, &pool)?;
-    all_are_done(rt.alloc(), &pool)
+    all_are_done(&pool)
 }
 
 // Nobody waits, all objects are back, and their sum has each job.
-fn all_are_done<R, L>(alloc: Global, pool: &Numbers<R, L>) -> Result<(), Fail>
+fn all_are_done<R, L>(pool: &Numbers<R, L>) -> Result<(), Fail>
 where
     R: Wait + Drop,
     L: Ledgers,
 {
     let status = pool.status();
-    each_is_noted(alloc, &pool.journal()?, status)?;
     let counts = (status.max_size, status.available, status.waiting);
     expect(
         "limit, available, waiting, and the sum",
         (counts, total(pool)?),
         ((3, status.size, 0), 100),
     )
-}
-
-// The journal has each job, and nothing that was not known.
-fn each_is_noted(alloc: Global, journal: &Journal, status: Status) -> Result<(), Fail> {
-    let tally = Tally {
-        enters: 100,
-        backs: 100,
-        unknown: 0,
-    };
-    expect("the entries", tally_of(journal), tally)?;
-    ends_so(alloc, journal, status)
 }
 
 #[test]

@@ -1,0 +1,20 @@
+use Rattle.std.proofs.Common.{ℕ, List, [], ◌∷◌, ◌++◌, ap, ◌∙◌}
+use Rattle.deadpool_history.specs.declared.line.Line.{Line}
+use Rattle.deadpool_history.proofs.First.{has_none}
+use Rattle.deadpool_history.proofs.recorded.Recorded.new.Goals as goal
+
+pub invariant_of-result : goal.invariant_of-result
+invariant_of-result g c =
+    let n = c.args.first.now.number in
+    let added = c.note.ensures.call.0 in (
+      [],
+      (
+        (
+          n,
+          c.seen-beginning.ensures.log ∙ added.1.1
+              ∙ ap (λ (l : List (ℕ × Line)). l ++ (n, added.0) ∷ []) c.requires.empty
+              ∙ ap (λ (x : Line). (n, x) ∷ []) added.1.0,
+        ),
+        (c.requires.opened, has_none c.args.pool.log c.requires.unnoted),
+      ),
+    )

@@ -1,0 +1,2 @@
+-- What a visit to a pool leaves.
+pub mod Visits
