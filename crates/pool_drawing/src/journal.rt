@@ -1,9 +1,9 @@
 //! Reads a journal, makes its steps again, and draws the counts after each of them.
 mod step;
 
-use crate::{Column, Kind, Line, Picture, Stop, write_picture};
+use crate::{Column, Drawn, Kind, Owner, Picture, Stock, Stop, is_out_of_memory, write_picture};
 use deadpool_managed::{Core, QueueMode};
-use pool_scripts::{Fault, LineError, read_line, without_line_feed};
+use pool_scripts::{Fault, LineError, Reason, Stopped, read_line, without_line_feed};
 use pool_shapes::show_core_levels;
 use std::alloc::Global;
 use std::io::{BufRead, Write};
@@ -13,12 +13,13 @@ use step::{Words, end, make_again, next_number, next_word, words_of};
 /// values, and has to have the reply that its line says. A journal that ends before its end is drawn up to there.
 pub fn draw_journal<B: BufRead, W: Write>(
     alloc: Global,
+    drawn: Drawn,
     reader: &mut B,
     writer: &mut W,
-) -> Result<(), Fault> {
-    let mut reading = Reading::new(alloc);
+) -> Result<(), Stopped> {
+    let mut reading = Reading::new(alloc, drawn);
     let ending = reading.read_all(reader);
-    if let Err(Fault::OutOfMemory) = ending {
+    if is_out_of_memory(&ending) {
         return ending;
     }
     write_picture(alloc, &reading.picture, writer)?;
@@ -38,17 +39,17 @@ struct Reading {
 }
 
 impl Reading {
-    fn new(alloc: Global) -> Self {
+    fn new(alloc: Global, drawn: Drawn) -> Self {
         Reading {
             alloc,
             core: None,
             is_full: false,
-            picture: Picture::new(alloc, Kind::Journal, 0),
+            picture: Picture::new(alloc, Kind::Journal, drawn),
             column: Column::new(alloc),
         }
     }
 
-    fn read_all<B: BufRead>(&mut self, reader: &mut B) -> Result<(), Fault> {
+    fn read_all<B: BufRead>(&mut self, reader: &mut B) -> Result<(), Stopped> {
         let mut bytes = Vec::new(self.alloc);
         for number in 1..=u64::MAX {
             if !read_line(reader, &mut bytes)? {
@@ -56,15 +57,12 @@ impl Reading {
             }
             let line = without_line_feed(&bytes);
             if let Err(stop) = self.read_entry(number, line) {
-                let aside = Line::aside(self.alloc, number, line, stop.why())?;
                 self.picture
-                    .lines
-                    .push(aside)
-                    .map_err(|_| Fault::OutOfMemory)?;
+                    .set_aside(self.alloc, number, line, stop.why())?;
                 return Err(stop.at(number));
             }
         }
-        Err(Fault::InputFailed)
+        Err(Stopped::from(Fault::InputFailed))
     }
 
     // Reads a line, and adds its column.
@@ -83,7 +81,7 @@ impl Reading {
             return Ok(());
         };
         if self.is_full {
-            return Err(Stop::NotAMove);
+            return Err(Stop::NotAMove(Reason::NoStep));
         }
         if line == b"full".as_slice() {
             self.is_full = true;
@@ -108,22 +106,40 @@ impl Reading {
         } = self;
         if let Some(core) = core {
             show_core_levels(core, &mut column.levels)?;
+            let counts = core.counts();
+            column.stock = Stock {
+                out: counts.size,
+                idle: 0,
+                granted: counts.granted,
+                waiting: counts.waiting,
+            };
+            column.event.line = number;
+            column.event.owner = owner_of(line);
             picture.add_column(*alloc, column)?;
         }
-        picture.lines.push(Line::new(*alloc, number, line, "")?)?;
+        picture.add_line(*alloc, number, line, "")?;
         Ok(())
+    }
+}
+
+// Whether a line is of a close. What a resize does is seen by the limit.
+fn owner_of(line: &[u8]) -> Owner {
+    if line.starts_with(b"close ") {
+        Owner::Close
+    } else {
+        Owner::Nothing
     }
 }
 
 fn parse_opening(alloc: Global, words: &mut Words<'_>) -> Result<Core<()>, LineError> {
     if next_word(words)? != "opened" {
-        return Err(LineError::NotAMove);
+        return Err(LineError::NotAMove(Reason::NoStep));
     }
     let limit = next_number(words)?;
     let mode = match next_word(words)? {
         "fifo" => QueueMode::Fifo,
         "lifo" => QueueMode::Lifo,
-        _ => return Err(LineError::NotAMove),
+        _ => return Err(LineError::NotAMove(Reason::NoStep)),
     };
     let floor = next_number(words)?;
     end(words)?;

@@ -1,8 +1,9 @@
-//! Draws a run of a script, or a journal, as a picture in SVG: a lane for each party and each object, the counts above
-//! them, and the lines below.
+//! Draws a run of a script, or a journal, as a picture in SVG: the story of the run in one chart and a lane for each
+//! party and each object; or, in detail, each count in a chart of its own and the lines below.
 #![tactic(auto)]
 
-mod chart;
+mod detail;
+mod event;
 mod journal;
 mod line;
 mod objects;
@@ -10,12 +11,15 @@ mod paint;
 mod picture;
 mod script;
 mod stop;
+mod story;
 mod svg;
 
-pub use chart::write_picture;
+pub use event::{Event, Owner, Why};
 pub use journal::draw_journal;
 pub use line::Line;
-pub use picture::{Column, Kind, MOST_COLUMNS, MOST_OBJECTS, Picture};
+pub use picture::{
+    Arrow, Column, Drawn, Kind, MOST_COLUMNS, MOST_OBJECTS, Picture, Stock, write_picture,
+};
 pub use script::draw_script;
-pub use stop::Stop;
+pub use stop::{Stop, is_out_of_memory};
 pub use svg::Svg;

@@ -1,33 +1,43 @@
 //! Where each object of a trial is.
-use crate::{MOST_OBJECTS, Stop};
+use crate::{MOST_OBJECTS, Stock, Stop};
 use deadpool_managed::{AsyncHook, Manager, SyncHook};
 use deadpool_replay::Trial;
 use deadpool_unmanaged_replay as unmanaged;
 use pool_lanes::{Place, Shape, Stage};
 
 /// Puts where each object is in place of what was there: that of the first number first. An object of which nothing is
-/// seen any more was given up.
+/// seen any more was given up. Gives what there is.
 pub fn show_objects<M: Manager, F: SyncHook<M>, A: AsyncHook<M>, C: Drop>(
     trial: &Trial<M, F, A, C>,
     first: usize,
     shapes: &[Shape],
     places: &mut Vec<Place>,
-) -> Result<(), Stop> {
+) -> Result<Stock, Stop> {
     clear(places);
+    let mut idle = 0usize;
     for at in 0..usize::MAX {
         match trial.idle_at(at) {
             Some(number) => put(places, first, number, Place::Idle)?,
             None => break,
         }
+        idle = at.saturating_add(1);
     }
-    show_held(first, shapes, places)?;
+    let prepared = show_held(first, shapes, places)?;
+    let mut out = 0usize;
     for at in 0..usize::MAX {
         match trial.out_at(at) {
             Some(number) => put(places, first, number, Place::Out)?,
             None => break,
         }
+        out = at.saturating_add(1);
     }
-    Ok(())
+    let counts = trial.counts();
+    Ok(Stock {
+        out: out.saturating_add(prepared),
+        idle,
+        granted: counts.granted,
+        waiting: counts.waiting,
+    })
 }
 
 /// The same for an unmanaged pool, whose first object has the number 0.
@@ -35,22 +45,32 @@ pub fn show_unmanaged_objects<T: Drop>(
     trial: &unmanaged::Trial<T>,
     shapes: &[Shape],
     places: &mut Vec<Place>,
-) -> Result<(), Stop> {
+) -> Result<Stock, Stop> {
     clear(places);
+    let mut idle = 0usize;
     for at in 0..usize::MAX {
         match trial.idle_at(at) {
             Some(number) => put(places, 0, number, Place::Idle)?,
             None => break,
         }
+        idle = at.saturating_add(1);
     }
-    show_held(0, shapes, places)?;
+    let _offered = show_held(0, shapes, places)?;
+    let mut out = 0usize;
     for at in 0..usize::MAX {
         match trial.out_at(at) {
             Some(number) => put(places, 0, number, Place::Out)?,
             None => break,
         }
+        out = at.saturating_add(1);
     }
-    Ok(())
+    let counts = trial.counts();
+    Ok(Stock {
+        out,
+        idle,
+        granted: counts.gets_granted.saturating_add(counts.adds_granted),
+        waiting: counts.gets_waiting.saturating_add(counts.adds_waiting),
+    })
 }
 
 fn clear(places: &mut Vec<Place>) {
@@ -59,14 +79,19 @@ fn clear(places: &mut Vec<Place>) {
     }
 }
 
-// The objects that parties have.
-fn show_held(first: usize, shapes: &[Shape], places: &mut Vec<Place>) -> Result<(), Stop> {
+// The objects that parties have. Gives how many of them are prepared or offered.
+fn show_held(first: usize, shapes: &[Shape], places: &mut Vec<Place>) -> Result<usize, Stop> {
+    let mut held = 0usize;
     for shape in shapes {
         if let Some(number) = shape.object {
-            put(places, first, number, place_with(shape.stage))?;
+            let place = place_with(shape.stage);
+            if place != Place::Out {
+                held = held.saturating_add(1);
+            }
+            put(places, first, number, place)?;
         }
     }
-    Ok(())
+    Ok(held)
 }
 
 // Where the object of a party is that stands so.

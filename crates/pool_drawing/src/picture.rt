@@ -1,7 +1,12 @@
 //! What a picture shows, before it is written.
-use crate::{Line, Stop};
+use crate::detail::write_detail;
+use crate::line::comment_of;
+use crate::story::write_story;
+use crate::{Event, Line, Stop};
 use pool_lanes::{Lanes, Place, Shape, Shown};
-use std::alloc::Global;
+use pool_scripts::Fault;
+use std::alloc::{AllocError, Global};
+use std::io::Write;
 use std::mem;
 
 /// How many moves are drawn at most.
@@ -9,6 +14,12 @@ pub const MOST_COLUMNS: usize = 100_000;
 
 /// How many objects are drawn at most.
 pub const MOST_OBJECTS: usize = 1_024;
+
+// How many comments are shown at most.
+const MOST_COMMENTS: usize = 8;
+
+// How many lines without a column are named at most, where not all lines are.
+const MOST_NOTES: usize = 12;
 
 /// What a picture is of.
 #[derive(Clone, Copy, Debug, PartialEq, Eq)]
@@ -18,22 +29,70 @@ pub enum Kind {
     Journal,
 }
 
+/// How a picture is drawn.
+#[derive(Clone, Copy, Debug, PartialEq, Eq)]
+pub enum Drawn {
+    /// As a story: one chart, and words in the lanes.
+    Story,
+    /// With each count in a chart of its own, and all lines.
+    Detail,
+}
+
+/// What there is of a pool at one move.
+#[derive(Clone, Copy, Debug, PartialEq, Eq)]
+pub struct Stock {
+    /// Objects that gets have, or prepare.
+    pub out: usize,
+    pub idle: usize,
+    /// Gets and adds in the queue that were granted a place.
+    pub granted: usize,
+    /// And those that wait for one.
+    pub waiting: usize,
+}
+
+impl Shown for Stock {
+    fn is_same(self, other: Stock) -> bool {
+        self == other
+    }
+}
+
+/// The place of one party goes to another, from one column to the next.
+#[derive(Clone, Copy, Debug)]
+pub struct Arrow {
+    /// The column in which the other has it.
+    pub column: usize,
+    pub from: usize,
+    pub to: usize,
+}
+
 /// What a picture shows: lanes with a column for each move, and lines.
 #[derive(Drop)]
 pub struct Picture {
     pub kind: Kind,
+    pub drawn: Drawn,
     pub parties: Lanes<Shape>,
     pub objects: Lanes<Place>,
     /// The number of the object in the first lane.
     pub first_object: usize,
     /// As `pool_shapes` gives them.
     pub levels: Lanes<usize>,
+    /// One lane.
+    pub stock: Lanes<Stock>,
+    /// One for each column.
+    pub events: Vec<Event>,
+    /// By their column.
+    pub arrows: Vec<Arrow>,
+    /// The comments before the pool: a title, and what is said below it.
+    pub comments: Vec<String>,
+    /// All lines, or those that have no column and are no comment.
     pub lines: Vec<Line>,
 }
 
 /// What stands in one column, from the top.
 #[derive(Drop)]
 pub struct Column {
+    pub event: Event,
+    pub stock: Stock,
     pub shapes: Vec<Shape>,
     pub places: Vec<Place>,
     pub levels: Vec<usize>,
@@ -43,6 +102,13 @@ impl Column {
     /// One with nothing in it.
     pub fn new(alloc: Global) -> Self {
         Column {
+            event: Event::new(),
+            stock: Stock {
+                out: 0,
+                idle: 0,
+                granted: 0,
+                waiting: 0,
+            },
             shapes: Vec::new(alloc),
             places: Vec::new(alloc),
             levels: Vec::new(alloc),
@@ -52,13 +118,18 @@ impl Column {
 
 impl Picture {
     /// One with no columns and no lines.
-    pub fn new(alloc: Global, kind: Kind, first_object: usize) -> Self {
+    pub fn new(alloc: Global, kind: Kind, drawn: Drawn) -> Self {
         Picture {
             kind,
+            drawn,
             parties: Lanes::new(alloc),
             objects: Lanes::new(alloc),
-            first_object,
+            first_object: 0,
             levels: Lanes::new(alloc),
+            stock: Lanes::new(alloc),
+            events: Vec::new(alloc),
+            arrows: Vec::new(alloc),
+            comments: Vec::new(alloc),
             lines: Vec::new(alloc),
         }
     }
@@ -81,6 +152,58 @@ impl Picture {
         self.objects = widened(objects, &column.places)?;
         let levels = mem::replace(&mut self.levels, Lanes::new(alloc));
         self.levels = widened(levels, &column.levels)?;
+        let stock = mem::replace(&mut self.stock, Lanes::new(alloc));
+        self.stock = widened(stock, &[column.stock])?;
+        self.events.push(column.event)?;
+        Ok(())
+    }
+
+    /// Adds a line that has a column, if the picture has a list of its lines.
+    pub fn add_line(
+        &mut self,
+        alloc: Global,
+        number: u64,
+        line: &[u8],
+        reply: &str,
+    ) -> Result<(), AllocError> {
+        if self.drawn == Drawn::Detail {
+            self.lines.push(Line::new(alloc, number, line, reply)?)?;
+        }
+        Ok(())
+    }
+
+    /// Adds the line at which the run ended.
+    pub fn note(
+        &mut self,
+        alloc: Global,
+        number: u64,
+        line: &[u8],
+        why: &str,
+    ) -> Result<(), AllocError> {
+        self.lines.push(Line::aside(alloc, number, line, why)?)?;
+        Ok(())
+    }
+
+    /// Adds a comment that stands before the pool.
+    pub fn add_comment(&mut self, alloc: Global, line: &[u8]) -> Result<(), AllocError> {
+        if self.comments.len() < MOST_COMMENTS {
+            self.comments.push(comment_of(alloc, line)?)?;
+        }
+        Ok(())
+    }
+
+    /// Adds a line that has no column: with what is said of it, or a comment.
+    pub fn set_aside(
+        &mut self,
+        alloc: Global,
+        number: u64,
+        line: &[u8],
+        why: &str,
+    ) -> Result<(), AllocError> {
+        let is_note = !why.is_empty() && self.lines.len() < MOST_NOTES;
+        if is_note || self.drawn == Drawn::Detail {
+            self.lines.push(Line::aside(alloc, number, line, why)?)?;
+        }
         Ok(())
     }
 }
@@ -91,4 +214,16 @@ fn widened<T: Shown + Drop>(lanes: Lanes<T>, shown: &[T]) -> Result<Lanes<T>, St
         return Err(Stop::TooMuch);
     }
     Ok(lanes.with_column(shown)?)
+}
+
+/// Writes a picture to its end, part by part.
+pub fn write_picture<W: Write>(
+    alloc: Global,
+    picture: &Picture,
+    writer: &mut W,
+) -> Result<(), Fault> {
+    match picture.drawn {
+        Drawn::Story => write_story(alloc, picture, writer),
+        Drawn::Detail => write_detail(alloc, picture, writer),
+    }
 }

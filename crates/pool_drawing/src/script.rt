@@ -2,38 +2,44 @@
 mod moves;
 
 use crate::objects::{show_objects, show_unmanaged_objects};
-use crate::{Column, Kind, Line, Picture, Stop, write_picture};
+use crate::{
+    Arrow, Column, Drawn, Event, Kind, Owner, Picture, Stop, is_out_of_memory, write_picture,
+};
 use futures::task::{Context, Doorbell, Solo};
 use moves::{play_managed, play_unmanaged};
+use pool_lanes::Shape;
 use pool_scripts::{
-    Answers, Fault, PARTIES, PoolLine, ScriptPool, end_line, is_skipped, open_pool, parse_pool,
-    read_line, refuse, without_line_feed,
+    Answers, Fault, PARTIES, PoolLine, ScriptPool, Stopped, compare, end_line, is_skipped,
+    open_pool, parse_pool, read_line, refuse, sides_of, without_line_feed,
 };
 use pool_shapes::{
-    Given, show_levels, show_parties, show_unmanaged_levels, show_unmanaged_parties,
+    Given, Handover, handed_over, show_levels, show_parties, show_unmanaged_levels,
+    show_unmanaged_parties,
 };
 use std::alloc::{AllocError, Global};
 use std::io::{BufRead, Write};
+use std::mem;
 use std::random::RandomSource;
 
 /// Plays a script to its end, and writes its picture. One that ends before is drawn up to there.
 pub fn draw_script<R, B: BufRead, W: Write>(
     rt: &R,
+    drawn: Drawn,
     reader: &mut B,
     writer: &mut W,
-) -> Result<(), Fault>
+) -> Result<(), Stopped>
 where
     R: RandomSource + AllocGlobal,
 {
     let Ok(task) = Solo::new(rt, Doorbell::spinning()) else {
-        return Err(Fault::OutOfMemory);
+        return Err(Stopped::from(Fault::OutOfMemory));
     };
     let answers = Answers::new(rt.alloc());
-    let mut drawing = Drawing::new(rt.alloc(), &answers);
+    let mut drawing = Drawing::new(rt.alloc(), &answers, drawn);
     let mut cx = task.begin();
     let ending = read_all(&mut drawing, reader, &mut cx);
     cx.cancel();
-    if let Err(Fault::OutOfMemory) = ending {
+    if is_out_of_memory(&ending) {
         return ending;
     }
     write_picture(rt.alloc(), &drawing.picture, writer)?;
@@ -44,19 +50,24 @@ fn read_all<B: BufRead>(
     drawing: &mut Drawing<'_>,
     reader: &mut B,
     cx: &mut Context<'_>,
-) -> Result<(), Fault> {
+) -> Result<(), Stopped> {
     let mut bytes = Vec::new(drawing.alloc);
     for number in 1..=u64::MAX {
         if !read_line(reader, &mut bytes)? {
             return Ok(());
         }
-        let line = without_line_feed(&bytes);
+        let (line, written) = sides_of(without_line_feed(&bytes));
         if let Err(stop) = drawing.draw_line(number, line, cx) {
-            drawing.set_aside(number, line, stop.why())?;
+            drawing
+                .picture
+                .note(drawing.alloc, number, line, stop.why())?;
             return Err(stop.at(number));
         }
+        if let Some(written) = written {
+            compare(drawing.alloc, number, written, drawing.reply.as_str())?;
+        }
     }
-    Err(Fault::InputFailed)
+    Err(Stopped::from(Fault::InputFailed))
 }
 
 // A script that is drawn while it is played.
@@ -68,20 +79,25 @@ struct Drawing<'a> {
     given: Given,
     picture: Picture,
     reply: String,
+    is_closed: bool,
     // Written anew for each line.
     column: Column,
+    // How each party stood after the line before.
+    earlier: Vec<Shape>,
 }
 
 impl<'a> Drawing<'a> {
-    fn new(alloc: Global, answers: &'a Answers) -> Self {
+    fn new(alloc: Global, answers: &'a Answers, drawn: Drawn) -> Self {
         Drawing {
             alloc,
             answers,
             pool: None,
             given: Given::new(alloc),
-            picture: Picture::new(alloc, Kind::Managed, 0),
+            picture: Picture::new(alloc, Kind::Managed, drawn),
             reply: String::new(alloc),
+            is_closed: false,
             column: Column::new(alloc),
+            earlier: Vec::new(alloc),
         }
     }
 
@@ -89,19 +105,32 @@ impl<'a> Drawing<'a> {
     fn draw_line(&mut self, number: u64, line: &[u8], cx: &mut Context<'_>) -> Result<(), Stop> {
         self.reply.clear();
         if is_skipped(line) {
-            if !line.is_empty() {
-                self.set_aside(number, line, "")?;
-            }
-            return Ok(());
+            return self.skip(number, line);
         }
         if !self.picture.has_room() {
             return Err(Stop::TooMuch);
         }
-        self.play(line, cx)?;
-        self.add_column(number, line)
+        let mut event = self.play(line, cx)?;
+        event.line = number;
+        if event.owner == Owner::Close && self.reply.as_str() == "ok\n" {
+            self.is_closed = true;
+        }
+        self.add_column(event, line)
     }
 
-    fn play(&mut self, line: &[u8], cx: &mut Context<'_>) -> Result<(), Stop> {
+    // A comment before the pool is what the picture is of. No other has a place.
+    fn skip(&mut self, number: u64, line: &[u8]) -> Result<(), Stop> {
+        if line.is_empty() {
+            return Ok(());
+        }
+        if self.pool.is_none() {
+            self.picture.add_comment(self.alloc, line)?;
+        }
+        self.picture.set_aside(self.alloc, number, line, "")?;
+        Ok(())
+    }
+
+    fn play(&mut self, line: &[u8], cx: &mut Context<'_>) -> Result<Event, Stop> {
         let Drawing {
             alloc,
             answers,
@@ -109,25 +138,22 @@ impl<'a> Drawing<'a> {
             given,
             picture,
             reply,
+            is_closed,
             ..
         } = self;
         match pool {
             None => open(pool, picture, *alloc, answers, line, reply),
             Some(ScriptPool::Managed(trial)) => {
-                play_managed(trial, given, *alloc, answers, line, cx, reply)
+                let told = (*alloc, *answers);
+                play_managed(trial, given, *is_closed, told, line, cx, reply)
             }
-            Some(ScriptPool::Unmanaged(trial)) => play_unmanaged(trial, given, line, reply),
+            Some(ScriptPool::Unmanaged(trial)) => {
+                play_unmanaged(trial, given, *is_closed, line, reply)
+            }
         }
     }
 
-    // A line that has no column.
-    fn set_aside(&mut self, number: u64, line: &[u8], why: &str) -> Result<(), AllocError> {
-        let aside = Line::aside(self.alloc, number, line, why)?;
-        self.picture.lines.push(aside)?;
-        Ok(())
-    }
-
-    fn add_column(&mut self, number: u64, line: &[u8]) -> Result<(), Stop> {
+    fn add_column(&mut self, event: Event, line: &[u8]) -> Result<(), Stop> {
         let Drawing {
             alloc,
             pool,
@@ -135,19 +161,39 @@ impl<'a> Drawing<'a> {
             picture,
             reply,
             column,
+            earlier,
             ..
         } = self;
-        let written = match pool {
-            None => Line::aside(*alloc, number, line, reply.as_str())?,
-            Some(pool) => {
-                show(pool, given, picture.first_object, column)?;
-                picture.add_column(*alloc, column)?;
-                Line::new(*alloc, number, line, reply.as_str())?
-            }
+        let Some(pool) = pool else {
+            picture.set_aside(*alloc, event.line, line, reply.as_str())?;
+            return Ok(());
         };
-        picture.lines.push(written)?;
+        mem::swap(&mut column.shapes, earlier);
+        column.event = event;
+        show(pool, given, picture.first_object, column)?;
+        note_arrow(picture, column.stock.granted, earlier, &column.shapes)?;
+        picture.add_column(*alloc, column)?;
+        picture.add_line(*alloc, event.line, line, reply.as_str())?;
         Ok(())
     }
+}
+
+// If a party has given its place up, and another was granted one, an arrow joins them.
+fn note_arrow(
+    picture: &mut Picture,
+    granted: usize,
+    was: &[Shape],
+    is: &[Shape],
+) -> Result<(), AllocError> {
+    // (a look at all of them is not needed otherwise)
+    if granted == 0 {
+        return Ok(());
+    }
+    if let Some(Handover { from, to }) = handed_over(was, is) {
+        let column = picture.columns();
+        picture.arrows.push(Arrow { column, from, to })?;
+    }
+    Ok(())
 }
 
 // What stands in the column of a pool as it is now.
@@ -158,22 +204,25 @@ fn show(
     column: &mut Column,
 ) -> Result<(), Stop> {
     let Column {
+        stock,
         shapes,
         places,
         levels,
+        ..
     } = column;
     match pool {
         ScriptPool::Managed(trial) => {
             show_parties(trial, given.as_slice(), shapes)?;
             show_levels(trial, levels)?;
-            show_objects(trial, first, shapes, places)
+            *stock = show_objects(trial, first, shapes, places)?;
         }
         ScriptPool::Unmanaged(trial) => {
             show_unmanaged_parties(trial, given.as_slice(), shapes)?;
             show_unmanaged_levels(trial, levels)?;
-            show_unmanaged_objects(trial, shapes, places)
+            *stock = show_unmanaged_objects(trial, shapes, places)?;
         }
     }
+    Ok(())
 }
 
 // Makes the pool that a line asks for. One that is refused leaves the script without a pool.
@@ -184,7 +233,7 @@ fn open<'a>(
     answers: &'a Answers,
     line: &[u8],
     reply: &mut String,
-) -> Result<(), Stop> {
+) -> Result<Event, Stop> {
     let said = parse_pool(alloc, line)?;
     let (kind, first) = match &said {
         PoolLine::Managed(pool) => (Kind::Managed, pool.first_number),
@@ -197,8 +246,8 @@ fn open<'a>(
             picture.first_object = first;
             reply.push_str("ok")?;
             end_line(reply)?;
-            Ok(())
         }
-        Err(refusal) => Ok(refuse(refusal, reply)?),
+        Err(refusal) => refuse(refusal, reply)?,
     }
+    Ok(Event::new())
 }

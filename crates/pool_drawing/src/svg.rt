@@ -1,5 +1,6 @@
 //! The text of a picture in SVG: boxes, lines and words at whole numbers of points.
 use std::alloc::{AllocError, Global};
+use std::fmt;
 
 /// The text of a picture so far.
 #[derive(Drop)]
@@ -30,7 +31,7 @@ impl Svg {
         self.text.push_str(text)
     }
 
-    /// Begins a picture of this size on a white ground.
+    /// Begins a picture of this size.
     pub fn open(&mut self, width: usize, height: usize) -> Result<(), AllocError> {
         write!(
             &mut self.text,
@@ -40,6 +41,26 @@ impl Svg {
             &mut self.text,
             "viewBox=\"0 0 {width} {height}\" role=\"img\">"
         )
+    }
+
+    /// A box with round corners.
+    pub fn bar(
+        &mut self,
+        class: &str,
+        x: usize,
+        y: usize,
+        width: usize,
+        height: usize,
+    ) -> Result<(), AllocError> {
+        writeln!(
+            &mut self.text,
+            "<rect class=\"{class}\" x=\"{x}\" y=\"{y}\" width=\"{width}\" height=\"{height}\" rx=\"3\"/>"
+        )
+    }
+
+    /// A line that bends, by the path that is given.
+    pub fn path<D: fmt::Display + Drop>(&mut self, class: &str, path: D) -> Result<(), AllocError> {
+        writeln!(&mut self.text, "<path class=\"{class}\" d=\"{path}\"/>")
     }
 
     /// A box of a class, which says its colours.

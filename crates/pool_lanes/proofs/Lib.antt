@@ -1,3 +1,4 @@
 pub mod LaidMarks
 pub mod GrownLanes
 pub mod Words
+pub mod PutLabels

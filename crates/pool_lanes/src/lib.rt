@@ -6,8 +6,10 @@ mod lane;
 mod lanes;
 mod mark;
 mod shape;
+mod shelf;
 
 pub use lane::Lane;
 pub use lanes::Lanes;
 pub use mark::{Mark, Shown};
 pub use shape::{Place, Shape, Stage};
+pub use shelf::{Shelf, Span};

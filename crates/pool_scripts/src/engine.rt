@@ -2,11 +2,12 @@
 use crate::fault::Fault;
 use crate::lines::{read_line, without_line_feed, write_out};
 use crate::lists::{list_of, managed_moves, unmanaged_moves};
-use crate::making::{make_managed, make_unmanaged, run_managed, run_unmanaged};
+use crate::making::{make_get, make_managed, make_unmanaged, run_managed, run_unmanaged};
 use crate::manager::{Answer, Answers, Kind};
 use crate::opening::{PARTIES, Refusal, ScriptPool, open_pool};
 use crate::script;
-use crate::script::{LineError, ManagedLine};
+use crate::script::{Excerpt, LineError, ManagedLine, Reason, ScriptLine};
+use crate::stopped::Stopped;
 use crate::texts::end_line;
 use futures::task::{Context, Doorbell, Solo};
 use std::alloc::Global;
@@ -18,8 +19,20 @@ pub fn play<R, B: BufRead, W: Write>(rt: &R, reader: &mut B, writer: &mut W) -> 
 where
     R: RandomSource + AllocGlobal,
 {
+    play_script(rt, reader, writer).map_err(Fault::from)
+}
+
+/// The same, and says more of a line that is not in the language.
+pub fn play_script<R, B: BufRead, W: Write>(
+    rt: &R,
+    reader: &mut B,
+    writer: &mut W,
+) -> Result<(), Stopped>
+where
+    R: RandomSource + AllocGlobal,
+{
     let Ok(task) = Solo::new(rt, Doorbell::spinning()) else {
-        return Err(Fault::OutOfMemory);
+        return Err(Stopped::from(Fault::OutOfMemory));
     };
     let answers = Answers::new(rt.alloc());
     let mut engine = Engine::new(rt.alloc(), &answers, PARTIES);
@@ -34,20 +47,18 @@ fn play_lines<B: BufRead, W: Write>(
     reader: &mut B,
     writer: &mut W,
     cx: &mut Context<'_>,
-) -> Result<(), Fault> {
+) -> Result<(), Stopped> {
     let mut line = Vec::new(engine.alloc);
     for number in 1..=u64::MAX {
         if !read_line(reader, &mut line)? {
             return Ok(());
         }
-        match engine.play_line(without_line_feed(&line), cx) {
-            Ok(()) => {}
-            Err(LineError::NotAMove) => return Err(Fault::NotAMove(number)),
-            Err(LineError::OutOfMemory) => return Err(Fault::OutOfMemory),
+        if let Err(cause) = engine.play_line(without_line_feed(&line), cx) {
+            return Err(Stopped::at(number, cause));
         }
         write_out(writer, engine.reply())?;
     }
-    Err(Fault::InputFailed)
+    Err(Stopped::from(Fault::InputFailed))
 }
 
 /// A script's pool, once there is one, and the reply to its last line.
@@ -77,6 +88,11 @@ impl<'a> Engine<'a> {
         self.reply.as_str()
     }
 
+    /// The pool, once there is one.
+    pub fn pool(&self) -> Option<&ScriptPool<'a>> {
+        self.pool.as_ref()
+    }
+
     /// Does what a line says, and keeps the reply. Before there is a pool, only the lines that make one are in the
     /// language; after that, only those of its kind.
     pub fn play_line(&mut self, line: &[u8], cx: &mut Context<'_>) -> Result<(), LineError> {
@@ -93,9 +109,12 @@ impl<'a> Engine<'a> {
         } = self;
         match pool {
             None => open(pool, *alloc, answers, *parties, line, reply),
-            Some(ScriptPool::Managed(trial)) => match script::parse_managed(*alloc, line)? {
-                ManagedLine::Answer(kind, words) => answer(answers, kind, words, reply),
-                ManagedLine::Move(next) => make_managed(trial, next, cx, reply),
+            Some(ScriptPool::Managed(trial)) => match script::parse_script_line(*alloc, line)? {
+                ScriptLine::Get(now) => make_get(trial, now, cx, reply),
+                ScriptLine::Plain(ManagedLine::Answer(kind, words)) => {
+                    answer(answers, kind, words, reply)
+                }
+                ScriptLine::Plain(ManagedLine::Move(next)) => make_managed(trial, next, cx, reply),
             },
             Some(ScriptPool::Unmanaged(trial)) => {
                 make_unmanaged(trial, script::parse_unmanaged(line)?, reply)
@@ -128,7 +147,7 @@ impl<'a> Engine<'a> {
     ) -> Result<(), LineError> {
         let alloc = self.alloc;
         match &mut self.pool {
-            None => Err(LineError::NotAMove),
+            None => Err(Reason::NoPool(Excerpt::of("list")))?,
             Some(ScriptPool::Managed(trial)) => {
                 run_managed(trial, managed_moves(alloc, list)?, cx, text)
             }

@@ -2,7 +2,9 @@
 use std::alloc::AllocError;
 use std::{fmt, io};
 
-const USAGE: &str = "usage: poolrun [draw [journal] | threads N M [journal K] | buffers MOST]";
+const USAGE: &str =
+    "usage: poolrun [check | draw [--detail] [journal] | watch [--colour] | threads N M [journal K] \
+    | buffers MOST | help [script]]";
 
 /// Why a run ended before its input did. Its text is what the program says on standard error.
 #[derive(Clone, Copy, Debug, PartialEq, Eq)]
@@ -15,6 +17,8 @@ pub enum Fault {
     TooMuch(u64),
     /// The step in the line with this number, from 1, has another reply when it is made again.
     OtherReply(u64),
+    /// The reply to the line with this number, from 1, is another than is written behind it.
+    OtherWritten(u64),
     /// The program itself found no memory.
     OutOfMemory,
     /// A read failed.
@@ -28,7 +32,17 @@ impl Fault {
     pub fn status(self) -> u8 {
         match self {
             Fault::Usage | Fault::NotAMove(_) | Fault::TooMuch(_) | Fault::OtherReply(_) => 2,
+            Fault::OtherWritten(_) => 1,
             Fault::OutOfMemory | Fault::InputFailed | Fault::OutputFailed => 1,
+        }
+    }
+
+    /// The number of the line at which the run ended, from 1, if it ended at one.
+    pub fn line(self) -> Option<u64> {
+        match self {
+            Fault::NotAMove(number) | Fault::TooMuch(number) => Some(number),
+            Fault::OtherReply(number) | Fault::OtherWritten(number) => Some(number),
+            Fault::Usage | Fault::OutOfMemory | Fault::InputFailed | Fault::OutputFailed => None,
         }
     }
 
@@ -68,6 +82,7 @@ impl fmt::Display for Fault {
             Fault::NotAMove(number) => write!(f, "line {number}: not a move"),
             Fault::TooMuch(number) => write!(f, "line {number}: too much to draw"),
             Fault::OtherReply(number) => write!(f, "line {number}: the pool has another reply"),
+            Fault::OtherWritten(number) => write!(f, "line {number}: another reply is written"),
             Fault::OutOfMemory => f.write_str("out of memory"),
             Fault::InputFailed => f.write_str("input failed"),
             Fault::OutputFailed => f.write_str("output failed"),

@@ -4,6 +4,7 @@
 #![tactic(auto)]
 
 mod calls;
+mod checking;
 mod engine;
 mod expecting;
 mod fault;
@@ -15,9 +16,13 @@ mod mismatch;
 mod opening;
 mod players;
 mod script;
+mod standing;
+mod stopped;
 mod texts;
+mod watching;
 
-pub use engine::{play, refuse};
+pub use checking::{check_script, compare, sides_of};
+pub use engine::{play, play_script, refuse};
 pub use expecting::{expect_crowd, expect_over, expect_script, find_mismatch};
 pub use fault::Fault;
 pub use lines::{read_line, without_line_feed, write_out};
@@ -25,7 +30,11 @@ pub use manager::{Answer, Answers, HasAnswers, Kind, Refused, ScriptHook, Script
 pub use mismatch::Mismatch;
 pub use opening::{ManagedTrial, PARTIES, Refusal, ScriptPool, UnmanagedTrial, open_pool};
 pub use script::{
-    LineError, ManagedLine, ManagedPool, PoolLine, Settings, UnmanagedPool, is_skipped,
-    parse_managed, parse_number, parse_pool, parse_unmanaged,
+    Excerpt, Language, LineError, ManagedLine, ManagedPool, PoolLine, Reason, ScriptLine, Settings,
+    UnmanagedPool, Wanted, is_skipped, parse_managed, parse_number, parse_pool, parse_script_line,
+    parse_unmanaged,
 };
+pub use standing::{Colour, Standing};
+pub use stopped::{Detail, Stopped};
 pub use texts::{end_line, write_managed, write_status, write_unmanaged};
+pub use watching::watch_script;

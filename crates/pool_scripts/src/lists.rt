@@ -1,5 +1,5 @@
 //! Lists of moves, which the program does not know: `list start; poll 0 0`.
-use crate::script::{LineError, ManagedLine, parse_managed, parse_unmanaged};
+use crate::script::{Excerpt, LineError, ManagedLine, Reason, parse_managed, parse_unmanaged};
 use deadpool_replay::Move;
 use deadpool_unmanaged_replay as unmanaged;
 use std::alloc::Global;
@@ -14,7 +14,7 @@ pub fn managed_moves(alloc: Global, list: &str) -> Result<Vec<Move<u64>>, LineEr
     let mut moves = Vec::new(alloc);
     for part in list.split_terminator(';') {
         let ManagedLine::Move(next) = parse_managed(alloc, move_of(part)?)? else {
-            return Err(LineError::NotAMove);
+            return Err(no_part(part));
         };
         moves.push(next)?;
     }
@@ -33,6 +33,11 @@ pub fn unmanaged_moves(alloc: Global, list: &str) -> Result<Vec<unmanaged::Move<
 fn move_of(part: &str) -> Result<&[u8], LineError> {
     match part.strip_prefix(' ') {
         Some(line) => Ok(line.as_bytes()),
-        None => Err(LineError::NotAMove),
+        None => Err(no_part(part)),
     }
+}
+
+// Says that a part of a list is no move.
+fn no_part(part: &str) -> LineError {
+    LineError::NotAMove(Reason::Unknown(Excerpt::of(part)))
 }

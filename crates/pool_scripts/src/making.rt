@@ -3,6 +3,7 @@ use crate::opening::UnmanagedTrial;
 use crate::script::LineError;
 use crate::texts::{end_line, write_managed, write_unmanaged};
 use deadpool_managed::{AsyncHook, Manager, SyncHook};
+use deadpool_parts::Moment;
 use deadpool_replay::{Move, Reply, Trial};
 use deadpool_unmanaged_replay as unmanaged;
 use futures::task::Context;
@@ -22,6 +23,27 @@ where
     let reply = trial.make(next, cx);
     let written = write_managed(text, &reply, value_of(&reply, trial));
     end(written, text)
+}
+
+/// Starts a get over a managed pool and polls it at this moment. Its reply has both, parted as in a list.
+pub fn make_get<M: Manager<Type = u64>, F: SyncHook<M>, A: AsyncHook<M>, C: Drop>(
+    trial: &mut Trial<M, F, A, C>,
+    now: Moment,
+    cx: &mut Context<'_>,
+    text: &mut String,
+) -> Result<(), LineError>
+where
+    M::Error: fmt::Display,
+{
+    let started = trial.make(Move::Start(None), cx);
+    write_managed(text, &started, None)?;
+    match started {
+        Reply::Started(party) => {
+            part(text)?;
+            make_managed(trial, Move::Poll(party, now), cx, text)
+        }
+        _ => end(Ok(()), text),
+    }
 }
 
 /// Makes a list of moves over a managed pool in one call. Of an object that a move has handed out it writes no value,

@@ -3,7 +3,7 @@ use crate::engine::Engine;
 use crate::lists::{list_of, managed_moves};
 use crate::making::{make_managed, run_managed};
 use crate::manager::Answers;
-use crate::script::{LineError, ManagedLine, is_skipped, parse_managed};
+use crate::script::{Excerpt, LineError, ManagedLine, Reason, is_skipped, parse_managed};
 use deadpool_managed::{AsyncHook, Manager, SyncHook};
 use deadpool_replay::Trial;
 use futures::task::Context;
@@ -102,7 +102,7 @@ where
     }
     match parse_managed(alloc, line.as_bytes())? {
         ManagedLine::Move(next) => make_managed(trial, next, cx, reply),
-        ManagedLine::Answer(_, _) => Err(LineError::NotAMove),
+        ManagedLine::Answer(_, _) => Err(Reason::Unknown(Excerpt::of("answer")))?,
     }
 }
 
@@ -110,7 +110,7 @@ where
 fn tell(played: Result<(), LineError>, reply: &mut String) -> Result<(), AllocError> {
     match played {
         Ok(()) => Ok(()),
-        Err(LineError::NotAMove) => reply.push_str("not a move\n"),
+        Err(LineError::NotAMove(_)) => reply.push_str("not a move\n"),
         Err(LineError::OutOfMemory) => Err(AllocError),
     }
 }

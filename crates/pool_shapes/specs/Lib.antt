@@ -4,3 +4,5 @@
 pub mod Given
 -- What lanes show of parties and counts.
 pub mod Shapes
+-- Whose place goes to whom.
+pub mod Handed

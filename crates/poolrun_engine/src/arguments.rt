@@ -1,6 +1,7 @@
 //! The words that the program is started with.
 use crate::counting::Crowd;
-use pool_scripts::parse_number;
+use pool_drawing::Drawn;
+use pool_scripts::{Colour, parse_number};
 use std::env::Args;
 
 // For how many entries a journal has room at most.
@@ -9,12 +10,22 @@ const MOST_ENTRIES: usize = 1_000_000;
 /// What the program is to do.
 #[derive(Clone, Copy, Debug, PartialEq, Eq)]
 pub enum Task {
+    /// Says how the program is used.
+    Help,
+    /// Says what a script looks like.
+    HelpScript,
+    /// Says which version it is.
+    Version,
     /// Plays a script.
     Play,
+    /// Plays a script, and compares the replies that are written in it.
+    Check,
     /// Plays a script, and draws it.
-    Draw,
+    Draw(Drawn),
     /// Draws a journal.
-    DrawJournal,
+    DrawJournal(Drawn),
+    /// Plays a script, and says after each reply how the pool stands.
+    Watch(Colour),
     /// Has threads count by one pool.
     Count(Crowd),
     /// The same, and writes the journal of the pool, which has room for so many entries.
@@ -30,7 +41,12 @@ impl Task {
             return Some(Task::Play);
         };
         let task = match word.as_str() {
+            "help" => return parse_help(arguments),
+            "--help" => Task::Help,
+            "--version" => Task::Version,
+            "check" => Task::Check,
             "draw" => return parse_draw(arguments),
+            "watch" => return parse_watch(arguments),
             "threads" => return parse_threads(arguments),
             "buffers" => Task::Fill(parse_number(arguments.next()?.as_str()).ok()?),
             _ => return None,
@@ -47,11 +63,42 @@ fn last(arguments: &mut Args, task: Task) -> Option<Task> {
     }
 }
 
-// What is drawn: a journal, or with no word a script.
-fn parse_draw(arguments: &mut Args) -> Option<Task> {
+// What is explained: the language of scripts, or with no word the program.
+fn parse_help(arguments: &mut Args) -> Option<Task> {
     match arguments.next() {
-        None => Some(Task::Draw),
-        Some(word) if word.as_str() == "journal" => last(arguments, Task::DrawJournal),
+        None => Some(Task::Help),
+        Some(word) if word.as_str() == "script" => last(arguments, Task::HelpScript),
+        Some(_) => None,
+    }
+}
+
+// What is drawn, a script or a journal, and how.
+fn parse_draw(arguments: &mut Args) -> Option<Task> {
+    let Some(word) = arguments.next() else {
+        return Some(Task::Draw(Drawn::Story));
+    };
+    match word.as_str() {
+        "journal" => last(arguments, Task::DrawJournal(Drawn::Story)),
+        "--detail" => parse_detail(arguments),
+        _ => None,
+    }
+}
+
+fn parse_detail(arguments: &mut Args) -> Option<Task> {
+    match arguments.next() {
+        None => Some(Task::Draw(Drawn::Detail)),
+        Some(word) if word.as_str() == "journal" => {
+            last(arguments, Task::DrawJournal(Drawn::Detail))
+        }
+        Some(_) => None,
+    }
+}
+
+// Whether what is watched is coloured. What the output is, a terminal or a file, no program here can ask.
+fn parse_watch(arguments: &mut Args) -> Option<Task> {
+    match arguments.next() {
+        None => Some(Task::Watch(Colour::None)),
+        Some(word) if word.as_str() == "--colour" => last(arguments, Task::Watch(Colour::Terminal)),
         Some(_) => None,
     }
 }

@@ -6,6 +6,7 @@
 mod arguments;
 pub mod buffers;
 mod counting;
+mod help;
 mod program;
 
 pub use arguments::Task;

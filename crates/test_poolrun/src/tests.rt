@@ -1,6 +1,7 @@
 //! What of the program `poolrun` its texts can't show: streams that fail, threads side by side, and calls of its own.
 mod backend;
 mod buffers;
+mod checking;
 mod counting;
 mod failing;
 mod faults;

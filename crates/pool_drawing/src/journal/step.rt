@@ -6,7 +6,7 @@ use deadpool_journal::Entry;
 use deadpool_managed::{
     Core, Desk, Held, OwnerDesk, OwnerReply, OwnerStep, Reply, Retainer, Slot, Step,
 };
-use pool_scripts::{LineError, parse_number};
+use pool_scripts::{LineError, Reason, parse_number};
 use std::alloc::{AllocError, Global};
 use std::str;
 use std::str::Split;
@@ -19,13 +19,13 @@ const OUT_OF_MEMORY: &str = "out_of_memory";
 
 /// The words of a line, if it is text.
 pub fn words_of(line: &[u8]) -> Result<Words<'_>, LineError> {
-    let text = str::from_utf8(line).map_err(|_| LineError::NotAMove)?;
+    let text = str::from_utf8(line).map_err(|_| LineError::NotAMove(Reason::NoStep))?;
     Ok(text.split(' '))
 }
 
 /// The next word.
 pub fn next_word<'a>(words: &mut Words<'a>) -> Result<&'a str, LineError> {
-    words.next().ok_or(LineError::NotAMove)
+    words.next().ok_or(LineError::NotAMove(Reason::NoStep))
 }
 
 /// The next word, a number.
@@ -37,7 +37,7 @@ pub fn next_number(words: &mut Words<'_>) -> Result<usize, LineError> {
 pub fn end(words: &mut Words<'_>) -> Result<(), LineError> {
     match words.next() {
         None => Ok(()),
-        Some(_) => Err(LineError::NotAMove),
+        Some(_) => Err(LineError::NotAMove(Reason::NoStep)),
     }
 }
 
@@ -73,7 +73,7 @@ fn make_plain(core: &mut Core<()>, word: &str) -> Result<Entry, LineError> {
         "clone_handle" => made_for_owner(core, OwnerStep::CloneHandle),
         "drop_handle" => made_for_owner(core, OwnerStep::DropHandle),
         "upgrade" => made_for_owner(core, OwnerStep::Upgrade),
-        _ => return Err(LineError::NotAMove),
+        _ => return Err(LineError::NotAMove(Reason::NoStep)),
     })
 }
 
@@ -134,7 +134,7 @@ fn cancel(core: &mut Core<()>, words: &mut Words<'_>) -> Result<Entry, LineError
         "place" => made(core, Step::Cancel(Held::Place), None),
         "creation" => made(core, Step::Cancel(Held::Creation), None),
         "object" => made(core, Step::Cancel(Held::Object), None),
-        _ => return Err(LineError::NotAMove),
+        _ => return Err(LineError::NotAMove(Reason::NoStep)),
     })
 }
 
@@ -178,7 +178,9 @@ fn retain(alloc: Global, core: &mut Core<()>, words: &mut Words<'_>) -> Result<E
         asked: 0,
     };
     for word in words {
-        let (_number, position) = word.split_once('@').ok_or(LineError::NotAMove)?;
+        let (_number, position) = word
+            .split_once('@')
+            .ok_or(LineError::NotAMove(Reason::NoStep))?;
         positions.given_up.push(parse_number(position)?)?;
     }
     let (_, noted) = core.retain_noting(&mut positions)?;

@@ -1,11 +1,12 @@
 //! Makes the moves of a script, and keeps what parties are given.
-use crate::Stop;
+use crate::{Event, Stop};
+use deadpool_managed::Moment;
 use deadpool_replay::{Move, Reply};
 use deadpool_unmanaged_replay as unmanaged;
 use futures::task::Context;
 use pool_scripts::{
-    Answers, ManagedLine, ManagedTrial, Refused, UnmanagedTrial, end_line, parse_managed,
-    parse_unmanaged, write_managed, write_unmanaged,
+    Answers, ManagedLine, ManagedTrial, Refused, ScriptLine, UnmanagedTrial, end_line,
+    parse_script_line, parse_unmanaged, write_managed, write_unmanaged,
 };
 use pool_shapes::Given;
 use std::alloc::{AllocError, Global};
@@ -18,30 +19,67 @@ enum Named {
     Nobody,
 }
 
-/// Makes the move of a line, or keeps its answers for the manager, and writes the reply.
+/// Makes the move of a line, or keeps its answers for the manager, and writes the reply. Gives what its column is of.
 pub fn play_managed(
     trial: &mut ManagedTrial<'_>,
     given: &mut Given,
-    alloc: Global,
-    answers: &Answers,
+    is_closed: bool,
+    told: (Global, &Answers),
     line: &[u8],
     cx: &mut Context<'_>,
     reply: &mut String,
-) -> Result<(), Stop> {
-    match parse_managed(alloc, line)? {
-        ManagedLine::Answer(kind, words) => {
+) -> Result<Event, Stop> {
+    let (alloc, answers) = told;
+    let event = match parse_script_line(alloc, line)? {
+        ScriptLine::Get(now) => get(trial, given, now, cx, reply)?,
+        ScriptLine::Plain(ManagedLine::Move(next)) => {
+            make(trial, given, is_closed, next, cx, reply)?
+        }
+        ScriptLine::Plain(ManagedLine::Answer(kind, words)) => {
             answers.append(kind, words)?;
             reply.push_str("ok")?;
+            Event::new()
         }
-        ManagedLine::Move(next) => {
-            let named = named_by(&next);
-            let answer = trial.make(next, cx);
-            note(given, named, &answer)?;
-            write_managed(reply, &answer, value_of(trial, &answer))?;
+    };
+    end_line(reply)?;
+    Ok(event)
+}
+
+// Starts a get, and polls it.
+fn get(
+    trial: &mut ManagedTrial<'_>,
+    given: &mut Given,
+    now: Moment,
+    cx: &mut Context<'_>,
+    reply: &mut String,
+) -> Result<Event, Stop> {
+    // (no object comes back by these)
+    let started = make(trial, given, false, Move::Start(None), cx, reply)?;
+    match started.party {
+        None => Ok(started),
+        Some(party) => {
+            reply.push_str("; ")?;
+            make(trial, given, false, Move::Poll(party, now), cx, reply)
         }
     }
-    end_line(reply)?;
-    Ok(())
+}
+
+// Makes a move, and appends the reply.
+fn make(
+    trial: &mut ManagedTrial<'_>,
+    given: &mut Given,
+    is_closed: bool,
+    next: Move<u64>,
+    cx: &mut Context<'_>,
+    reply: &mut String,
+) -> Result<Event, Stop> {
+    let named = named_by(&next);
+    let mut event = Event::of_move(&next, is_closed);
+    let answer = trial.make(next, cx);
+    event.note(&answer);
+    note(given, named, &answer)?;
+    write_managed(reply, &answer, value_of(trial, &answer))?;
+    Ok(event)
 }
 
 fn named_by(next: &Move<u64>) -> Named {
@@ -92,16 +130,19 @@ fn value_of(trial: &ManagedTrial<'_>, answer: &Reply<u64, Refused>) -> Option<u6
 pub fn play_unmanaged(
     trial: &mut UnmanagedTrial,
     given: &mut Given,
+    is_closed: bool,
     line: &[u8],
     reply: &mut String,
-) -> Result<(), Stop> {
+) -> Result<Event, Stop> {
     let next = parse_unmanaged(line)?;
     let named = named_by_unmanaged(&next);
+    let mut event = Event::of_unmanaged(&next, is_closed);
     let answer = trial.make(next);
+    event.note_unmanaged(&answer);
     note_unmanaged(given, named, &answer)?;
     write_unmanaged(reply, &answer, unmanaged_value_of(trial, &answer))?;
     end_line(reply)?;
-    Ok(())
+    Ok(event)
 }
 
 fn named_by_unmanaged(next: &unmanaged::Move<u64>) -> Named {

@@ -1,10 +1,12 @@
 //! The lines over a managed pool.
-use super::LineError;
 use super::words::{
-    Words, end, next_moment, next_number, next_word, parse_number, parse_timeout, words_of,
+    Words, end, is_no, next_moment, next_number, next_word, parse_number, parse_timeout, unknown,
+    words_of,
 };
+use super::{Language, LineError, Wanted};
 use crate::manager::{Answer, Kind};
 use deadpool_managed::Timeouts;
+use deadpool_parts::Moment;
 use deadpool_replay::Move;
 use std::alloc::Global;
 
@@ -17,8 +19,40 @@ pub enum ManagedLine {
     Move(Move<u64>),
 }
 
-/// What a line says over a managed pool.
+/// What a line of a script says over a managed pool: a line of one move, or a get that is polled at once.
+#[derive(Drop)]
+pub enum ScriptLine {
+    Plain(ManagedLine),
+    /// It starts with the configured timeouts, and is polled at this moment.
+    Get(Moment),
+}
+
+/// What a line of a script says over a managed pool.
+pub fn parse_script_line(alloc: Global, line: &[u8]) -> Result<ScriptLine, LineError> {
+    match read_get(line) {
+        Ok(Some(now)) => Ok(ScriptLine::Get(now)),
+        Ok(None) => Ok(ScriptLine::Plain(parse_managed(alloc, line)?)),
+        Err(cause) => Err(cause.in_line(Language::Managed, line)),
+    }
+}
+
+// The moment of a get that is polled at once, if the line is one.
+fn read_get(line: &[u8]) -> Result<Option<Moment>, LineError> {
+    let mut words = words_of(line)?;
+    if next_word(&mut words)? != "get" {
+        return Ok(None);
+    }
+    let now = next_moment(&mut words)?;
+    end(&mut words)?;
+    Ok(Some(now))
+}
+
+/// What a line of one move says over a managed pool.
 pub fn parse_managed(alloc: Global, line: &[u8]) -> Result<ManagedLine, LineError> {
+    read_managed(alloc, line).map_err(|cause| cause.in_line(Language::Managed, line))
+}
+
+fn read_managed(alloc: Global, line: &[u8]) -> Result<ManagedLine, LineError> {
     let mut words = words_of(line)?;
     let said = match next_word(&mut words)? {
         "answer" => {
@@ -47,7 +81,7 @@ fn parse_move(alloc: Global, word: &str, words: &mut Words<'_>) -> Result<Move<u
         "clone" => Move::Clone,
         "drop" => Move::DropHandle,
         "upgrade" => Move::Upgrade,
-        _ => return Err(LineError::NotAMove),
+        _ => return Err(unknown(word)),
     })
 }
 
@@ -58,7 +92,7 @@ fn parse_kind(word: &str) -> Result<Kind, LineError> {
         "pre" => Ok(Kind::PreRecycle),
         "post" => Ok(Kind::PostRecycle),
         "postcreate" => Ok(Kind::PostCreate),
-        _ => Err(LineError::NotAMove),
+        _ => Err(is_no(word, Wanted::Kind)),
     }
 }
 
@@ -82,7 +116,8 @@ fn parse_answer(kind: Kind, word: &str) -> Result<Answer, LineError> {
         "refuse" => Ok(Answer::Refuse),
         // A creation has no value yet.
         "add" if kind != Kind::Create => Ok(Answer::Add),
-        _ => Err(LineError::NotAMove),
+        _ if kind == Kind::Create => Err(is_no(word, Wanted::CreateAnswer)),
+        _ => Err(is_no(word, Wanted::Answer)),
     }
 }
 

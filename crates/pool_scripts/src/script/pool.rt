@@ -1,8 +1,9 @@
 //! The lines that make a pool.
-use super::LineError;
 use super::words::{
-    Words, end, next_number, next_word, parse_number, parse_runtime, text_of, words_of,
+    Words, end, is_no, next_number, next_word, parse_number, parse_runtime, text_of, unknown,
+    words_of,
 };
+use super::{Language, LineError, Reason, Wanted};
 use deadpool_managed::{PoolConfig, QueueMode};
 use deadpool_parts::Runtime;
 use std::alloc::Global;
@@ -42,14 +43,19 @@ const CONFIG: &[u8] = b"config ";
 
 /// The pool that a line asks for.
 pub fn parse_pool(alloc: Global, line: &[u8]) -> Result<PoolLine, LineError> {
+    read_pool(alloc, line).map_err(|cause| cause.in_line(Language::Pools, line))
+}
+
+fn read_pool(alloc: Global, line: &[u8]) -> Result<PoolLine, LineError> {
     if line.starts_with(CONFIG) {
         return Ok(PoolLine::Managed(parse_config(alloc, &line[CONFIG.len()..])?));
     }
     let mut words = words_of(line)?;
-    let pool = match next_word(&mut words)? {
+    let word = next_word(&mut words)?;
+    let pool = match word {
         "pool" => PoolLine::Managed(parse_managed_pool(&mut words)?),
         "unmanaged" => PoolLine::Unmanaged(parse_unmanaged_pool(&mut words)?),
-        _ => return Err(LineError::NotAMove),
+        _ => return Err(unknown(word)),
     };
     end(&mut words)?;
     Ok(pool)
@@ -60,7 +66,7 @@ fn parse_config(alloc: Global, rest: &[u8]) -> Result<ManagedPool, LineError> {
     let (runtime, rest) = first_word(rest)?;
     let (first_number, json) = first_word(rest)?;
     if json.is_empty() {
-        return Err(LineError::NotAMove);
+        return Err(LineError::NotAMove(Reason::Count));
     }
     Ok(ManagedPool {
         settings: Settings::Written(json.to_vec(alloc)?),
@@ -72,17 +78,18 @@ fn parse_config(alloc: Global, rest: &[u8]) -> Result<ManagedPool, LineError> {
 // What stands before the first space, and what stands after it.
 fn first_word(bytes: &[u8]) -> Result<(&str, &[u8]), LineError> {
     match bytes.iter().position(|byte| *byte == b' ') {
-        None => Err(LineError::NotAMove),
+        None => Err(LineError::NotAMove(Reason::Count)),
         Some(end) => Ok((text_of(&bytes[..end])?, &bytes[end + 1..])),
     }
 }
 
 fn parse_managed_pool(words: &mut Words<'_>) -> Result<ManagedPool, LineError> {
     let mut config = PoolConfig::new(next_number(words)?);
-    config.queue_mode = match next_word(words)? {
+    let mode = next_word(words)?;
+    config.queue_mode = match mode {
         "fifo" => QueueMode::Fifo,
         "lifo" => QueueMode::Lifo,
-        _ => return Err(LineError::NotAMove),
+        _ => return Err(is_no(mode, Wanted::Mode)),
     };
     let runtime = parse_runtime(next_word(words)?)?;
     let first_number = next_number(words)?;

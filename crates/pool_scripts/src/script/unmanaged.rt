@@ -1,11 +1,17 @@
 //! The lines over an unmanaged pool.
-use super::LineError;
-use super::words::{Words, end, next_moment, next_number, next_word, parse_timeout, words_of};
+use super::words::{
+    Words, end, next_moment, next_number, next_word, parse_timeout, unknown, words_of,
+};
+use super::{Language, LineError};
 use deadpool_unmanaged_replay::Move;
 use std::time::Duration;
 
 /// The move that a line says over an unmanaged pool.
 pub fn parse_unmanaged(line: &[u8]) -> Result<Move<u64>, LineError> {
+    read_unmanaged(line).map_err(|cause| cause.in_line(Language::Unmanaged, line))
+}
+
+fn read_unmanaged(line: &[u8]) -> Result<Move<u64>, LineError> {
     let mut words = words_of(line)?;
     let next = parse_move(&mut words)?;
     end(&mut words)?;
@@ -13,7 +19,8 @@ pub fn parse_unmanaged(line: &[u8]) -> Result<Move<u64>, LineError> {
 }
 
 fn parse_move(words: &mut Words<'_>) -> Result<Move<u64>, LineError> {
-    Ok(match next_word(words)? {
+    let word = next_word(words)?;
+    Ok(match word {
         "get" => Move::Get(parse_wait(words)?),
         "add" => Move::Add(next_number(words)?),
         "poll" => Move::Poll(next_number(words)?, next_moment(words)?),
@@ -27,7 +34,7 @@ fn parse_move(words: &mut Words<'_>) -> Result<Move<u64>, LineError> {
         "clone" => Move::Clone,
         "drop" => Move::DropHandle,
         "upgrade" => Move::Upgrade,
-        _ => return Err(LineError::NotAMove),
+        _ => return Err(unknown(word)),
     })
 }
 

@@ -1,5 +1,5 @@
 //! The words of a line, and the numbers among them.
-use super::LineError;
+use super::{Excerpt, LineError, Reason, Wanted};
 use deadpool_parts::{Moment, Runtime};
 use std::str;
 use std::str::{FromStr, Split};
@@ -15,12 +15,12 @@ pub fn words_of(line: &[u8]) -> Result<Words<'_>, LineError> {
 
 /// The bytes as text.
 pub fn text_of(bytes: &[u8]) -> Result<&str, LineError> {
-    str::from_utf8(bytes).map_err(|_| LineError::NotAMove)
+    str::from_utf8(bytes).map_err(|_| LineError::NotAMove(Reason::NoText))
 }
 
 /// The next word.
 pub fn next_word<'a>(words: &mut Words<'a>) -> Result<&'a str, LineError> {
-    words.next().ok_or(LineError::NotAMove)
+    words.next().ok_or(LineError::NotAMove(Reason::Count))
 }
 
 /// The next word, a number.
@@ -40,8 +40,18 @@ pub fn next_moment(words: &mut Words<'_>) -> Result<Moment, LineError> {
 pub fn end(words: &mut Words<'_>) -> Result<(), LineError> {
     match words.next() {
         None => Ok(()),
-        Some(_) => Err(LineError::NotAMove),
+        Some(_) => Err(LineError::NotAMove(Reason::Count)),
     }
+}
+
+/// Says that a word is none of these.
+pub fn is_no(word: &str, wanted: Wanted) -> LineError {
+    LineError::NotAMove(Reason::IsNo(Excerpt::of(word), wanted))
+}
+
+/// Says that a word begins no line.
+pub fn unknown(word: &str) -> LineError {
+    LineError::NotAMove(Reason::Unknown(Excerpt::of(word)))
 }
 
 /// A number of decimal digits alone, in the range of its type.
@@ -50,15 +60,23 @@ where
     N::Err: Drop,
 {
     if !word.bytes().all(|byte| byte.is_ascii_digit()) {
-        return Err(LineError::NotAMove);
+        return Err(is_no(word, Wanted::Number));
     }
-    word.parse::<N>().map_err(|_| LineError::NotAMove)
+    word.parse::<N>().map_err(|_| too_great(word))
+}
+
+// Says that a number is out of range.
+fn too_great(word: &str) -> LineError {
+    LineError::NotAMove(Reason::TooGreat(Excerpt::of(word)))
 }
 
 /// A number of nanoseconds, or none.
 pub fn parse_timeout(word: &str) -> Result<Option<Duration>, LineError> {
     if word == "-" {
         return Ok(None);
+    }
+    if !word.bytes().all(|byte| byte.is_ascii_digit()) {
+        return Err(is_no(word, Wanted::Timeout));
     }
     Ok(Some(Duration::from_nanos(parse_number(word)?)))
 }
@@ -68,6 +86,6 @@ pub fn parse_runtime(word: &str) -> Result<Option<Runtime>, LineError> {
     match word {
         "none" => Ok(None),
         "clock" => Ok(Some(Runtime::Clock)),
-        _ => Err(LineError::NotAMove),
+        _ => Err(is_no(word, Wanted::Runtime)),
     }
 }

@@ -14,12 +14,15 @@ fn fault_has<R: AllocGlobal>(rt: &R, fault: Fault, text: &str, status: u8) -> Re
 
 #[test]
 fn faults_have_their_texts(rt: HostRuntime) -> Result<(), Fail> {
-    let usage = "usage: poolrun [draw [journal] | threads N M [journal K] | buffers MOST]";
+    let usage =
+        "usage: poolrun [check | draw [--detail] [journal] | watch [--colour] | threads N M [journal K] | buffers MOST | help [script]]";
     fault_has(&rt, Fault::Usage, usage, 2)?;
     fault_has(&rt, Fault::TooMuch(12), "line 12: too much to draw", 2)?;
     let other = "line 12: the pool has another reply";
     fault_has(&rt, Fault::OtherReply(12), other, 2)?;
     fault_has(&rt, Fault::NotAMove(12), "line 12: not a move", 2)?;
+    let written = "line 12: another reply is written";
+    fault_has(&rt, Fault::OtherWritten(12), written, 1)?;
     fault_has(&rt, Fault::OutOfMemory, "out of memory", 1)?;
     fault_has(&rt, Fault::InputFailed, "input failed", 1)?;
     fault_has(&rt, Fault::OutputFailed, "output failed", 1)

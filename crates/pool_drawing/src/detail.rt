@@ -1,4 +1,4 @@
-//! Writes a picture.
+//! Writes a picture with each count in a chart of its own, and the list of the lines.
 mod counts;
 mod frame;
 mod legend;
@@ -12,8 +12,8 @@ use pool_scripts::{Fault, write_out};
 use std::alloc::Global;
 use std::io::Write;
 
-/// Writes a picture to its end, part by part.
-pub fn write_picture<W: Write>(
+/// Writes such a picture to its end, part by part.
+pub fn write_detail<W: Write>(
     alloc: Global,
     picture: &Picture,
     writer: &mut W,
