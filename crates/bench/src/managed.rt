@@ -12,7 +12,7 @@ use crate::zeros::Zeros;
 use deadpool::NoTime;
 use deadpool::managed::desk::{Kept, Slot};
 use deadpool::managed::{Blanks, Build, Get, Ledgers, NoHook, Object, Pool, PoolBuilder, Timeouts};
-use deadpool_threads::Waiter;
+use deadpool_threads::Blocking;
 use futures::Future;
 use futures::executor::block_on;
 use futures::task::{Doorbell, Poll, Solo};
@@ -64,9 +64,9 @@ where
 }
 
 fn measure_alone<R: Host, L: Ledgers>(table: Table<R>, pool: &ZeroPool<R, L>) -> io::Result<()> {
-    // Beside its object's slot and timeouts of its own, a get takes at most 128 bytes.
+    // Beside its object's slot and timeouts of its own, a get takes at most 144 bytes.
     let places = size_of::<Option<Slot<Kept<u64>>>>() + size_of::<Option<Timeouts>>();
-    prove!(size_of::<ZeroGet<R, L>>() <= 128 + places);
+    prove!(size_of::<ZeroGet<R, L>>() <= 144 + places);
     measure_polls(table, pool)?;
     measure_waits(table, pool)
 }
@@ -119,7 +119,7 @@ fn measure_polls<R: Host, L: Ledgers>(table: Table<R>, pool: &ZeroPool<R, L>) ->
 fn measure_waits<R: Host, L: Ledgers>(table: Table<R>, pool: &ZeroPool<R, L>) -> io::Result<()> {
     let rt = &table.rt;
     let waits = |times: u32| -> io::Result<()> {
-        let mut waiter = Waiter::new(rt)?;
+        let mut waiter = Blocking::new(rt)?;
         for _time in 0..times {
             let Ok(object) = waiter.get(rt, pool) else {
                 return Err(lacks_object());
@@ -130,7 +130,7 @@ fn measure_waits<R: Host, L: Ledgers>(table: Table<R>, pool: &ZeroPool<R, L>) ->
     };
     table.figure("get and return, by a waiter", &waits)?;
     let begun = |times: u32| -> io::Result<()> {
-        let mut waiter = Waiter::new(rt)?;
+        let mut waiter = Blocking::new(rt)?;
         let mut waiting = waiter.begin();
         for _time in 0..times {
             let Ok(object) = waiting.get(rt, pool) else {
@@ -156,7 +156,7 @@ fn measure_waits<R: Host, L: Ledgers>(table: Table<R>, pool: &ZeroPool<R, L>) ->
 // All objects are out, so every get waits.
 fn measure_cancels<R: Host, L: Ledgers>(table: Table<R>, pool: &ZeroPool<R, L>) -> io::Result<()> {
     pool.resize(1)?;
-    let mut waiter = Waiter::new(&table.rt)?;
+    let mut waiter = Blocking::new(&table.rt)?;
     let Ok(held) = waiter.get(&table.rt, pool) else {
         return Err(lacks_object());
     };
@@ -189,7 +189,7 @@ where
     }
 
     fn repeat(&self, times: u32) -> io::Result<()> {
-        let mut waiter = Waiter::new(&self.rt)?;
+        let mut waiter = Blocking::new(&self.rt)?;
         for _time in 0..times {
             let Ok(object) = waiter.get(&self.rt, &self.pool) else {
                 return Err(lacks_object());

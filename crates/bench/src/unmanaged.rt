@@ -8,7 +8,7 @@ use crate::table::Table;
 use crate::work::{SharedWork, all_served, lacks_object};
 use deadpool::NoTime;
 use deadpool::unmanaged::{Get, Pool};
-use deadpool_threads::Waiter;
+use deadpool_threads::Blocking;
 use futures::Future;
 use futures::executor::block_on;
 use futures::task::{Doorbell, Poll, Solo};
@@ -104,7 +104,7 @@ fn measure_polls<R: Host>(table: Table<R>, pool: &ZeroPool<R>) -> io::Result<()>
 fn measure_waits<R: Host>(table: Table<R>, pool: &ZeroPool<R>) -> io::Result<()> {
     let rt = &table.rt;
     let waits = |times: u32| -> io::Result<()> {
-        let mut waiter = Waiter::new(rt)?;
+        let mut waiter = Blocking::new(rt)?;
         for _time in 0..times {
             let Ok(object) = waiter.get_unmanaged(rt, pool) else {
                 return Err(lacks_object());
@@ -115,7 +115,7 @@ fn measure_waits<R: Host>(table: Table<R>, pool: &ZeroPool<R>) -> io::Result<()>
     };
     table.figure("get and return, by a waiter", &waits)?;
     let begun = |times: u32| -> io::Result<()> {
-        let mut waiter = Waiter::new(rt)?;
+        let mut waiter = Blocking::new(rt)?;
         let mut waiting = waiter.begin();
         for _time in 0..times {
             let Ok(object) = waiting.get_unmanaged(rt, pool) else {
@@ -163,7 +163,7 @@ impl<R: Host> SharedWork for Holds<R> {
     }
 
     fn repeat(&self, times: u32) -> io::Result<()> {
-        let mut waiter = Waiter::new(&self.rt)?;
+        let mut waiter = Blocking::new(&self.rt)?;
         for _time in 0..times {
             let Ok(object) = waiter.get_unmanaged(&self.rt, &self.pool) else {
                 return Err(lacks_object());

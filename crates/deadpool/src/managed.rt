@@ -11,9 +11,11 @@ pub use deadpool_managed::{
     HookResult, Manager, Metrics, NoHook, ObjectId, PoolConfig, PoolError, QueueMode, RecycleError,
     RecycleResult, RetainResult, Status, SyncHook, TimeoutType, Timeouts,
 };
+pub use deadpool_settings::managed::{strict_from_json, strict_from_text};
+pub use deadpool_settings::{Fault, Named, StrictError, Why};
 pub use deadpool_shared::{
-    Blanks, Build, Caller, Entry, Get, GetRef, History, Journal, Ledgers, Line, Object, Pool,
-    WeakPool,
+    Blanks, Build, Caller, Drain, DrainError, Entry, Get, GetRef, Getting, HasTimeouts, History,
+    Journal, Ledgers, LentTimeouts, Line, Object, OwnTimeouts, Pool, Report, Tally, WeakPool,
 };
 
 /// What a user of a pool names beside it, for a crate that gives a pool of its own out.

@@ -4,6 +4,8 @@
 //! thread, where a get and an add are states that their owner polls (`GetState`, `AddState`), each poll with at most
 //! one of its steps. Both stand in crates of their own, which know no manager.
 
+pub use deadpool_settings::unmanaged::{strict_from_json, strict_from_text};
+pub use deadpool_settings::{Fault, Named, StrictError, Why};
 pub use deadpool_unmanaged::{
     AddStage, AddState, ConfigError, Core, Counts, GetStage, GetState, HandleReply, PoolConfig,
     PoolError, Reply, Status, Step,

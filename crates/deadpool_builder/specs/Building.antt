@@ -15,6 +15,8 @@ pub record Building (M F A C : Type 0) : Type 0 where
   pub timeouts : Timeouts
   pub queue_mode : QueueMode
   pub min_idle : ℕ
+  -- how many gets may wait, if that is bounded
+  pub max_waiting : Option ℕ
   pub runtime : Option Runtime
   -- how many entries the journal may have
   pub journal : ℕ
@@ -33,6 +35,7 @@ newly manager clock =
       timeouts = no_timeouts;
       queue_mode = Fifo;
       min_idle = 0;
+      max_waiting = None;
       runtime = None;
       journal = 0;
     }

@@ -2,7 +2,7 @@
 ghost use Rattle.std.specs.Prelude.{◌≡◌, ◌↔◌, ◌++◌, ◌∷◌, [], true, IfOk, IfErr, IsOkUnless, Option, Err};
 ghost use Rattle.std.specs.declared.time.Duration.{Duration};
 ghost use Rattle.deadpool_parts.specs.declared.errors.BuildError.TheVariants.{NoRuntimeSpecified};
-ghost use Rattle.deadpool_desk.specs.DeskState.{new_core};
+ghost use Rattle.deadpool_desk.specs.DeskState.{bounded, new_core};
 ghost use Rattle.deadpool_managed.specs.HookLists.{CanCall};
 ghost use Rattle.deadpool_builder.specs.Building.{Building, lacks_any_runtime, newly};
 
@@ -27,6 +27,8 @@ pub struct PoolParts<M: Manager, F: SyncHook<M>, A: AsyncHook<M>, C: Drop> {
     pub queue_mode: QueueMode,
     /// How many objects a shrink and a retain leave idle, if as many are.
     pub min_idle: usize,
+    /// How many gets may wait for a place, if that is bounded.
+    pub max_waiting: Option<usize>,
     /// How many entries the journal may have.
     pub journal: usize,
     pub alloc: Global,
@@ -54,6 +56,7 @@ pub struct PoolBuilder<M: Manager, F: SyncHook<M>, A: AsyncHook<M>, C: Drop> {
     timeouts: Timeouts,
     queue_mode: QueueMode,
     min_idle: usize,
+    max_waiting: Option<usize>,
     runtime: Option<Runtime>,
     journal: usize,
 }
@@ -71,6 +74,7 @@ impl<M: Manager, F: SyncHook<M>, A: AsyncHook<M>, C: Drop> Model for PoolBuilder
       timeouts = b.timeouts;
       queue_mode = b.queue_mode;
       min_idle = b.min_idle;
+      max_waiting = b.max_waiting;
       runtime = b.runtime;
       journal = b.journal;
     } };
@@ -78,7 +82,8 @@ impl<M: Manager, F: SyncHook<M>, A: AsyncHook<M>, C: Drop> Model for PoolBuilder
 
 impl<M: Manager, F: SyncHook<M>, A: AsyncHook<M>, C: Drop> PoolBuilder<M, F, A, C> {
     /// A pool of at most two objects, first in first out, with no hook, no timeout, no runtime, no object that has to
-    /// stay idle, and no room in its journal. The machine is not asked how many processors it has.
+    /// stay idle, no bound on the gets that wait, and no room in its journal. The machine is not asked how many
+    /// processors it has.
     pub fn new(alloc: Global, manager: M, clock: C) -> Self
         ensures { result ≡ newly manager clock }
     {
@@ -91,6 +96,7 @@ impl<M: Manager, F: SyncHook<M>, A: AsyncHook<M>, C: Drop> PoolBuilder<M, F, A, 
             timeouts: Timeouts::new(),
             queue_mode: QueueMode::Fifo,
             min_idle: 0,
+            max_waiting: None,
             runtime: None,
             journal: 0,
         }
@@ -121,7 +127,8 @@ impl<M: Manager, F: SyncHook<M>, A: AsyncHook<M>, C: Drop> PoolBuilder<M, F, A, 
         ensures size { IfOk result (λ parts. parts.max_size ≡ self.max_size) }
         ensures timeouts { IfOk result (λ parts. parts.timeouts ≡ self.timeouts) }
         ensures mode { IfOk result (λ parts. parts.queue_mode ≡ self.queue_mode) }
-        ensures floor { IfOk result (λ parts. parts.min_idle ≡ self.min_idle) }
+        ensures min_idle { IfOk result (λ parts. parts.min_idle ≡ self.min_idle) }
+        ensures bound { IfOk result (λ parts. parts.max_waiting ≡ self.max_waiting) }
         ensures journal { IfOk result (λ parts. parts.journal ≡ self.journal) }
     {
         if self.lacks_runtime() {
@@ -136,6 +143,7 @@ impl<M: Manager, F: SyncHook<M>, A: AsyncHook<M>, C: Drop> PoolBuilder<M, F, A, 
             timeouts,
             queue_mode,
             min_idle,
+            max_waiting,
             runtime,
             journal,
         } = self;
@@ -150,6 +158,7 @@ impl<M: Manager, F: SyncHook<M>, A: AsyncHook<M>, C: Drop> PoolBuilder<M, F, A, 
             timeouts,
             queue_mode,
             min_idle,
+            max_waiting,
             journal,
             alloc,
         })
@@ -160,9 +169,9 @@ impl<M: Manager, F: SyncHook<M>, A: AsyncHook<M>, C: Drop> PoolBuilder<M, F, A, 
     pub fn open(self, first_number: usize) -> Result<OpenPool<M, F, A, C>, BuildError>
         ensures refused { (result ≡ Err NoRuntimeSpecified)
             ↔ (lacks_any_runtime self.runtime self.timeouts ≡ true) }
-        ensures core { IfOk result (λ pool.
-            pool.core.desk ≡ new_core self.max_size self.queue_mode first_number self.min_idle) }
-        ensures untold { IfOk result (λ pool. pool.core.untold ≡ []) }
+        ensures core { IfOk result (λ pool. pool.core.desk
+            ≡ bounded self.max_waiting (new_core self.max_size self.queue_mode first_number self.min_idle)) }
+        ensures unnotified { IfOk result (λ pool. pool.core.unnotified ≡ []) }
         ensures environment { IfOk result (λ pool. pool.environment
             ≡ record { manager = self.manager; hooks = self.hooks; runtime = self.runtime }) }
         ensures timeouts { IfOk result (λ pool. pool.timeouts ≡ self.timeouts) }
@@ -175,11 +184,13 @@ impl<M: Manager, F: SyncHook<M>, A: AsyncHook<M>, C: Drop> PoolBuilder<M, F, A, 
             timeouts,
             queue_mode,
             min_idle,
+            max_waiting,
             journal: _,
             alloc,
         } = self.into_parts()?;
+        let core = Core::new(alloc, max_size, queue_mode, first_number, min_idle)?;
         Ok(OpenPool {
-            core: Core::new(alloc, max_size, queue_mode, first_number, min_idle)?,
+            core: core.bounded(max_waiting),
             environment,
             timeouts,
             clock,
@@ -194,12 +205,14 @@ impl<M: Manager, F: SyncHook<M>, A: AsyncHook<M>, C: Drop> PoolBuilder<M, F, A, 
           timeouts = config.timeouts;
           queue_mode = config.queue_mode;
           min_idle = config.min_idle;
+          max_waiting = config.max_waiting;
         } }
     {
         self.max_size = config.max_size;
         self.timeouts = config.timeouts;
         self.queue_mode = config.queue_mode;
         self.min_idle = config.min_idle;
+        self.max_waiting = config.max_waiting;
         self
     }
 
@@ -257,6 +270,14 @@ impl<M: Manager, F: SyncHook<M>, A: AsyncHook<M>, C: Drop> PoolBuilder<M, F, A, 
         ensures { result ≡ record self { min_idle = min_idle } }
     {
         self.min_idle = min_idle;
+        self
+    }
+
+    /// How many gets may wait for a place, or no bound. One more is refused at once, with `PoolError::Crowded`.
+    pub fn max_waiting(mut self, max_waiting: Option<usize>) -> Self
+        ensures { result ≡ record self { max_waiting = max_waiting } }
+    {
+        self.max_waiting = max_waiting;
         self
     }
 

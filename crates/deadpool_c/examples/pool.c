@@ -8,7 +8,7 @@
 
 #include "deadpool.h"
 
-enum { LIMIT = 2, ENTRIES = 64 };
+enum { LIMIT = 2, ENTRIES = 64, MOST_WAITING = 1 };
 
 /* A tool, with the number that the pool has given it. */
 struct tool {
@@ -114,6 +114,7 @@ static void give_up_a_wait(void) {
     want(DEADPOOL_REPLY_FULL, enter(false), "a get that does not wait");
     size_t ticket = want(DEADPOOL_REPLY_WAITING, enter(true), "a get that waits").number;
     want(DEADPOOL_REPLY_WAITING, ask(ticket), "ask");
+    want(DEADPOOL_REPLY_CROWDED, enter(true), "a get that finds as many waiting as may");
     show("a get waits");
     want(DEADPOOL_REPLY_DONE, make(DEADPOOL_STEP_WITHDRAW, false, ticket), "leave the queue");
     want(DEADPOOL_REPLY_UNKNOWN, ask(ticket), "ask once more");
@@ -167,7 +168,7 @@ static void close_all(void) {
 }
 
 int main(void) {
-    check(deadpool_managed_new(&pool, LIMIT, false, ENTRIES, 0), "there is memory");
+    check(deadpool_managed_new(&pool, LIMIT, false, ENTRIES, 0, MOST_WAITING), "there is memory");
     bring_a_stranger();
     uint64_t first = served(enter(false));
     uint64_t second = served(enter(false));

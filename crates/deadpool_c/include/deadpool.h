@@ -94,6 +94,9 @@ typedef struct deadpool_reply {
 /* No handle is left, and nothing has changed. */
 #define DEADPOOL_REPLY_NO_HANDLE UINT64_C(17)
 
+/* As many gets wait as may, or as many adds. With it comes the key that an add brought. */
+#define DEADPOOL_REPLY_CROWDED UINT64_C(18)
+
 /* How a pool stands. Each is a number of objects or, for `waiting`, of gets. */
 typedef struct deadpool_standing {
     /* How many objects there may be. */
@@ -132,7 +135,8 @@ typedef struct deadpool_unmanaged_pool {
 
 /* A new get asks for a place. `is_set` says whether it joins the queue if none is free. The reply is
  * `DEADPOOL_REPLY_OBJECT`, `DEADPOOL_REPLY_CREATE`, `DEADPOOL_REPLY_EXHAUSTED`, `DEADPOOL_REPLY_CLOSED`,
- * `DEADPOOL_REPLY_FULL`, `DEADPOOL_REPLY_WAITING` or `DEADPOOL_REPLY_OUT_OF_MEMORY`. */
+ * `DEADPOOL_REPLY_FULL`, `DEADPOOL_REPLY_CROWDED`, `DEADPOOL_REPLY_WAITING` or
+ * `DEADPOOL_REPLY_OUT_OF_MEMORY`. */
 #define DEADPOOL_STEP_ENTER UINT64_C(1)
 
 /* A get in the queue asks for its place, by its ticket as `number`. `is_set` says whether it has waited
@@ -204,7 +208,7 @@ typedef struct deadpool_unmanaged_pool {
 
 /* A new get asks for an object. `is_set` says whether it joins the queue if none is free. The reply is
  * `DEADPOOL_REPLY_OBJECT` with its key, `DEADPOOL_REPLY_CLOSED`, `DEADPOOL_REPLY_FULL`,
- * `DEADPOOL_REPLY_WAITING` or `DEADPOOL_REPLY_OUT_OF_MEMORY`. */
+ * `DEADPOOL_REPLY_CROWDED`, `DEADPOOL_REPLY_WAITING` or `DEADPOOL_REPLY_OUT_OF_MEMORY`. */
 #define DEADPOOL_UNMANAGED_STEP_GET_ENTER UINT64_C(1)
 
 /* A get in the queue asks for its object, by its ticket as `number`. `is_set` says whether it has waited
@@ -218,7 +222,7 @@ typedef struct deadpool_unmanaged_pool {
 
 /* A new add brings an object by its `key`. `is_set` says whether it joins the queue if there is no room.
  * The reply is `DEADPOOL_REPLY_STORED`, or with the key `DEADPOOL_REPLY_CLOSED`, `DEADPOOL_REPLY_FULL`,
- * `DEADPOOL_REPLY_WAITING` or `DEADPOOL_REPLY_OUT_OF_MEMORY`. */
+ * `DEADPOOL_REPLY_CROWDED`, `DEADPOOL_REPLY_WAITING` or `DEADPOOL_REPLY_OUT_OF_MEMORY`. */
 #define DEADPOOL_UNMANAGED_STEP_ADD_ENTER UINT64_C(4)
 
 /* An add in the queue asks for its room, by its ticket as `number`, and brings its object by its `key`:
@@ -241,10 +245,11 @@ typedef struct deadpool_unmanaged_pool {
 /* A managed pool: how it is made and ended, the steps that gets and objects make, and who is to be woken. */
 
 /* Makes a pool of so many objects at most, with one handle and room for so many entries of its journal:
- * `false` if memory is wanting. `min_idle` is how many objects a resize and a retain leave idle. The block
- * has to be empty, with a null pointer: what it led to before is forgotten. */
+ * `false` if memory is wanting. `min_idle` is how many objects a resize and a retain leave idle, and
+ * `max_waiting` how many gets may wait, by the greatest number any. The block has to be empty, with a null
+ * pointer: what it led to before is forgotten. */
 bool deadpool_managed_new(deadpool_managed_pool *pool, size_t limit, bool is_lifo, size_t most_entries,
-    size_t min_idle);
+    size_t min_idle, size_t max_waiting);
 
 /* Ends a pool. The keys of what is idle are forgotten. */
 void deadpool_managed_free(deadpool_managed_pool pool);
@@ -304,9 +309,10 @@ deadpool_reply deadpool_managed_removal(deadpool_managed_pool *pool, size_t at, 
  * which they stood, to the front of `keys`, as far as it reaches. Room for as many keys as are idle is
  * enough. */
 
-/* Makes an open pool of so many objects at most, with one handle: `false` if memory is wanting. The block
- * has to be empty, with a null pointer: what it led to before is forgotten. */
-bool deadpool_unmanaged_new(deadpool_unmanaged_pool *pool, size_t limit);
+/* Makes an open pool of so many objects at most, with one handle: `false` if memory is wanting.
+ * `max_waiting` is how many gets may wait, and how many adds, by the greatest number any. The block has to
+ * be empty, with a null pointer: what it led to before is forgotten. */
+bool deadpool_unmanaged_new(deadpool_unmanaged_pool *pool, size_t limit, size_t max_waiting);
 
 /* Ends a pool. The keys of what is idle are forgotten. */
 void deadpool_unmanaged_free(deadpool_unmanaged_pool pool);

@@ -14,14 +14,14 @@ use Rattle.deadpool_desk.specs.declared.step.Reply.{Reply as DeskReply}
 use Rattle.deadpool_desk.specs.declared.step.Reply.TheVariants as reply
 use Rattle.deadpool_desk.specs.declared.step.Step.{Step}
 use Rattle.deadpool_journal.specs.Journaling.{Journaling}
-use Rattle.deadpool_journal.specs.Steps.{MakesNoted, MakesForOwnerNoted, TellsUnnoted}
+use Rattle.deadpool_journal.specs.Steps.{MakesNoted, MakesForOwnerNoted, NotifiesUnnoted}
 use Rattle.deadpool_c.specs.Replies.{plain, numbered, keyed, raw_wake, raw_standing}
 use Rattle.deadpool_c.specs.ManagedSteps.{brought}
 use Rattle.deadpool_c.specs.declared.reply.Reply.{Reply}
 use Rattle.deadpool_c.specs.declared.reply.Standing.{Standing}
 use Rattle.deadpool_c.specs.declared.reply.TheConstants.{UNKNOWN, DONE, OBJECT, CREATE, GOING, EXHAUSTED, CLOSED, FULL}
 use Rattle.deadpool_c.specs.declared.reply.TheConstants.{WAITING, OUT_OF_MEMORY, EXPIRED, CREATED, KEPT, DETACH}
-use Rattle.deadpool_c.specs.declared.reply.TheConstants.{DROPPED, TAKEN, NO_HANDLE}
+use Rattle.deadpool_c.specs.declared.reply.TheConstants.{DROPPED, TAKEN, NO_HANDLE, CROWDED}
 
 abbrev pub mode_of : Bool → QueueMode
 mode_of is_lifo = if is_lifo then Lifo else Fifo
@@ -34,6 +34,7 @@ raw_made reply.Going number key = plain GOING
 raw_made reply.Exhausted number key = plain EXHAUSTED
 raw_made reply.Closed number key = plain CLOSED
 raw_made reply.Full number key = plain FULL
+raw_made reply.Crowded number key = plain CROWDED
 raw_made (reply.Waiting ticket) number key = numbered WAITING ticket
 raw_made reply.OutOfMemory number key = plain OUT_OF_MEMORY
 raw_made reply.Expired number key = plain EXPIRED
@@ -78,4 +79,4 @@ StandsRaw j raw j' = (status : Status) × MakesForOwnerNoted j owner.Status (own
 
 -- it is no step, and nothing is noted
 abbrev pub TellsRaw : Journaling ℕ → Reply → Journaling ℕ → Type 0
-TellsRaw j raw j' = (named : Option ℕ) × TellsUnnoted j named j' × (raw ≡ raw_wake named)
+TellsRaw j raw j' = (named : Option ℕ) × NotifiesUnnoted j named j' × (raw ≡ raw_wake named)

@@ -12,7 +12,7 @@ use Rattle.deadpool_c.specs.Replies.{plain, keyed, raw_handle, raw_wake}
 use Rattle.deadpool_c.specs.UnmanagedSteps.{brought}
 use Rattle.deadpool_c.specs.declared.reply.Reply.{Reply}
 use Rattle.deadpool_c.specs.declared.reply.TheConstants.{UNKNOWN, DONE, OBJECT, CLOSED, FULL, WAITING, OUT_OF_MEMORY}
-use Rattle.deadpool_c.specs.declared.reply.TheConstants.{EXPIRED, KEPT, DROPPED, TAKEN, STORED}
+use Rattle.deadpool_c.specs.declared.reply.TheConstants.{EXPIRED, KEPT, DROPPED, TAKEN, STORED, CROWDED}
 
 -- a reply with the key of the object that is in the hand after it
 abbrev pub raw_made : CoreReply → ℕ → Reply
@@ -20,6 +20,7 @@ raw_made reply.Object key = keyed OBJECT 0 key
 raw_made reply.Stored key = plain STORED
 raw_made reply.Closed key = keyed CLOSED 0 key
 raw_made reply.Full key = keyed FULL 0 key
+raw_made reply.Crowded key = keyed CROWDED 0 key
 raw_made (reply.Waiting ticket) key = keyed WAITING ticket key
 raw_made reply.OutOfMemory key = keyed OUT_OF_MEMORY 0 key
 raw_made reply.Expired key = plain EXPIRED

@@ -1,7 +1,7 @@
 //! A managed pool: how it is made and ended, the steps that gets and objects make, and who is to be woken.
-ghost use Rattle.std.specs.Prelude.{◌≡◌, true, []};
+ghost use Rattle.std.specs.Prelude.{◌≡◌, true, [], Some};
 ghost use denote.RawPtr.{InBlock};
-ghost use Rattle.deadpool_desk.specs.DeskState.{new_core};
+ghost use Rattle.deadpool_desk.specs.DeskState.{bounded, new_core};
 ghost use Rattle.deadpool_journal.specs.LogState.{no_entries};
 ghost use Rattle.deadpool_c.specs.ManagedReplies.{MakesRaw, StandsRaw, TellsRaw, mode_of};
 ghost use Rattle.deadpool_c.specs.ManagedSteps.{step_of};
@@ -13,8 +13,9 @@ use core::mem::replace_with;
 use std::alloc::Global;
 
 /// Makes a pool of so many objects at most, with one handle and room for so many entries of its journal: `false` if
-/// memory is wanting. `min_idle` is how many objects a resize and a retain leave idle. The block has to be empty,
-/// with a null pointer: what it led to before is forgotten.
+/// memory is wanting. `min_idle` is how many objects a resize and a retain leave idle, and `max_waiting` how many gets
+/// may wait, by the greatest number any. The block has to be empty, with a null pointer: what it led to before is
+/// forgotten.
 #[unsafe(no_mangle)]
 pub extern "C" fn deadpool_managed_new(
     pool: &mut ManagedPool,
@@ -23,11 +24,12 @@ pub extern "C" fn deadpool_managed_new(
     is_lifo: bool,
     most_entries: usize,
     min_idle: usize,
+    max_waiting: usize,
 ) -> bool
     ensures made { result ≡ true → InBlock pool.new.at }
-    ensures desk { result ≡ true
-        → pool.new.state.pool.core.desk ≡ new_core limit (mode_of is_lifo) 0 min_idle }
-    ensures untold { result ≡ true → pool.new.state.pool.core.untold ≡ [] }
+    ensures desk { result ≡ true → pool.new.state.pool.core.desk
+        ≡ bounded (Some max_waiting) (new_core limit (mode_of is_lifo) 0 min_idle) }
+    ensures unnotified { result ≡ true → pool.new.state.pool.core.unnotified ≡ [] }
     ensures log { result ≡ true → pool.new.state.pool.log ≡ no_entries most_entries }
 {
     let opening = Opening {
@@ -35,6 +37,7 @@ pub extern "C" fn deadpool_managed_new(
         is_lifo,
         most_entries,
         min_idle,
+        max_waiting,
     };
     match managed_steps::open(alloc, opening) {
         Ok(made) => {

@@ -3,7 +3,7 @@ ghost use Rattle.std.specs.Prelude.{◌≡◌};
 ghost use Rattle.deadpool_c.specs.ManagedReplies.{raw_made, raw_in_hand, raw_for_owner};
 
 use crate::reply::{
-    CLOSED, CREATE, CREATED, DETACH, DONE, DROPPED, EXHAUSTED, EXPIRED, FULL, GOING, KEPT,
+    CLOSED, CREATE, CREATED, CROWDED, DETACH, DONE, DROPPED, EXHAUSTED, EXPIRED, FULL, GOING, KEPT,
     NO_HANDLE, OBJECT, OUT_OF_MEMORY, Reply, TAKEN, UNKNOWN, WAITING, keyed, numbered, plain,
 };
 use deadpool_desk::{OwnerReply, Reply as DeskReply, Slot};
@@ -24,6 +24,7 @@ pub fn made(reply: &DeskReply, number: usize, key: u64) -> Reply
         DeskReply::Exhausted => plain(EXHAUSTED),
         DeskReply::Closed => plain(CLOSED),
         DeskReply::Full => plain(FULL),
+        DeskReply::Crowded => plain(CROWDED),
         DeskReply::Waiting(ticket) => numbered(WAITING, ticket.number()),
         DeskReply::OutOfMemory => plain(OUT_OF_MEMORY),
         DeskReply::Expired => plain(EXPIRED),

@@ -1,8 +1,8 @@
 //! The steps of a managed pool, each on a pool that is taken and given back. What a step does is said at its export in
 //! `managed.rt`.
-ghost use Rattle.std.specs.Prelude.{◌≡◌, [], IfOk};
+ghost use Rattle.std.specs.Prelude.{◌≡◌, [], IfOk, Some};
 ghost use denote.RawPtr.{InBlock};
-ghost use Rattle.deadpool_desk.specs.DeskState.{new_core};
+ghost use Rattle.deadpool_desk.specs.DeskState.{bounded, new_core};
 ghost use Rattle.deadpool_desk.specs.Replies.{Brings};
 ghost use Rattle.deadpool_journal.specs.LogState.{no_entries};
 ghost use Rattle.deadpool_c.specs.ManagedReplies.{MakesRaw, StandsRaw, TellsRaw, mode_of};
@@ -26,6 +26,8 @@ pub struct Opening {
     pub most_entries: usize,
     /// How many objects a resize and a retain leave idle, if as many are.
     pub min_idle: usize,
+    /// How many gets may wait.
+    pub max_waiting: usize,
 }
 
 /// A step as the caller asks for it.
@@ -39,9 +41,9 @@ pub struct Asked {
 
 pub fn open(alloc: Global, opening: Opening) -> Result<ManagedPool, AllocError>
     ensures made { IfOk result (λ pool. InBlock pool.at) }
-    ensures desk { IfOk result (λ pool. pool.state.pool.core.desk
-        ≡ new_core opening.limit (mode_of opening.is_lifo) 0 opening.min_idle) }
-    ensures untold { IfOk result (λ pool. pool.state.pool.core.untold ≡ []) }
+    ensures desk { IfOk result (λ pool. pool.state.pool.core.desk ≡ bounded
+        (Some opening.max_waiting) (new_core opening.limit (mode_of opening.is_lifo) 0 opening.min_idle)) }
+    ensures unnotified { IfOk result (λ pool. pool.state.pool.core.unnotified ≡ []) }
     ensures log { IfOk result (λ pool. pool.state.pool.log ≡ no_entries opening.most_entries) }
 {
     let Opening {
@@ -49,6 +51,7 @@ pub fn open(alloc: Global, opening: Opening) -> Result<ManagedPool, AllocError>
         is_lifo,
         most_entries,
         min_idle,
+        max_waiting,
     } = opening;
     let mode = if is_lifo {
         QueueMode::Lifo
@@ -56,6 +59,7 @@ pub fn open(alloc: Global, opening: Opening) -> Result<ManagedPool, AllocError>
         QueueMode::Fifo
     };
     let pool = Journaled::new(alloc, limit, mode, most_entries, min_idle)?;
+    let pool = pool.bounded(Some(max_waiting));
     let state = Box::new(alloc, ManagedState { pool })?;
     Ok(ManagedPool::of(state))
 }

@@ -88,6 +88,9 @@ pub const STORED: u64 = 16;
 /// No handle is left, and nothing has changed.
 pub const NO_HANDLE: u64 = 17;
 
+/// As many gets wait as may, or as many adds. With it comes the key that an add brought.
+pub const CROWDED: u64 = 18;
+
 /// A reply of this kind, with nothing else.
 pub fn plain(kind: u64) -> Reply
     ensures { result ≡ plain kind }

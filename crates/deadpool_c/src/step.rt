@@ -10,7 +10,7 @@ use deadpool_desk::{Held, OwnerStep, Step};
 pub const NO_ENTRY: u64 = 0;
 
 /// A new get asks for a place. `is_set` says whether it joins the queue if none is free. The reply is `OBJECT`,
-/// `CREATE`, `EXHAUSTED`, `CLOSED`, `FULL`, `WAITING` or `OUT_OF_MEMORY`.
+/// `CREATE`, `EXHAUSTED`, `CLOSED`, `FULL`, `CROWDED`, `WAITING` or `OUT_OF_MEMORY`.
 pub const ENTER: u64 = 1;
 
 /// A get in the queue asks for its place, by its ticket as `number`. `is_set` says whether it has waited long enough.

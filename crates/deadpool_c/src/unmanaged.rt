@@ -1,8 +1,8 @@
 //! The steps of an unmanaged pool. A step that gives idle objects up writes their keys, in the order in which they
 //! stood, to the front of `keys`, as far as it reaches. Room for as many keys as are idle is enough.
-ghost use Rattle.std.specs.Prelude.{◌≡◌, ◌==◌, true, [], not};
+ghost use Rattle.std.specs.Prelude.{◌≡◌, true, [], not, Some};
 ghost use denote.RawPtr.{InBlock};
-ghost use Rattle.deadpool_unmanaged.specs.State.{opened, status_of};
+ghost use Rattle.deadpool_unmanaged.specs.State.{bounded, opened, status_of};
 ghost use Rattle.deadpool_unmanaged.specs.StateSteps.{Upgrades, closed_pool};
 ghost use Rattle.deadpool_c.specs.Keys.{Writes, written_count, last_unmanaged_keys};
 ghost use Rattle.deadpool_c.specs.Replies.{raw_standing};
@@ -17,18 +17,21 @@ use crate::unmanaged_steps::{self, key_at};
 use core::mem::replace_with;
 use std::alloc::Global;
 
-/// Makes an open pool of so many objects at most, with one handle: `false` if memory is wanting. The block has to be
-/// empty, with a null pointer: what it led to before is forgotten.
+/// Makes an open pool of so many objects at most, with one handle: `false` if memory is wanting. `max_waiting` is how
+/// many gets may wait, and how many adds, by the greatest number any. The block has to be empty, with a null pointer:
+/// what it led to before is forgotten.
 #[unsafe(no_mangle)]
 pub extern "C" fn deadpool_unmanaged_new(
     pool: &mut UnmanagedPool,
     alloc: Global,
     limit: usize,
+    max_waiting: usize,
 ) -> bool
     ensures made { result ≡ true → InBlock pool.new.at }
-    ensures pool { result ≡ true → pool.new.state.pool.pool ≡ opened limit [] }
+    ensures pool { result ≡ true
+        → pool.new.state.pool.pool ≡ bounded (Some max_waiting) (opened limit []) }
 {
-    match unmanaged_steps::open(alloc, limit) {
+    match unmanaged_steps::open(alloc, limit, max_waiting) {
         Ok(made) => {
             *pool = made;
             true

@@ -3,8 +3,8 @@ ghost use Rattle.std.specs.Prelude.{◌≡◌};
 ghost use Rattle.deadpool_c.specs.UnmanagedReplies.{raw_made, raw_in_hand};
 
 use crate::reply::{
-    CLOSED, DONE, DROPPED, EXPIRED, FULL, KEPT, OBJECT, OUT_OF_MEMORY, Reply, STORED, TAKEN,
-    UNKNOWN, WAITING, keyed, plain,
+    CLOSED, CROWDED, DONE, DROPPED, EXPIRED, FULL, KEPT, OBJECT, OUT_OF_MEMORY, Reply, STORED,
+    TAKEN, UNKNOWN, WAITING, keyed, plain,
 };
 use deadpool_unmanaged::Reply as CoreReply;
 
@@ -17,6 +17,7 @@ pub fn made(reply: &CoreReply, key: u64) -> Reply
         CoreReply::Stored => plain(STORED),
         CoreReply::Closed => keyed(CLOSED, 0, key),
         CoreReply::Full => keyed(FULL, 0, key),
+        CoreReply::Crowded => keyed(CROWDED, 0, key),
         CoreReply::Waiting(ticket) => keyed(WAITING, ticket.number(), key),
         CoreReply::OutOfMemory => keyed(OUT_OF_MEMORY, 0, key),
         CoreReply::Expired => plain(EXPIRED),

@@ -6,7 +6,7 @@ use deadpool_gate::gate::Ticket;
 use deadpool_unmanaged::Step;
 
 /// A new get asks for an object. `is_set` says whether it joins the queue if none is free. The reply is `OBJECT` with
-/// its key, `CLOSED`, `FULL`, `WAITING` or `OUT_OF_MEMORY`.
+/// its key, `CLOSED`, `FULL`, `CROWDED`, `WAITING` or `OUT_OF_MEMORY`.
 pub const GET_ENTER: u64 = 1;
 
 /// A get in the queue asks for its object, by its ticket as `number`. `is_set` says whether it has waited long enough.
@@ -17,7 +17,7 @@ pub const GET_ASK: u64 = 2;
 pub const GET_CANCEL: u64 = 3;
 
 /// A new add brings an object by its `key`. `is_set` says whether it joins the queue if there is no room. The reply is
-/// `STORED`, or with the key `CLOSED`, `FULL`, `WAITING` or `OUT_OF_MEMORY`.
+/// `STORED`, or with the key `CLOSED`, `FULL`, `CROWDED`, `WAITING` or `OUT_OF_MEMORY`.
 pub const ADD_ENTER: u64 = 4;
 
 /// An add in the queue asks for its room, by its ticket as `number`, and brings its object by its `key`: `STORED`, or

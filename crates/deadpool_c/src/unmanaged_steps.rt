@@ -1,9 +1,9 @@
 //! The steps of an unmanaged pool, each on a pool that is taken and given back, and what is read without a step. What
 //! each does is said at its export in `unmanaged.rt`.
-ghost use Rattle.std.specs.Prelude.{◌≡◌, ◌==◌, [], not, slice_get, IfOk};
+ghost use Rattle.std.specs.Prelude.{◌≡◌, ◌==◌, [], not, slice_get, IfOk, Some};
 ghost use denote.RawPtr.{InBlock};
 ghost use Rattle.deadpool_unmanaged.specs.Replies.{Brings};
-ghost use Rattle.deadpool_unmanaged.specs.State.{opened, status_of};
+ghost use Rattle.deadpool_unmanaged.specs.State.{bounded, opened, status_of};
 ghost use Rattle.deadpool_unmanaged.specs.StateSteps.{Upgrades, closed_pool};
 ghost use Rattle.deadpool_c.specs.Replies.{raw_standing};
 ghost use Rattle.deadpool_c.specs.UnmanagedReplies.{MakesRaw, ClonesRaw, DropsHandleRaw, TakesGetWakeRaw};
@@ -18,11 +18,12 @@ use crate::{unmanaged_reply, unmanaged_step};
 use deadpool_unmanaged::{Core, Step};
 use std::alloc::{AllocError, Global};
 
-pub fn open(alloc: Global, limit: usize) -> Result<UnmanagedPool, AllocError>
+pub fn open(alloc: Global, limit: usize, max_waiting: usize) -> Result<UnmanagedPool, AllocError>
     ensures made { IfOk result (λ pool. InBlock pool.at) }
-    ensures pool { IfOk result (λ pool. pool.state.pool.pool ≡ opened limit []) }
+    ensures pool { IfOk result
+        (λ pool. pool.state.pool.pool ≡ bounded (Some max_waiting) (opened limit [])) }
 {
-    let pool = Core::new(alloc, limit)?;
+    let pool = Core::new(alloc, limit)?.bounded(Some(max_waiting));
     let state = Box::new(alloc, UnmanagedState { pool })?;
     Ok(UnmanagedPool::of(state))
 }

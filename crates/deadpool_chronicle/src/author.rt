@@ -1,8 +1,8 @@
 //! Who adds to a history.
-ghost use Rattle.std.specs.Prelude.{◌≡◌, ℕ, ◌+◌, List, [], ◌∷◌, ◌++◌};
+ghost use Rattle.std.specs.Prelude.{◌≡◌, ℕ, ◌+◌, List, []};
 ghost use mathlib.Core.List.{IsPrefix};
 ghost use base.Stored.{coded_list, coded×, coded_ℕ};
-ghost use Rattle.deadpool_chronicle.specs.History.{Knowing, Adds, Calls, calls_by};
+ghost use Rattle.deadpool_chronicle.specs.History.{Adds, Calls, calls_by};
 ghost use Rattle.deadpool_chronicle.specs.Owned.{author_owns};
 
 use crate::beginning::Beginning;

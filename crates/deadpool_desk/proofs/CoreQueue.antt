@@ -1,56 +1,58 @@
 -- What the steps of a gate do to the core that holds it, which stays settled.
-use Rattle.deadpool_desk.proofs.Names.{◌≡◌, ℕ, ◌+◌, ◌-◌, ◌<◌, ◌≤◌, true, false, not, [], ◌∷◌, ◌++◌, length, take, drop}
+use Rattle.deadpool_desk.proofs.Names.{◌≡◌, ℕ, ◌+◌, ◌-◌, ◌≤◌, true, false, not, [], ◌∷◌, ◌++◌, length, take, drop}
 use Rattle.deadpool_desk.proofs.Names.{max, refl, arith, Line, arrived, without_waiter, granted_tickets}
-use Rattle.deadpool_desk.proofs.Names.{waiting_tickets, untold_tickets, IsLine, has_number, without_number}
+use Rattle.deadpool_desk.proofs.Names.{waiting_tickets, unnotified_tickets, IsLine, has_number, without_number}
 use Rattle.deadpool_desk.proofs.Names.{granted_tickets-arrived, waiting_tickets-arrived, granted_tickets-without_waiter}
-use Rattle.deadpool_desk.proofs.Names.{waiting_tickets-without_waiter, untold_tickets-arrived}
-use Rattle.deadpool_desk.proofs.Names.{untold_tickets-without_waiter, length-both_tickets, without_number-shorter}
-use Rattle.deadpool_desk.proofs.Names.{without_number-fewer, desk_of, IsSound, settled, is_listed, unqueued, grants_at}
-use Rattle.deadpool_desk.proofs.Names.{held_at, IsSettled, Inside, ap, ◌∙◌, append_assoc, IsOnce, has_number-append}
-use Rattle.deadpool_desk.proofs.Names.{without_number-append, without_number-same, without_number-one, IsOnce-without}
-use Rattle.deadpool_desk.proofs.Names.{IsOnce-push, IsOnce-front, DeskState, places}
+use Rattle.deadpool_desk.proofs.Names.{waiting_tickets-without_waiter, unnotified_tickets-arrived}
+use Rattle.deadpool_desk.proofs.Names.{unnotified_tickets-without_waiter, length-both_tickets, without_number-shorter}
+use Rattle.deadpool_desk.proofs.Names.{without_number-fewer, desk_of, CoreInvariant, settled}
+use Rattle.deadpool_desk.proofs.Names.{is_listed, unqueued, grants_at}
+use Rattle.deadpool_desk.proofs.Names.{held_at, IsSettled, Inside, ap}
+use Rattle.deadpool_desk.proofs.Names.{without_number-same, without_number-one}
+use Rattle.deadpool_desk.proofs.Names.{IsOnce-front, DeskState, places, joined_served, left_served, once-without}
+use Rattle.deadpool_desk.proofs.Names.{NobodyWaits, queue_of, length-append, ◌<◌}
 
 -- What comes to a queue, and what leaves it, leaves a settled state settled.
 module _ {O : Type 0} (d : DeskState O) (ticket : ℕ) (s : IsSettled d) where
   -- if a get joins the queue, where no place is free
-  joined_settled : d.limit ≤ places d → is_listed ticket d ≡ false
+  joined_settled : d.limit ≤ places d → length d.waiting < d.max_waiting → is_listed ticket d ≡ false
       → IsSettled (record d { waiting = d.waiting ++ ticket ∷ [] })
-  joined_settled full new = record {
-    nobody_waits = λ is_open free. absurd (omega (arith, full, free));
+  joined_settled full roomy new = record {
     within = s.within;
-    once = rw (← append_assoc d.granted d.waiting (ticket ∷ []))
-        (IsOnce-push (d.granted ++ d.waiting) ticket s.once (has_number-append ticket d.granted d.waiting ∙ new));
+    served = joined_served _ _ _ s.served ticket (omega (arith, full)) new;
+    few = omega (arith, length-append d.waiting (ticket ∷ []), roomy);
   }
 
-  -- no ticket stands twice once one has left
-  once-unqueued : IsOnce (without_number ticket d.granted ++ without_number ticket d.waiting)
-  once-unqueued = rw (← without_number-append ticket d.granted d.waiting)
-      (IsOnce-without ticket (d.granted ++ d.waiting) s.once)
+  -- no more wait once one has left
+  few-unqueued : length (without_number ticket d.waiting) ≤ d.max_waiting
+  few-unqueued = omega (arith, without_number-shorter ticket d.waiting, s.few)
 
   -- if a get leaves the queue that has no place
   left_settled : has_number ticket d.granted ≡ false → IsSettled (unqueued ticket d)
   left_settled has =
       let same = ap length (without_number-same ticket d.granted has) in
       record {
-        nobody_waits =
-            λ is_open free. ap (without_number ticket) (s.nobody_waits is_open (omega (arith, same, free)));
         within = s.within;
-        once = once-unqueued;
+        served = left_served _ _ _ s.served ticket _ (λ is_open free. omega (arith, same, free));
+        few = few-unqueued;
       }
 
   -- or if the pool has closed
   closed_settled : d.is_open ≡ false → IsSettled (unqueued ticket d)
-  closed_settled shut = record { nobody_waits = λ is_open free. cc; within = s.within; once = once-unqueued }
+  closed_settled shut = record {
+    within = s.within;
+    served = left_served _ _ _ s.served ticket _ (λ is_open free. cc);
+    few = few-unqueued;
+  }
 
   -- if a get leaves the queue that has a place, which then is one of those going
   granted_settled : IsSettled (record (unqueued ticket d) { going = d.going + 1 })
   granted_settled =
-      let one = without_number-one ticket d.granted (IsOnce-front d.granted d.waiting s.once) in
+      let one = without_number-one ticket d.granted (IsOnce-front d.granted d.waiting s.served.once) in
       record {
-        nobody_waits =
-            λ is_open free. ap (without_number ticket) (s.nobody_waits is_open (omega (arith, one, free)));
         within = s.within;
-        once = once-unqueued;
+        served = left_served _ _ _ s.served ticket _ (λ is_open free. omega (arith, one, free));
+        few = few-unqueued;
       }
 
 module _ {T : Type 0} (core : Inside T) (gate : Line) where
@@ -67,9 +69,9 @@ module _ {T : Type 0} (core : Inside T) (gate : Line) where
   desk_of-same same closed = rw (same, closed) refl
 
   -- a core keeps what it has to
-  pub IsSound-same : IsSound core → gate.waiters ≡ core.gate.waiters → gate.is_closed ≡ core.gate.is_closed
-      → IsSound with_gate
-  IsSound-same sound same closed =
+  pub CoreInvariant-same : CoreInvariant core → gate.waiters ≡ core.gate.waiters → gate.is_closed ≡ core.gate.is_closed
+      → CoreInvariant with_gate
+  CoreInvariant-same sound same closed =
       record {
         within = sound.within;
         small = sound.small;
@@ -85,10 +87,12 @@ module _ {T : Type 0} (core : Inside T) (gate : Line) where
   desk_of-arrived t longer closed =
       rw (longer, closed, granted_tickets-arrived t core.gate.waiters, waiting_tickets-arrived t core.gate.waiters) refl
 
-  pub IsSound-joined : (t : ℕ) → gate.waiters ≡ core.gate.waiters ++ arrived t ∷ []
-      → gate.is_closed ≡ core.gate.is_closed → IsSound core
-      → core.places.limit ≤ held_at core.gate core.places → is_listed t (desk_of core) ≡ false → IsSound with_gate
-  IsSound-joined t longer closed sound full new = record {
+  pub CoreInvariant-joined : (t : ℕ) → gate.waiters ≡ core.gate.waiters ++ arrived t ∷ []
+      → gate.is_closed ≡ core.gate.is_closed → CoreInvariant core
+      → core.places.limit ≤ held_at core.gate core.places
+      → length (waiting_tickets core.gate.waiters) < core.max_waiting → is_listed t (desk_of core) ≡ false
+      → CoreInvariant with_gate
+  CoreInvariant-joined t longer closed sound full roomy new = record {
     within = sound.within;
     small = sound.small;
     held = rw (longer, granted_tickets-arrived t core.gate.waiters) sound.held;
@@ -98,13 +102,13 @@ module _ {T : Type 0} (core : Inside T) (gate : Line) where
       closed,
       granted_tickets-arrived t core.gate.waiters,
       waiting_tickets-arrived t core.gate.waiters,
-    ) (joined_settled (desk_of core) t sound.settled full new);
+    ) (joined_settled (desk_of core) t sound.settled full roomy new);
   }
 
   -- what becomes of those that were not told: one that comes is the last of them
-  pub untold-arrived : (t : ℕ) → gate.waiters ≡ core.gate.waiters ++ arrived t ∷ []
-      → untold_tickets gate.waiters ≡ untold_tickets core.gate.waiters ++ t ∷ []
-  untold-arrived t longer = rw longer (untold_tickets-arrived t core.gate.waiters)
+  pub unnotified-arrived : (t : ℕ) → gate.waiters ≡ core.gate.waiters ++ arrived t ∷ []
+      → unnotified_tickets gate.waiters ≡ unnotified_tickets core.gate.waiters ++ t ∷ []
+  unnotified-arrived t longer = rw longer (unnotified_tickets-arrived t core.gate.waiters)
 
   -- a line with no room for one more is as long as the two lists of tickets
   pub no_room : gate.capacity ≤ length gate.waiters
@@ -132,17 +136,18 @@ module _ {T : Type 0} (core : Inside T) (gate : Line) where
     desk_of-unqueued closed = rw (closed, granted_left, waiting_left) refl
 
     -- it is none of those that were not told
-    pub untold-without : untold_tickets gate.waiters ≡ without_number t (untold_tickets core.gate.waiters)
-    untold-without = rw gone (untold_tickets-without_waiter t core.gate.waiters line.apart)
+    pub unnotified-without : unnotified_tickets gate.waiters ≡ without_number t (unnotified_tickets core.gate.waiters)
+    unnotified-without = rw gone (unnotified_tickets-without_waiter t core.gate.waiters line.apart)
 
-    pub held-without : IsSound core → held_at gate core.places ≤ core.ring.capacity
+    pub held-without : CoreInvariant core → held_at gate core.places ≤ core.ring.capacity
     held-without sound =
         let fewer = without_number-shorter t (granted_tickets core.gate.waiters) in
         rw granted_left (omega (arith, fewer, sound.held))
 
-    IsSound-without : IsSound core → gate.is_closed ≡ core.gate.is_closed → IsSettled (unqueued t (desk_of core))
-        → IsSound with_gate
-    IsSound-without sound closed settled = record {
+    CoreInvariant-without : CoreInvariant core → gate.is_closed ≡ core.gate.is_closed
+        → IsSettled (unqueued t (desk_of core))
+        → CoreInvariant with_gate
+    CoreInvariant-without sound closed settled = record {
       within = sound.within;
       small = sound.small;
       held = held-without sound;
@@ -150,17 +155,20 @@ module _ {T : Type 0} (core : Inside T) (gate : Line) where
       settled = rw (closed, granted_left, waiting_left) settled;
     }
 
-    pub IsSound-left : IsSound core → gate.is_closed ≡ core.gate.is_closed
-        → has_number t (granted_tickets core.gate.waiters) ≡ false → IsSound with_gate
-    IsSound-left sound closed has = IsSound-without sound closed (left_settled (desk_of core) t sound.settled has)
+    pub CoreInvariant-left : CoreInvariant core → gate.is_closed ≡ core.gate.is_closed
+        → has_number t (granted_tickets core.gate.waiters) ≡ false → CoreInvariant with_gate
+    CoreInvariant-left sound closed has = CoreInvariant-without sound closed
+        (left_settled (desk_of core) t sound.settled has)
 
-    pub IsSound-closed : IsSound core → gate.is_closed ≡ core.gate.is_closed → (desk_of core).is_open ≡ false
-        → IsSound with_gate
-    IsSound-closed sound closed shut = IsSound-without sound closed (closed_settled (desk_of core) t sound.settled shut)
+    pub CoreInvariant-closed : CoreInvariant core → gate.is_closed ≡ core.gate.is_closed → (desk_of core).is_open
+        ≡ false
+        → CoreInvariant with_gate
+    CoreInvariant-closed sound closed shut = CoreInvariant-without sound closed
+        (closed_settled (desk_of core) t sound.settled shut)
 
-    pub IsSound-going : IsSound core → gate.is_closed ≡ core.gate.is_closed
-        → has_number t (granted_tickets core.gate.waiters) ≡ true → IsSound with_going
-    IsSound-going sound closed has =
+    pub CoreInvariant-going : CoreInvariant core → gate.is_closed ≡ core.gate.is_closed
+        → has_number t (granted_tickets core.gate.waiters) ≡ true → CoreInvariant with_going
+    CoreInvariant-going sound closed has =
         let fewer = without_number-fewer t (granted_tickets core.gate.waiters) has in
         record {
           within = sound.within;
@@ -178,22 +186,30 @@ module _ {T : Type 0} (core : Inside T) (gate : Line) where
         rw (closed, granted_left, waiting_left, one_less) refl
 
     -- a core keeps what it has to once the free places are granted
-    pub IsSound-settled : IsSound core → (after : Line)
+    pub CoreInvariant-settled : CoreInvariant core → (after : Line)
         → held_at after core.places ≤ max (held_at gate core.places) core.places.limit
         → granted_tickets after.waiters ++ waiting_tickets after.waiters
         ≡ granted_tickets gate.waiters ++ waiting_tickets gate.waiters
-        → (not after.is_closed ≡ true → held_at after core.places < core.places.limit
-        → waiting_tickets after.waiters ≡ []) → IsSound (record core { gate = after })
-    IsSound-settled sound after held queue nobody_waits =
+        → length (waiting_tickets after.waiters) ≤ length (waiting_tickets gate.waiters)
+        → NobodyWaits (not after.is_closed) (core.places.limit - held_at after core.places) (queue_of after.waiters)
+        → CoreInvariant (record core { gate = after })
+    CoreInvariant-settled sound after held queue fewer_wait nobody_waits =
         let fewer = held-without sound in
+        let left = without_number-shorter t (waiting_tickets core.gate.waiters) in
+        let few : length (waiting_tickets gate.waiters) ≤ core.max_waiting =
+        rw waiting_left (omega (arith, left, sound.settled.few)) in
         record {
           within = sound.within;
           small = sound.small;
           held = omega (arith, fewer, held, sound.within);
           numbered = sound.numbered;
           settled = record {
-            nobody_waits = nobody_waits;
             within = sound.settled.within;
-            once = rw (queue, granted_left, waiting_left) (once-unqueued (desk_of core) t sound.settled);
+            served = record {
+              nobody_waits = nobody_waits;
+              once = rw (queue, granted_left, waiting_left)
+                  (once-without t (queue_of core.gate.waiters) sound.settled.served.once);
+            };
+            few = omega (arith, fewer_wait, few);
           };
         }

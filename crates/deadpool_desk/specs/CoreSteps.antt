@@ -5,7 +5,7 @@ use Rattle.std.specs.Prelude.{◌≡◌, ◌≤◌, ℕ, ◌+◌, ⊤, List, [],
 use Rattle.std.specs.Option.{option_or}
 use Rattle.std.specs.declared.alloc.AllocError.{AllocError}
 use Rattle.deadpool_gate.specs.Numbers.{without_number}
-use Rattle.deadpool_gate.specs.Waking.{next_due, still_untold}
+use Rattle.deadpool_gate.specs.Waking.{next_due, still_unnotified}
 use Rattle.deadpool_desk.specs.CoreState.{CoreState}
 use Rattle.deadpool_desk.specs.DeskSteps as desk
 use Rattle.deadpool_desk.specs.Retains as desk_retains
@@ -20,14 +20,14 @@ use Rattle.deadpool_desk.specs.declared.step.Reply.TheVariants.{Waiting, OutOfMe
 use Rattle.deadpool_desk.specs.declared.step.Step.{Step}
 use Rattle.deadpool_desk.specs.declared.step.Step.TheVariants.{Enter, Ask, Withdraw}
 
--- who joins the queue is the last of the untold, and who asks leaves them, unless it has to wait on
-abbrev pub untold_after : Step → Reply → List ℕ → List ℕ
-untold_after (Enter wait) (Waiting ticket) untold = untold ++ ticket ∷ []
-untold_after (Ask ticket expired) Unknown untold = untold
-untold_after (Ask ticket expired) (Waiting same) untold = untold
-untold_after (Ask ticket expired) _ untold = without_number ticket untold
-untold_after (Withdraw ticket) Done untold = without_number ticket untold
-untold_after _ _ untold = untold
+-- who joins the queue is the last of the unnotified, and who asks leaves them, unless it has to wait on
+abbrev pub unnotified_after : Step → Reply → List ℕ → List ℕ
+unnotified_after (Enter wait) (Waiting ticket) unnotified = unnotified ++ ticket ∷ []
+unnotified_after (Ask ticket expired) Unknown unnotified = unnotified
+unnotified_after (Ask ticket expired) (Waiting same) unnotified = unnotified
+unnotified_after (Ask ticket expired) _ unnotified = without_number ticket unnotified
+unnotified_after (Withdraw ticket) Done unnotified = without_number ticket unnotified
+unnotified_after _ _ unnotified = unnotified
 
 module _ {T : Type 0} where
   -- Who joins the queue has the next ticket. Memory is wanting only where the queue had no room.
@@ -39,7 +39,8 @@ module _ {T : Type 0} where
   -- a step with the object that is taken or given
   abbrev pub Steps : CoreState T → Step → Option (Slot T) → Reply → CoreState T → Type 0
   Steps c step object reply c' =
-      desk.Does c.desk step object reply c'.desk × (c'.untold ≡ untold_after step reply c.untold) × Queues c step reply
+      desk.Does c.desk step object reply c'.desk × (c'.unnotified ≡ unnotified_after step reply c.unnotified)
+      × Queues c step reply
 
   -- the same, with what was in the hand, and what is in it then
   abbrev pub Makes : CoreState T → Step → Option (Slot T) → Reply → Option (Slot T) → CoreState T → Type 0
@@ -47,21 +48,21 @@ module _ {T : Type 0} where
 
   -- a step of the owner
   abbrev pub MakesForOwner : CoreState T → OwnerStep → OwnerReply → CoreState T → Type 0
-  MakesForOwner c step reply c' = desk.DoesForOwner c.desk step reply c'.desk × (c'.untold ≡ c.untold)
+  MakesForOwner c step reply c' = desk.DoesForOwner c.desk step reply c'.desk × (c'.unnotified ≡ c.unnotified)
 
   abbrev pub Retains : {R L : Type 0} → RetainerOf R T L → CoreState T → R → Result (Retained L) AllocError
       → CoreState T → R → Type 0
-  Retains asks c r result c' r' = desk_retains.Retains asks c.desk r result c'.desk r' × (c'.untold ≡ c.untold)
+  Retains asks c r result c' r' = desk_retains.Retains asks c.desk r result c'.desk r' × (c'.unnotified ≡ c.unnotified)
 
   abbrev pub RetainsNoting : {R L : Type 0} → RetainerOf R T L → CoreState T → R
       → Result (Retained L × List Removal) AllocError → CoreState T → R → Type 0
   RetainsNoting asks c r result c' r' =
-      desk_retains.RetainsNoting asks c.desk r result c'.desk r' × (c'.untold ≡ c.untold)
+      desk_retains.RetainsNoting asks c.desk r result c'.desk r' × (c'.unnotified ≡ c.unnotified)
 
   -- the ticket of the get that is to be woken next
   abbrev pub due_now : CoreState T → Option ℕ
-  due_now c = next_due c.desk.is_open c.desk.granted c.untold
+  due_now c = next_due c.desk.is_open c.desk.granted c.unnotified
 
   -- It is told. This is no step of the desk.
-  abbrev pub Tells : CoreState T → Option ℕ → CoreState T → Type 0
-  Tells c named c' = (named ≡ due_now c) × (c'.desk ≡ c.desk) × (c'.untold ≡ still_untold named c.untold)
+  abbrev pub Notifies : CoreState T → Option ℕ → CoreState T → Type 0
+  Notifies c named c' = (named ≡ due_now c) × (c'.desk ≡ c.desk) × (c'.unnotified ≡ still_unnotified named c.unnotified)

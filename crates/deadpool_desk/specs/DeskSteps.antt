@@ -12,7 +12,8 @@ use Rattle.deadpool_desk.specs.declared.owner_step.OwnerStep.TheVariants as owne
 use Rattle.deadpool_desk.specs.declared.step.Held.TheVariants as held
 use Rattle.deadpool_desk.specs.declared.step.Reply.{Reply}
 use Rattle.deadpool_desk.specs.declared.step.Reply.TheVariants.{Object, Create, Going, Exhausted, Closed, Full, Waiting}
-use Rattle.deadpool_desk.specs.declared.step.Reply.TheVariants.{OutOfMemory, Expired, Done, Number, Kept, Detach}
+use Rattle.deadpool_desk.specs.declared.step.Reply.TheVariants.{Crowded, OutOfMemory, Expired, Done, Number, Kept}
+use Rattle.deadpool_desk.specs.declared.step.Reply.TheVariants.{Detach}
 use Rattle.deadpool_desk.specs.declared.step.Reply.TheVariants.{Dropped, Taken, Unknown}
 use Rattle.deadpool_desk.specs.declared.step.Step.{Step}
 use Rattle.deadpool_desk.specs.declared.step.Step.TheVariants.{Enter, Ask, Again, Discard, Created, Failed, Refused}
@@ -50,10 +51,14 @@ module _ {O : Type 0} where
   -- a get that is not in the queue yet
   Does d (Enter wait) None Closed d' = (d.is_open ≡ false) × (d' ≡ d)
   Does d (Enter wait) None Full d' = (d.is_open ≡ true) × (d.limit ≤ places d) × (wait ≡ false) × (d' ≡ d)
+  Does d (Enter wait) None Crowded d' =
+      (d.is_open ≡ true) × (d.limit ≤ places d) × (wait ≡ true) × (d.max_waiting ≤ length d.waiting) × (d' ≡ d)
   Does d (Enter wait) None (Waiting ticket) d' =
-      (d.is_open ≡ true) × (d.limit ≤ places d) × (wait ≡ true) × (is_listed ticket d ≡ false)
+      (d.is_open ≡ true) × (d.limit ≤ places d) × (wait ≡ true) × (length d.waiting < d.max_waiting)
+      × (is_listed ticket d ≡ false)
       × (d' ≡ record d { waiting = d.waiting ++ ticket ∷ [] })
-  Does d (Enter wait) None OutOfMemory d' = (d.is_open ≡ true) × (d.limit ≤ places d) × (wait ≡ true) × (d' ≡ d)
+  Does d (Enter wait) None OutOfMemory d' =
+      (d.is_open ≡ true) × (d.limit ≤ places d) × (wait ≡ true) × (length d.waiting < d.max_waiting) × (d' ≡ d)
   Does d (Enter wait) object reply d' = (d.is_open ≡ true) × (places d < d.limit) × Serves d None object reply d'
   -- a get in the queue
   Does d (Ask ticket expired) None Unknown d' = (is_listed ticket d ≡ false) × (d' ≡ d)

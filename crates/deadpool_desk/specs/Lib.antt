@@ -13,6 +13,8 @@ pub mod CoreSteps
 pub mod Settled
 -- What a pool counts.
 pub mod Counts
+-- What is left in a pool that has closed, and what its steps do with that.
+pub mod Closing
 -- The places by queue and counts, how the fields of a core are seen as its state, and the machine as a desk. No
 -- contract of a user cites them.
 pub mod Places

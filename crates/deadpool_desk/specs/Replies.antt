@@ -10,7 +10,8 @@ use Rattle.deadpool_desk.specs.declared.step.Holding.{Holding}
 use Rattle.deadpool_desk.specs.declared.step.Holding.TheVariants as holding
 use Rattle.deadpool_desk.specs.declared.step.Reply.{Reply}
 use Rattle.deadpool_desk.specs.declared.step.Reply.TheVariants.{Object, Create, Going, Exhausted, Closed, Full, Waiting}
-use Rattle.deadpool_desk.specs.declared.step.Reply.TheVariants.{OutOfMemory, Expired, Done, Number, Kept, Detach}
+use Rattle.deadpool_desk.specs.declared.step.Reply.TheVariants.{Crowded, OutOfMemory, Expired, Done, Number, Kept}
+use Rattle.deadpool_desk.specs.declared.step.Reply.TheVariants.{Detach}
 use Rattle.deadpool_desk.specs.declared.step.Reply.TheVariants.{Dropped, Taken, Unknown}
 use Rattle.deadpool_desk.specs.declared.step.Step.{Step}
 use Rattle.deadpool_desk.specs.declared.step.Step.TheVariants.{Enter, Ask, Again, Discard, Created, Failed, Refused}
@@ -25,6 +26,7 @@ IsReplyTo (Enter wait) Going = ⊤
 IsReplyTo (Enter wait) Exhausted = ⊤
 IsReplyTo (Enter wait) Closed = ⊤
 IsReplyTo (Enter wait) Full = ⊤
+IsReplyTo (Enter wait) Crowded = ⊤
 IsReplyTo (Enter wait) (Waiting ticket) = ⊤
 IsReplyTo (Enter wait) OutOfMemory = ⊤
 IsReplyTo (Ask ticket expired) (Object left) = ⊤

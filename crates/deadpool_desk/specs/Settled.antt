@@ -1,15 +1,24 @@
 -- What holds of a pool between any two of its steps.
-use Rattle.std.specs.Prelude.{◌≡◌, ◌<◌, ◌≤◌, true, [], ◌++◌, length}
-use Rattle.deadpool_gate.specs.Orders.{IsOnce}
+use Rattle.std.specs.Prelude.{ℕ, ◌-◌, ◌≤◌, length}
+use Rattle.deadpool_gate.specs.Queue.{Queue}
+use Rattle.deadpool_gate.specs.Served as gate
+use Rattle.deadpool_gate.specs.Served.{IsServed}
 use Rattle.deadpool_desk.specs.DeskState.{DeskState, places}
 
 module _ {O : Type 0} where
+  abbrev pub queue : DeskState O → Queue
+  queue d = record { granted = d.granted; waiting = d.waiting }
+
+  abbrev pub free_places : DeskState O → ℕ
+  free_places d = d.limit - places d
+
   -- nobody waits while a place is free
   abbrev pub NobodyWaits : DeskState O → Type 0
-  NobodyWaits d = d.is_open ≡ true → places d < d.limit → d.waiting ≡ []
+  NobodyWaits d = gate.NobodyWaits d.is_open (free_places d) (queue d)
 
   pub record IsSettled (d : DeskState O) : Type 0 where
-    pub nobody_waits : NobodyWaits d
     pub within : length d.idle ≤ d.limit
-    -- no ticket stands in the queue twice
-    pub once : IsOnce (d.granted ++ d.waiting)
+    -- all places that are free are granted, and no ticket stands in the queue twice
+    pub served : IsServed d.is_open (free_places d) (queue d)
+    -- no more wait than may
+    pub few : length d.waiting ≤ d.max_waiting

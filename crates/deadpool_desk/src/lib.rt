@@ -7,6 +7,7 @@
 
 mod counts;
 mod desk;
+pub mod laws;
 mod object_id;
 mod owner_desk;
 mod owner_step;

@@ -4,10 +4,10 @@
 //! steps of the pool's owner.
 ghost use Rattle.std.specs.Prelude.{◌≡◌, ◌+◌, ◌-◌, ◌≤◌, ◌++◌, [], None, is_some, length, IfOk, IsSome};
 ghost use Rattle.deadpool_gate.specs.Orders.{IsOnce};
-ghost use Rattle.deadpool_desk.specs.DeskState.{new_core, next_idle, other_idle, places};
+ghost use Rattle.deadpool_desk.specs.DeskState.{bounded, new_core, next_idle, other_idle};
 ghost use Rattle.deadpool_desk.specs.DeskSteps.{Serves};
-ghost use Rattle.deadpool_desk.specs.Replies.{IsReplyTo, Leaves};
-ghost use Rattle.deadpool_desk.specs.CoreSteps.{Makes, Steps, Tells, due_now};
+ghost use Rattle.deadpool_desk.specs.Replies.{Leaves};
+ghost use Rattle.deadpool_desk.specs.CoreSteps.{Makes, Steps, Notifies, due_now};
 ghost use Rattle.deadpool_desk.specs.Settled.{NobodyWaits};
 
 mod counted;
@@ -32,6 +32,8 @@ pub struct Core<T> {
     places: Places,
     mode: QueueMode,
     min_idle: usize,
+    // How many gets may wait. So many as the greatest number never do.
+    max_waiting: usize,
     next: usize,
     handles: u64,
 }
@@ -41,11 +43,11 @@ impl<T> Model for Core<T> {
 
     ghost Value = { CoreState T };
 
-    ghost use Rattle.deadpool_desk.specs.CoreFields.{core_of, IsSound};
+    ghost use Rattle.deadpool_desk.specs.CoreFields.{core_of, CoreInvariant};
 
     ghost view = { core_of };
 
-    ghost invariant = { IsSound };
+    ghost invariant = { CoreInvariant };
 }
 
 // The next idle object leaves the ring.
@@ -72,7 +74,7 @@ impl<T: Drop> Core<T> {
         min_idle: usize,
     ) -> Result<Core<T>, AllocError>
         ensures desk { IfOk result (λ core. core.desk ≡ new_core limit mode first_number min_idle) }
-        ensures untold { IfOk result (λ core. core.untold ≡ []) }
+        ensures unnotified { IfOk result (λ core. core.unnotified ≡ []) }
     {
         let ring = HeapCircularBuffer::with_capacity(alloc, limit.max(1))?;
         Ok(Core {
@@ -81,14 +83,27 @@ impl<T: Drop> Core<T> {
             places: Places::new(limit),
             mode,
             min_idle,
+            max_waiting: usize::MAX,
             next: first_number,
             handles: 1,
         })
     }
 
+    /// The pool with a bound on the gets that wait for a place, or with none, before any waits.
+    pub fn bounded(self, max_waiting: Option<usize>) -> Self
+        requires { self.desk.waiting ≡ [] }
+        ensures { result ≡ record self { desk = bounded max_waiting self.desk } }
+    {
+        Core {
+            max_waiting: max_waiting.unwrap_or(usize::MAX),
+            ..self
+        }
+    }
+
     /// What is true of every core. The call does nothing.
     pub fn laws(&self)
         ensures nobody_waits { NobodyWaits self.now.desk }
+        ensures few { length self.now.desk.waiting ≤ self.now.desk.max_waiting }
         ensures within { length self.now.desk.idle ≤ self.now.desk.limit }
         ensures once { IsOnce (self.now.desk.granted ++ self.now.desk.waiting) }
     {
@@ -98,7 +113,7 @@ impl<T: Drop> Core<T> {
     /// The next get in the queue that is due to be woken, as it was granted a place or the pool has closed, and that
     /// was not named before. It stays in the queue until it asks or is cancelled. This is no step of the pool.
     pub fn take_wake(&mut self) -> Option<Ticket>
-        ensures { Tells self.old result self.new }
+        ensures { Notifies self.old result self.new }
     {
         self.gate.take_wake()
     }
@@ -118,7 +133,7 @@ impl<T: Drop> Core<T> {
         ensures served { Serves (record self.old.desk { going = self.old.desk.going - 1 })
             allowance hand.new result self.new.desk }
         ensures hand { Leaves result hand.old hand.new }
-        ensures untold { self.new.untold ≡ self.old.untold }
+        ensures unnotified { self.new.unnotified ≡ self.old.unnotified }
     {
         let allowed = allowance.unwrap_or(self.ring.len());
         if allowed == 0 && !self.ring.is_empty() {
@@ -155,12 +170,14 @@ impl<T: Drop> Core<T> {
             self.places.going += 1;
             return self.serve(None, hand);
         }
-        match self.gate.enter(room, wait) {
+        let may_join = self.may_join(wait);
+        match self.gate.enter(room, may_join) {
             Entry::Granted => {
                 self.places.going += 1;
                 self.serve(None, hand)
             }
             Entry::Closed => Reply::Closed,
+            Entry::Full if wait => Reply::Crowded,
             Entry::Full => Reply::Full,
             Entry::Waiting(ticket) => Reply::Waiting(ticket),
             Entry::OutOfMemory => Reply::OutOfMemory,

@@ -1,5 +1,5 @@
 -- What a call makes of a gate's fields is what it makes of the line that they show.
-use Rattle.std.proofs.Common.{◌≡◌, ◌≢◌, ℕ, ◌+◌, ◌-◌, ◌^◌, ◌<◌, ◌≤◌, Bool, true, false, not, eqb, cond, List, [], ◌∷◌}
+use Rattle.std.proofs.Common.{◌≡◌, ◌≢◌, ℕ, ◌+◌, ◌^◌, ◌<◌, ◌≤◌, Bool, true, false, not, eqb, cond, List, [], ◌∷◌}
 use Rattle.std.proofs.Common.{◌++◌, length, Option, Some, None, unwrap_or, refl, sym, ap, subst, ◌∙◌, inl, inr, arith}
 use Rattle.std.specs.List.{find, count_by}
 use Rattle.std.specs.Option.{option_map}
@@ -15,7 +15,7 @@ use Rattle.deadpool_gate.specs.Gate.{IsLine}
 use Rattle.deadpool_gate.specs.GateLinks.{waiter_at, node_between, first_ticket, last_ticket, first_failing, moved_on}
 use Rattle.deadpool_gate.specs.GateLinks.{ChangesAt}
 use Rattle.deadpool_gate.specs.GateNodes.{changed}
-use Rattle.deadpool_gate.specs.GateFields.{Shows, waiters_of, line_of, IsHeld}
+use Rattle.deadpool_gate.specs.GateFields.{Shows, waiters_of, line_of, GateInvariant}
 use Rattle.deadpool_gate.proofs.Counts.{one_if}
 use Rattle.deadpool_gate.proofs.GateListed.{FoundBetween, found_between, find-behind, remove_first-between}
 use Rattle.deadpool_gate.proofs.GateApart.{other_ticket, unlisted-tail, IsApart-back, unlisted-before}
@@ -38,11 +38,11 @@ Shows-is g ws shows =
     ) in
     rw (all, shows.first) (follow-linked g.store.nodes None ws shows.stores.linked)
 
-pub IsHeld-shows : (g : Inside) (ws : List Waiter) → Shows g ws → IsHeld g
-IsHeld-shows g ws shows = rw (Shows-is g ws shows) shows
+pub GateInvariant-shows : (g : Inside) (ws : List Waiter) → Shows g ws → GateInvariant g
+GateInvariant-shows g ws shows = rw (Shows-is g ws shows) shows
 
 -- the line that a caller sees
-pub Shows-seen : (g : Inside) (line : Line) → line_of g ≡ line → IsHeld g → Shows g line.waiters
+pub Shows-seen : (g : Inside) (line : Line) → line_of g ≡ line → GateInvariant g → Shows g line.waiters
 Shows-seen g line seen held = subst (λ (ws : List Waiter). Shows g ws) (ap (λ (l : Line). l.waiters) seen) held
 
 pub count_by-between : (p : Waiter → Bool) (xs : List Waiter) (w : Waiter) (ys : List Waiter)
@@ -181,7 +181,7 @@ pub record KeepsLinks (g h : Inside) : Type 0 where
   pub first : h.first ≡ g.first
   pub last : h.last ≡ g.last
   pub first_waiting : h.first_waiting ≡ g.first_waiting
-  pub first_untold : h.first_untold ≡ g.first_untold
+  pub first_unnotified : h.first_unnotified ≡ g.first_unnotified
   pub granted : h.granted ≡ g.granted
   pub waiting : h.waiting ≡ g.waiting
 
@@ -194,7 +194,7 @@ Shows-kept g h ws keeps line shows =
       first = keeps.first ∙ shows.first;
       last = keeps.last ∙ shows.last;
       first_waiting = keeps.first_waiting ∙ shows.first_waiting;
-      first_untold = keeps.first_untold ∙ shows.first_untold;
+      first_unnotified = keeps.first_unnotified ∙ shows.first_unnotified;
       granted = keeps.granted ∙ shows.granted;
       waiting = keeps.waiting ∙ shows.waiting;
     }
@@ -212,7 +212,7 @@ pub record Joining (g h : Inside) (b : Slab Node) (key : ℕ) : Type 0 where
   pub first : h.first ≡ Some (unwrap_or g.first key)
   pub last : h.last ≡ Some key
   pub first_waiting : h.first_waiting ≡ Some (unwrap_or g.first_waiting key)
-  pub first_untold : h.first_untold ≡ Some (unwrap_or g.first_untold key)
+  pub first_unnotified : h.first_unnotified ≡ Some (unwrap_or g.first_unnotified key)
   pub granted : h.granted ≡ g.granted
   pub waiting : h.waiting ≡ g.waiting + 1
 
@@ -235,7 +235,7 @@ Shows-joined g h b ws key joining shows =
       last = joining.last ∙ sym (last_ticket-append ws (w ∷ []) None);
       first_waiting = joining.first_waiting ∙ ap (λ at. Some (unwrap_or at key)) shows.first_waiting
           ∙ sym (first_failing-last (λ v. v.granted) ws w refl);
-      first_untold = joining.first_untold ∙ ap (λ at. Some (unwrap_or at key)) shows.first_untold
+      first_unnotified = joining.first_unnotified ∙ ap (λ at. Some (unwrap_or at key)) shows.first_unnotified
           ∙ sym (first_failing-last (λ v. v.told) ws w refl);
       granted = omega (
         arith,
@@ -273,12 +273,12 @@ listed-between g ws key node shows found =
     (Shows-find g ws key shows ∙ ap (option_map (waiter_at key)) (sym found))
 
 -- the gate counts the node, as granted or as waiting
-pub record IsCounted (g : Inside) (node : Node) : Type 0 where
+pub record TrialInvariant (g : Inside) (node : Node) : Type 0 where
   pub granted : one_if node.granted ≤ g.granted
   pub waiting : one_if (not node.granted) ≤ g.waiting
 
 pub Shows-counted : (g : Inside) (ws : List Waiter) (key : ℕ) (node : Node) → Shows g ws
-    → Some node ≡ get g.store.nodes key → IsCounted g node
+    → Some node ≡ get g.store.nodes key → TrialInvariant g node
 Shows-counted g ws key node shows found =
     let w = waiter_at key node in
     let at = listed-between g ws key node shows found in
@@ -310,7 +310,7 @@ pub record Leaving (g h : Inside) (b c : Slab Node) (key : ℕ) (node : Node) : 
   pub first : h.first ≡ moved_on g.first key node.next
   pub last : h.last ≡ moved_on g.last key node.previous
   pub first_waiting : h.first_waiting ≡ moved_on g.first_waiting key node.next
-  pub first_untold : h.first_untold ≡ moved_on g.first_untold key node.next
+  pub first_unnotified : h.first_unnotified ≡ moved_on g.first_unnotified key node.next
   pub granted : h.granted + one_if node.granted ≡ g.granted
   pub waiting : h.waiting + one_if (not node.granted) ≡ g.waiting
 
@@ -330,7 +330,7 @@ Shows-without g h b c xs w ys leaving line shows =
           ∙ last_ticket-without xs w ys apart;
       first_waiting = leaving.first_waiting ∙ ap (λ at. moved_on at w.ticket behind) shows.first_waiting
           ∙ first_failing-without (λ v. v.granted) xs w ys apart shows.line.granted_front;
-      first_untold = leaving.first_untold ∙ ap (λ at. moved_on at w.ticket behind) shows.first_untold
+      first_unnotified = leaving.first_unnotified ∙ ap (λ at. moved_on at w.ticket behind) shows.first_unnotified
           ∙ first_failing-without (λ v. v.told) xs w ys apart shows.line.told_front;
       granted = omega (arith, leaving.granted, shows.granted, count_by-between (λ v. v.granted) xs w ys);
       waiting = omega (arith, leaving.waiting, shows.waiting, count_by-between (λ v. not v.granted) xs w ys);

@@ -10,7 +10,7 @@ use Rattle.std.proofs.lemmas.List.Sums.{length-filter}
 use Rattle.std.proofs.lemmas.List.Filters.{length-filter_both}
 use Rattle.deadpool_gate.specs.Gate.{Waiter, change_first, with_place, with_word, arrived, find_waiter, without_waiter}
 use Rattle.deadpool_gate.specs.Gate.{grant_next, grant, granted_count, waiting_count, granted_tickets, waiting_tickets}
-use Rattle.deadpool_gate.specs.Gate.{untold_tickets, IsApart}
+use Rattle.deadpool_gate.specs.Gate.{unnotified_tickets, IsApart}
 use Rattle.deadpool_gate.specs.Numbers.{without_number, has_number}
 use Rattle.deadpool_gate.proofs.GateListed.{find_none-head, find_none-tail}
 
@@ -207,23 +207,24 @@ waiting_tickets-told = tickets-changed (λ w. not w.granted) with_word (λ w. re
 -- those that were not told: one that comes is the last of them, one that leaves is none of them, and a place changes
 -- nothing
 
-pub untold_tickets-arrived : (t : ℕ) (ws : List Waiter)
-    → untold_tickets (ws ++ arrived t ∷ []) ≡ untold_tickets ws ++ t ∷ []
-untold_tickets-arrived t ws =
+pub unnotified_tickets-arrived : (t : ℕ) (ws : List Waiter)
+    → unnotified_tickets (ws ++ arrived t ∷ []) ≡ unnotified_tickets ws ++ t ∷ []
+unnotified_tickets-arrived t ws =
     ap (map (λ (w : Waiter). w.ticket)) (filter-append (λ (w : Waiter). not w.told) ws (arrived t ∷ []))
     ∙ map-append (λ (w : Waiter). w.ticket) (filter (λ (w : Waiter). not w.told) ws) (arrived t ∷ [])
 
-pub untold_tickets-without_waiter : (t : ℕ) (ws : List Waiter) → IsApart ws
-    → untold_tickets (without_waiter t ws) ≡ without_number t (untold_tickets ws)
-untold_tickets-without_waiter t ws apart = tickets-without_waiter (λ w. not w.told) t ws apart
+pub unnotified_tickets-without_waiter : (t : ℕ) (ws : List Waiter) → IsApart ws
+    → unnotified_tickets (without_waiter t ws) ≡ without_number t (unnotified_tickets ws)
+unnotified_tickets-without_waiter t ws apart = tickets-without_waiter (λ w. not w.told) t ws apart
 
-pub untold_tickets-unlisted : (t : ℕ) (ws : List Waiter) → find_waiter t ws ≡ None
-    → without_number t (untold_tickets ws) ≡ untold_tickets ws
-untold_tickets-unlisted t ws none = without_number_none (λ w. not w.told) t ws none
+pub unnotified_tickets-unlisted : (t : ℕ) (ws : List Waiter) → find_waiter t ws ≡ None
+    → without_number t (unnotified_tickets ws) ≡ unnotified_tickets ws
+unnotified_tickets-unlisted t ws none = without_number_none (λ w. not w.told) t ws none
 
-untold_tickets-grant_next : (ws : List Waiter) → untold_tickets (grant_next ws) ≡ untold_tickets ws
-untold_tickets-grant_next = tickets-changed (λ w. not w.told) with_place (λ w. refl) (λ w. refl) (λ w. not w.granted)
+unnotified_tickets-grant_next : (ws : List Waiter) → unnotified_tickets (grant_next ws) ≡ unnotified_tickets ws
+unnotified_tickets-grant_next = tickets-changed (λ w. not w.told) with_place (λ w. refl) (λ w. refl)
+    (λ w. not w.granted)
 
-pub untold_tickets-grant : (n : ℕ) (ws : List Waiter) → untold_tickets (grant n ws) ≡ untold_tickets ws
-untold_tickets-grant zero ws = refl
-untold_tickets-grant (suc n) ws = untold_tickets-grant_next (grant n ws) ∙ untold_tickets-grant n ws
+pub unnotified_tickets-grant : (n : ℕ) (ws : List Waiter) → unnotified_tickets (grant n ws) ≡ unnotified_tickets ws
+unnotified_tickets-grant zero ws = refl
+unnotified_tickets-grant (suc n) ws = unnotified_tickets-grant_next (grant n ws) ∙ unnotified_tickets-grant n ws

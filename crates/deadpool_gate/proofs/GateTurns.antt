@@ -61,9 +61,10 @@ pub Shows-first_waiting : (g : Inside) (ws : List Waiter) (key : ℕ) → Shows 
 Shows-first_waiting g ws key shows first =
     fails_first-node g (λ v. v.granted) ws key shows (sym shows.first_waiting ∙ first)
 
-pub Shows-first_untold : (g : Inside) (ws : List Waiter) (key : ℕ) → Shows g ws → g.first_untold ≡ Some key
+pub Shows-first_unnotified : (g : Inside) (ws : List Waiter) (key : ℕ) → Shows g ws → g.first_unnotified ≡ Some key
     → get g.store.nodes key ≢ None
-Shows-first_untold g ws key shows first = fails_first-node g (λ v. v.told) ws key shows (sym shows.first_untold ∙ first)
+Shows-first_unnotified g ws key shows first = fails_first-node g (λ v. v.told) ws key shows
+    (sym shows.first_unnotified ∙ first)
 
 -- a waiter is changed in its place: its node is, and nothing else of the links
 
@@ -77,13 +78,13 @@ pub record Changing (g h : Inside) (change : Node → Node) (key : ℕ) : Type 0
 -- the fields that a place, or a word, changes besides
 pub record Granting (g h : Inside) (behind : Option ℕ) : Type 0 where
   pub first_waiting : h.first_waiting ≡ behind
-  pub first_untold : h.first_untold ≡ g.first_untold
+  pub first_unnotified : h.first_unnotified ≡ g.first_unnotified
   pub granted : h.granted ≡ g.granted + 1
   pub waiting : h.waiting ≡ g.waiting - 1
 
 pub record Telling (g h : Inside) (behind : Option ℕ) : Type 0 where
   pub first_waiting : h.first_waiting ≡ g.first_waiting
-  pub first_untold : h.first_untold ≡ behind
+  pub first_unnotified : h.first_unnotified ≡ behind
   pub granted : h.granted ≡ g.granted
   pub waiting : h.waiting ≡ g.waiting
 
@@ -105,7 +106,7 @@ module _ (g h : Inside) (xs : List Waiter) (w : Waiter) (ys : List Waiter) where
             granting.first_waiting ∙ sym
             (first_failing-passed (λ v. v.granted) xs (with_place w) ys before refl
             (none_pass-behind (λ v. v.granted) xs w ys fails shows.line.granted_front));
-        first_untold = granting.first_untold ∙ shows.first_untold
+        first_unnotified = granting.first_unnotified ∙ shows.first_unnotified
             ∙ sym (first_failing-replaced (λ v. v.told) xs w (with_place w) ys refl refl);
         granted = omega (
           arith,
@@ -138,8 +139,8 @@ module _ (g h : Inside) (xs : List Waiter) (w : Waiter) (ys : List Waiter) where
         last = changing.last ∙ shows.last ∙ sym (last_ticket-replaced xs w (with_word w) ys refl);
         first_waiting = telling.first_waiting ∙ shows.first_waiting
             ∙ sym (first_failing-replaced (λ v. v.granted) xs w (with_word w) ys refl refl);
-        first_untold =
-            telling.first_untold ∙ sym
+        first_unnotified =
+            telling.first_unnotified ∙ sym
             (first_failing-passed (λ v. v.told) xs (with_word w) ys before refl
             (none_pass-behind (λ v. v.told) xs w ys fails shows.line.told_front));
         granted = omega (
@@ -225,16 +226,17 @@ none_due c ws told =
     find_none-stronger (is_due c) (λ v. not v.told) (λ v due. (and_parts (v.granted || c) (not v.told) due).1) ws told
 
 -- nobody is, if all were told
-pub Shows-all_told : (g : Inside) (ws : List Waiter) → Shows g ws → g.first_untold ≡ None
+pub Shows-all_told : (g : Inside) (ws : List Waiter) → Shows g ws → g.first_unnotified ≡ None
     → find (is_due g.is_closed) ws ≡ None
 Shows-all_told g ws shows first =
-    none_due g.is_closed ws (first_failing_none (λ v. v.told) ws (sym shows.first_untold ∙ first))
+    none_due g.is_closed ws (first_failing_none (λ v. v.told) ws (sym shows.first_unnotified ∙ first))
 
 -- nor is anybody in an open gate, if the earliest that was not told has no place
 pub Shows-none_due : (g : Inside) (ws : List Waiter) (key : ℕ) → Shows g ws → g.is_closed ≡ false
-    → g.first_untold ≡ Some key → g.first_waiting ≡ Some key → find (is_due g.is_closed) ws ≡ None
-Shows-none_due g ws key shows is_open untold waiting =
-    let at : FailsFirst (λ v. v.told) ws key = fails_first (λ v. v.told) ws key (sym shows.first_untold ∙ untold) in
+    → g.first_unnotified ≡ Some key → g.first_waiting ≡ Some key → find (is_due g.is_closed) ws ≡ None
+Shows-none_due g ws key shows is_open unnotified waiting =
+    let at : FailsFirst (λ v. v.told) ws key = fails_first (λ v. v.told) ws key
+    (sym shows.first_unnotified ∙ unnotified) in
     let other : FailsFirst (λ v. v.granted) ws key =
     fails_first (λ v. v.granted) ws key (sym shows.first_waiting ∙ waiting) in
     let xs = at.between.front in
@@ -284,10 +286,10 @@ first_due g xs w ys shows told differs =
         rw here (told_granted vs done.1 (find_none-tail (λ v. not v.told) v vs told))
 
 -- so its ticket is the one that the pointer names
-pub Shows-due : (g : Inside) (ws : List Waiter) (key : ℕ) → g.first_untold ≡ Some key
+pub Shows-due : (g : Inside) (ws : List Waiter) (key : ℕ) → g.first_unnotified ≡ Some key
     → (g.is_closed ≡ false → g.first_waiting ≢ Some key) → Shows g ws → due_ticket g.is_closed ws ≡ Some key
 Shows-due g ws key first differs shows =
-    let at : FailsFirst (λ v. v.told) ws key = fails_first (λ v. v.told) ws key (sym shows.first_untold ∙ first) in
+    let at : FailsFirst (λ v. v.told) ws key = fails_first (λ v. v.told) ws key (sym shows.first_unnotified ∙ first) in
     let xs = at.between.front in
     let w = at.waiter in
     let ys = at.between.back in
@@ -304,11 +306,11 @@ pub record TellsNext (g h : Inside) (ws : List Waiter) (key : ℕ) : Type 0 wher
   pub shows : Shows h (tell_next g.is_closed ws)
   pub ticket : due_ticket g.is_closed ws ≡ Some key
 
-pub Shows-told : (g h : Inside) (ws : List Waiter) (key : ℕ) (node : Node) → g.first_untold ≡ Some key
+pub Shows-told : (g h : Inside) (ws : List Waiter) (key : ℕ) (node : Node) → g.first_unnotified ≡ Some key
     → (g.is_closed ≡ false → g.first_waiting ≢ Some key) → Some node ≡ get g.store.nodes key
     → Changing g h (changed change.Told) key → Telling g h node.next → Shows g ws → TellsNext g h ws key
 Shows-told g h ws key node first differs found changing telling shows =
-    let at : FailsFirst (λ v. v.told) ws key = fails_first (λ v. v.told) ws key (sym shows.first_untold ∙ first) in
+    let at : FailsFirst (λ v. v.told) ws key = fails_first (λ v. v.told) ws key (sym shows.first_unnotified ∙ first) in
     let xs = at.between.front in
     let w = at.waiter in
     let ys = at.between.back in

@@ -4,13 +4,13 @@ use Rattle.std.proofs.Common.{sym, ap, subst, ◌∙◌, inl, inr}
 use Rattle.std.specs.Prelude.{slice_get}
 use Rattle.std.specs.List.{find}
 use Rattle.std.proofs.lemmas.Bool.{cases_Bool, eq-eqb, ne_eqb, and_parts, not-true}
-use Rattle.deadpool_gate.specs.Gate.{Waiter, find_waiter, granted_tickets, untold_tickets, is_due, tell_next}
+use Rattle.deadpool_gate.specs.Gate.{Waiter, find_waiter, granted_tickets, unnotified_tickets, is_due, tell_next}
 use Rattle.deadpool_gate.specs.Gate.{due_ticket, IsApart}
 use Rattle.deadpool_gate.specs.Numbers.{has_number, without_number}
-use Rattle.deadpool_gate.specs.Waking.{next_due, still_untold}
+use Rattle.deadpool_gate.specs.Waking.{next_due, still_unnotified}
 use Rattle.deadpool_gate.proofs.GateListed.{find_none-head}
 use Rattle.deadpool_gate.proofs.GateApart.{other_ticket, unlisted-tail}
-use Rattle.deadpool_gate.proofs.GateTickets.{has_number_unlisted, untold_tickets-unlisted}
+use Rattle.deadpool_gate.proofs.GateTickets.{has_number_unlisted, unnotified_tickets-unlisted}
 use Rattle.deadpool_gate.proofs.Numbers.{differs_sym}
 
 -- of the waiters those with a place have their ticket in the list
@@ -48,36 +48,36 @@ granted_tickets-mark (w ∷ ws) apart =
 -- in an open line those with a place are due, and in a closed one all are
 
 due_ticket-open : (granted : List ℕ) (ws : List Waiter) → Marks granted ws
-    → due_ticket false ws ≡ find (λ t. has_number t granted) (untold_tickets ws)
+    → due_ticket false ws ≡ find (λ t. has_number t granted) (unnotified_tickets ws)
 due_ticket-open granted [] marks = refl
 due_ticket-open granted (w ∷ ws) marks =
     let rest = due_ticket-open granted ws marks.1 in
     elim (cases_Bool w.told) [
       | inl told ↦ elim (cases_Bool w.granted) [ inl has ↦ rw (has, told) rest | inr lacks ↦ rw (lacks, told) rest ]
-      | inr untold ↦
+      | inr unnotified ↦
           elim (cases_Bool w.granted) [
             | inl has ↦ let marked : has_number w.ticket granted ≡ true = rw has at marks.0 in
-                rw (has, untold, marked) refl
+                rw (has, unnotified, marked) refl
             | inr lacks ↦ let unmarked : has_number w.ticket granted ≡ false = rw lacks at marks.0 in
-                rw (lacks, untold, unmarked) rest
+                rw (lacks, unnotified, unmarked) rest
           ]
     ]
 
-due_ticket-closed : (ws : List Waiter) → due_ticket true ws ≡ slice_get (untold_tickets ws) 0
+due_ticket-closed : (ws : List Waiter) → due_ticket true ws ≡ slice_get (unnotified_tickets ws) 0
 due_ticket-closed [] = refl
 due_ticket-closed (w ∷ ws) =
     let rest = due_ticket-closed ws in
     elim (cases_Bool w.told) [
       | inl told ↦ elim (cases_Bool w.granted) [ inl has ↦ rw (has, told) rest | inr lacks ↦ rw (lacks, told) rest ]
-      | inr untold ↦ elim (cases_Bool w.granted) [
-        | inl has ↦ rw (has, untold) refl
-        | inr lacks ↦ rw (lacks, untold) refl
+      | inr unnotified ↦ elim (cases_Bool w.granted) [
+        | inl has ↦ rw (has, unnotified) refl
+        | inr lacks ↦ rw (lacks, unnotified) refl
       ]
     ]
 
 -- so who is due is the first of the tickets that is
 pub due_ticket-next_due : (is_closed : Bool) (ws : List Waiter) → IsApart ws
-    → due_ticket is_closed ws ≡ next_due (not is_closed) (granted_tickets ws) (untold_tickets ws)
+    → due_ticket is_closed ws ≡ next_due (not is_closed) (granted_tickets ws) (unnotified_tickets ws)
 due_ticket-next_due true ws apart = due_ticket-closed ws
 due_ticket-next_due false ws apart = due_ticket-open (granted_tickets ws) ws (granted_tickets-mark ws apart)
 
@@ -92,29 +92,30 @@ due_ticket-listed c key (w ∷ ws) none is =
       | inr later ↦ due_ticket-listed c key ws (unlisted-tail key w ws none) (rw later at is)
     ]
 
--- and once told it is untold no more
-pub untold_tickets-tell_next : (is_closed : Bool) (ws : List Waiter) → IsApart ws
-    → untold_tickets (tell_next is_closed ws) ≡ still_untold (due_ticket is_closed ws) (untold_tickets ws)
-untold_tickets-tell_next c [] apart = refl
-untold_tickets-tell_next c (w ∷ ws) apart =
-    let rest = untold_tickets-tell_next c ws apart.1 in
+-- and once told it is unnotified no more
+pub unnotified_tickets-tell_next : (is_closed : Bool) (ws : List Waiter) → IsApart ws
+    → unnotified_tickets (tell_next is_closed ws) ≡ still_unnotified (due_ticket is_closed ws) (unnotified_tickets ws)
+unnotified_tickets-tell_next c [] apart = refl
+unnotified_tickets-tell_next c (w ∷ ws) apart =
+    let rest = unnotified_tickets-tell_next c ws apart.1 in
     elim (cases_Bool (is_due c w)) [
       | inl due ↦
-          let untold : w.told ≡ false = not-true w.told (and_parts (w.granted || c) (not w.told) due).1 in
-          rw (due, untold, eq-eqb w.ticket w.ticket refl) (untold_sym w.ticket ws apart.0)
+          let unnotified : w.told ≡ false = not-true w.told (and_parts (w.granted || c) (not w.told) due).1 in
+          rw (due, unnotified, eq-eqb w.ticket w.ticket refl) (unnotified_sym w.ticket ws apart.0)
       | inr later ↦
           elim (cases_Bool w.told) [
             | inl told ↦ rw (later, told) rest
-            | inr untold ↦ rw (later, untold) (behind (due_ticket c ws) refl rest)
+            | inr unnotified ↦ rw (later, unnotified) (behind (due_ticket c ws) refl rest)
           ]
     ]
   where
-    untold_sym : (t : ℕ) (vs : List Waiter) → find_waiter t vs ≡ None
-        → untold_tickets vs ≡ without_number t (untold_tickets vs)
-    untold_sym t vs none = sym (untold_tickets-unlisted t vs none)
+    unnotified_sym : (t : ℕ) (vs : List Waiter) → find_waiter t vs ≡ None
+        → unnotified_tickets vs ≡ without_number t (unnotified_tickets vs)
+    unnotified_sym t vs none = sym (unnotified_tickets-unlisted t vs none)
 
-    behind : (o : Option ℕ) → due_ticket c ws ≡ o → untold_tickets (tell_next c ws) ≡ still_untold o (untold_tickets ws)
-        → w.ticket ∷ untold_tickets (tell_next c ws) ≡ still_untold o (w.ticket ∷ untold_tickets ws)
+    behind : (o : Option ℕ) → due_ticket c ws ≡ o → unnotified_tickets (tell_next c ws)
+        ≡ still_unnotified o (unnotified_tickets ws)
+        → w.ticket ∷ unnotified_tickets (tell_next c ws) ≡ still_unnotified o (w.ticket ∷ unnotified_tickets ws)
     behind None is rest = ap (λ ts. w.ticket ∷ ts) rest
     behind (Some t) is rest =
         let differs : eqb w.ticket t ≡ false =

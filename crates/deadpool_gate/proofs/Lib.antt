@@ -1,3 +1,4 @@
+-- The lemmas on a gate: its linked list is the line that contracts speak of, and each call changes it so.
 pub mod Counts
 pub mod GateAnswers
 pub mod GateApart
@@ -15,3 +16,5 @@ pub mod Numbers
 pub mod Orders
 pub mod Owners
 pub mod Pointers
+pub mod Queues
+pub mod Served

@@ -9,7 +9,7 @@ use Rattle.std.proofs.lemmas.List.{map-append}
 use Rattle.std.proofs.lemmas.Option.{slice_get_within}
 use Rattle.deadpool_gate.specs.Numbers.{has_number, without_number}
 use Rattle.deadpool_gate.specs.Queue.{Queue, is_listed, joined, without, renamed, granting}
-use Rattle.deadpool_gate.specs.Owners.{owner, IsOwned}
+use Rattle.deadpool_gate.specs.Owners.{owner, TicketsMatch}
 use Rattle.deadpool_gate.proofs.Numbers.{differs_sym, has_number-without, has_number-moved, has_number-joined}
 use Rattle.deadpool_gate.proofs.Numbers.{has_number-parted, without_number-same, map_same, Tells, has_number-map}
 use Rattle.deadpool_gate.proofs.Numbers.{without-map, absent-map}
@@ -72,16 +72,16 @@ module _ {X : Type 0} (has : ℕ → X → Bool) where
             rw (later, owner-push xs y u rest) refl
       ]
 
-module _ {X : Type 0} (has : ℕ → X → Bool) (q : Queue) (xs : List X) (o : IsOwned has q xs) where
+module _ {X : Type 0} (has : ℕ → X → Bool) (q : Queue) (xs : List X) (o : TicketsMatch has q xs) where
   -- the same tickets in another order
-  pub owned-like : (r : Queue) → ((u : ℕ) → is_listed u r ≡ is_listed u q) → IsOwned has r xs
+  pub owned-like : (r : Queue) → ((u : ℕ) → is_listed u r ≡ is_listed u q) → TicketsMatch has r xs
   owned-like r same = record {
     owned = λ u k. o.owned u (sym (same u) ∙ k);
     listed = λ n u x there holds. let l = o.listed n u x there holds in (same u ∙ l.0, l.1);
   }
 
   -- some are granted what they ask for
-  pub owned-granting : (k : ℕ) → IsOwned has (granting k q) xs
+  pub owned-granting : (k : ℕ) → TicketsMatch has (granting k q) xs
   owned-granting k = owned-like (granting k q) (λ u. is_listed-granting u k q)
 
   -- an entry without a ticket owns none
@@ -103,7 +103,7 @@ module _ {X : Type 0} (has : ℕ → X → Bool) (q : Queue) (xs : List X) (o : 
       ]
 
   -- an entry without a ticket is added at the back
-  pub owned-push : (new : X) → NoTicket has new → IsOwned has q (xs ++ new ∷ [])
+  pub owned-push : (new : X) → NoTicket has new → TicketsMatch has q (xs ++ new ∷ [])
   owned-push new none =
       record {
         owned = λ u k.
@@ -147,7 +147,7 @@ module _ {X : Type 0} (has : ℕ → X → Bool) (q : Queue) (xs : List X) (o : 
 
     -- ---- an entry without a ticket changes, and gets none
 
-    pub owned-set : NoTicket has old → NoTicket has new → IsOwned has q (set xs n new)
+    pub owned-set : NoTicket has old → NoTicket has new → TicketsMatch has q (set xs n new)
     owned-set none no_new =
         let same : (u : ℕ) → owner has (set xs n new) u ≡ owner has xs u =
         λ u. owner-set has xs n old new u h (none u ∙ sym (no_new u)) in
@@ -182,7 +182,7 @@ module _ {X : Type 0} (has : ℕ → X → Bool) (q : Queue) (xs : List X) (o : 
     -- ---- an entry with a ticket leaves the queue
 
     pub owned-leaves : (t : ℕ) → owner has xs t ≡ n → OneTicket has t old → NoTicket has new
-        → IsOwned has (without t q) (set xs n new)
+        → TicketsMatch has (without t q) (set xs n new)
     owned-leaves t mine one no_new =
         let same : (u : ℕ) → eqb t u ≡ false → owner has (set xs n new) u ≡ owner has xs u =
         λ u differs. owner-set has xs n old new u h (one u ∙ differs ∙ sym (no_new u)) in
@@ -266,7 +266,7 @@ module _ {X : Type 0} (has : ℕ → X → Bool) (q : Queue) (xs : List X) (o : 
         ]
 
     pub owned-joins : (t : ℕ) → is_listed t q ≡ false → NoTicket has old → OneTicket has t new
-        → IsOwned has (joined t q) (set xs n new)
+        → TicketsMatch has (joined t q) (set xs n new)
     owned-joins t fresh none one =
         let mine : owner has (set xs n new) t ≡ n = owner-joined t fresh one in
         let same : (u : ℕ) → eqb t u ≡ false → owner has (set xs n new) u ≡ owner has xs u =

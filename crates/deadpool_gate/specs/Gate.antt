@@ -73,8 +73,8 @@ abbrev pub waiting_tickets : List Waiter → List ℕ
 waiting_tickets ws = map (λ w. w.ticket) (filter (λ w. not w.granted) ws)
 
 -- the tickets of those that were not told that their wait has ended
-abbrev pub untold_tickets : List Waiter → List ℕ
-untold_tickets ws = map (λ w. w.ticket) (filter (λ w. not w.told) ws)
+abbrev pub unnotified_tickets : List Waiter → List ℕ
+unnotified_tickets ws = map (λ w. w.ticket) (filter (λ w. not w.told) ws)
 
 -- how many of the waiters get one of so many free places: a closed gate gives none
 abbrev pub grant_count : Bool → ℕ → List Waiter → ℕ

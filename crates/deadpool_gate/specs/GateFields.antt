@@ -25,9 +25,9 @@ pub record Shows (gate : Inside) (ws : List Waiter) : Type 0 where
   pub first : gate.first ≡ first_ticket ws None
   pub last : gate.last ≡ last_ticket ws None
   pub first_waiting : gate.first_waiting ≡ first_failing (λ w. w.granted) ws
-  pub first_untold : gate.first_untold ≡ first_failing (λ w. w.told) ws
+  pub first_unnotified : gate.first_unnotified ≡ first_failing (λ w. w.told) ws
   pub granted : gate.granted ≡ granted_count ws
   pub waiting : gate.waiting ≡ waiting_count ws
 
-abbrev pub IsHeld : Inside → Type 0
-IsHeld gate = Shows gate (waiters_of gate)
+abbrev pub GateInvariant : Inside → Type 0
+GateInvariant gate = Shows gate (waiters_of gate)

@@ -8,6 +8,8 @@ pub mod Owners
 pub mod Waking
 -- The gate: one list of waiters.
 pub mod Gate
+-- What its waiters are granted of what there is in all.
+pub mod Served
 -- How the gate's fields are seen as its list. No contract of another crate cites these.
 pub mod GateNodes
 pub mod GateLinks

@@ -10,7 +10,7 @@ module _ {X : Type 0} (has : ℕ → X → Bool) where
   owner (x ∷ xs) t = if has t x then 0 else (owner xs t + 1)
 
   -- the tickets of the queue are those of the table, one each
-  pub record IsOwned (q : Queue) (xs : List X) : Type 0 where
+  pub record TicketsMatch (q : Queue) (xs : List X) : Type 0 where
     pub owned : (t : ℕ) → is_listed t q ≡ true → (x : X) × ((slice_get xs (owner xs t) ≡ Some x) × (has t x ≡ true))
     pub listed : (n t : ℕ) (x : X) → slice_get xs n ≡ Some x → has t x ≡ true
         → (is_listed t q ≡ true) × (owner xs t ≡ n)

@@ -4,16 +4,17 @@ ghost use Rattle.std.specs.Prelude.{◌≡◌, ℕ, ◌<◌, ◌≤◌, ◌^◌,
 ghost use Rattle.std.specs.Prelude.{length, take, drop};
 ghost use Rattle.std.specs.Option.{option_map};
 ghost use Rattle.deadpool_gate.specs.Gate.{find_waiter, without_waiter, grant_next, grant, granted_count};
-ghost use Rattle.deadpool_gate.specs.Gate.{waiting_count, granted_tickets, waiting_tickets, untold_tickets};
+ghost use Rattle.deadpool_gate.specs.Gate.{waiting_count, granted_tickets, waiting_tickets, unnotified_tickets};
 ghost use Rattle.deadpool_gate.specs.Gate.{grant_count, entry_at_once, Joins, answer_of, asked, withdrawn_as};
 ghost use Rattle.deadpool_gate.specs.Gate.{tell_next, due_ticket, RisesAtMost, touched, IsLine};
 ghost use Rattle.deadpool_gate.specs.GateLinks.{moved_on, ChangesAt};
 ghost use Rattle.deadpool_gate.specs.GateNodes.{changed};
 ghost use Rattle.deadpool_gate.specs.Numbers.{has_number};
-ghost use Rattle.deadpool_gate.specs.Waking.{next_due, still_untold};
+ghost use Rattle.deadpool_gate.specs.Waking.{next_due, still_unnotified};
 ghost use Rattle.slab.specs.Slab.{slab_len};
 
 mod store;
+mod within;
 
 use std::alloc::Global;
 use std::marker::Model;
@@ -104,7 +105,7 @@ pub struct Gate {
     first: Option<usize>,
     last: Option<usize>,
     first_waiting: Option<usize>,
-    first_untold: Option<usize>,
+    first_unnotified: Option<usize>,
     granted: usize,
     waiting: usize,
     is_closed: bool,
@@ -115,11 +116,11 @@ impl Model for Gate {
 
     ghost Value = { Line };
 
-    ghost use Rattle.deadpool_gate.specs.GateFields.{line_of, IsHeld};
+    ghost use Rattle.deadpool_gate.specs.GateFields.{line_of, GateInvariant};
 
     ghost view = { line_of };
 
-    ghost invariant = { IsHeld };
+    ghost invariant = { GateInvariant };
 }
 
 // Where a pointer points once the node under `key` has gone, behind which stands `behind`.
@@ -156,7 +157,7 @@ impl Gate {
             first: None,
             last: None,
             first_waiting: None,
-            first_untold: None,
+            first_unnotified: None,
             granted: 0,
             waiting: 0,
             is_closed: false,
@@ -203,7 +204,7 @@ impl Gate {
         self.last = Some(key);
         self.first = Some(self.first.unwrap_or(key));
         self.first_waiting = Some(self.first_waiting.unwrap_or(key));
-        self.first_untold = Some(self.first_untold.unwrap_or(key));
+        self.first_unnotified = Some(self.first_unnotified.unwrap_or(key));
         self.waiting += 1;
         Entry::Waiting(Ticket { number: key })
     }
@@ -243,7 +244,7 @@ impl Gate {
             ≡ granted_tickets self.old.waiters ++ take result (waiting_tickets self.old.waiters) }
         ensures left { waiting_tickets self.new.waiters
             ≡ drop result (waiting_tickets self.old.waiters) }
-        ensures untold { untold_tickets self.new.waiters ≡ untold_tickets self.old.waiters }
+        ensures unnotified { unnotified_tickets self.new.waiters ≡ unnotified_tickets self.old.waiters }
         ensures closed { self.new.is_closed ≡ self.old.is_closed }
         ensures accesses { RisesAtMost (2 * result) self.old.accesses self.new.accesses }
         ensures before { self.new.accesses_before ≡ self.old.accesses }
@@ -275,7 +276,7 @@ impl Gate {
         self.first = move_on(self.first, key, node.next);
         self.last = move_on(self.last, key, node.previous);
         self.first_waiting = move_on(self.first_waiting, key, node.next);
-        self.first_untold = move_on(self.first_untold, key, node.next);
+        self.first_unnotified = move_on(self.first_unnotified, key, node.next);
         self.granted -= usize::from(node.granted);
         self.waiting -= usize::from(!node.granted);
         Some(node.granted)
@@ -376,21 +377,21 @@ impl Gate {
         ensures granted { granted_tickets self.new.waiters ≡ granted_tickets self.old.waiters }
         ensures waiting { waiting_tickets self.new.waiters ≡ waiting_tickets self.old.waiters }
         ensures next { result ≡ next_due (not self.old.is_closed)
-            (granted_tickets self.old.waiters) (untold_tickets self.old.waiters) }
-        ensures untold { untold_tickets self.new.waiters
-            ≡ still_untold result (untold_tickets self.old.waiters) }
+            (granted_tickets self.old.waiters) (unnotified_tickets self.old.waiters) }
+        ensures unnotified { unnotified_tickets self.new.waiters
+            ≡ still_unnotified result (unnotified_tickets self.old.waiters) }
         ensures closed { self.new.is_closed ≡ self.old.is_closed }
         ensures accesses { RisesAtMost 2 self.old.accesses self.new.accesses }
         ensures before { self.new.accesses_before ≡ self.old.accesses }
     {
         self.accesses_before = self.store.accesses();
-        let key = self.first_untold?;
+        let key = self.first_unnotified?;
         if !self.is_closed && self.first_waiting == Some(key) {
             return None;
         }
         let node = self.store.read(key)?;
         self.store.write(key, Change::Told);
-        self.first_untold = node.next;
+        self.first_unnotified = node.next;
         Some(Ticket { number: key })
     }
 
@@ -398,9 +399,9 @@ impl Gate {
     pub fn is_wake_due(&self) -> bool
         ensures due { result ≡ is_some (due_ticket self.now.is_closed self.now.waiters) }
         ensures next { result ≡ is_some (next_due (not self.now.is_closed)
-            (granted_tickets self.now.waiters) (untold_tickets self.now.waiters)) }
+            (granted_tickets self.now.waiters) (unnotified_tickets self.now.waiters)) }
     {
-        let Some(key) = self.first_untold else {
+        let Some(key) = self.first_unnotified else {
             return false;
         };
         self.is_closed || self.first_waiting != Some(key)
@@ -432,7 +433,7 @@ impl Gate {
     }
 
     /// How many accesses to nodes the last call on `&mut self` made: reads, writes of one field, nodes put in and nodes
-    /// taken out. Calls on `&self` make none, and leave this as it is.
+    /// taken out. Calls on `&self` make none, and leave this as it is. So does a `settle_within` while nobody waits.
     pub fn touched(&self) -> u128
         ensures { result ≡ touched self.now }
     {

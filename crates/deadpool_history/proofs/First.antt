@@ -1,4 +1,4 @@
--- A journal has the first of all entries, however many there are.
+-- A journal has the first of all entries, however many there are. With none, nothing is counted.
 use Rattle.std.proofs.Common.{◌≡◌, ◌∙◌, ℕ, ◌<◌, ◌≤◌, true, false, List, [], ◌∷◌, ◌++◌, length, nat_lt}
 use Rattle.std.proofs.Common.{Result, Ok, Err, IfOk, drop, ap, sym, arith, inl, inr, length-append, ltb-true, ltb-false}
 use Rattle.std.proofs.lemmas.Bool.{cases_Bool, lt-ltb, le-ltb}
@@ -6,8 +6,10 @@ use Rattle.std.proofs.lemmas.List.{drop_all, length-take-le, take_all, take-appe
 use Rattle.std.proofs.lemmas.List.{take-append-drop}
 use Rattle.std.specs.declared.alloc.AllocError.{AllocError}
 use Rattle.deadpool_journal.specs.Journaling.{Journaling}
+use Rattle.deadpool_journal.specs.Kept.{JournalInvariant}
 use Rattle.deadpool_journal.specs.LogState.{LogState, no_entries, noted}
 use Rattle.deadpool_journal.specs.declared.entry.Entry.{Entry}
+use Rattle.deadpool_journal.specs.Tally.{no_tally}
 use Rattle.deadpool_journal.specs.declared.journal.Journal.{Journal}
 use Rattle.deadpool_history.specs.History.{HasFirst, History, IsBeginning, LeadsTo, entries_of}
 
@@ -83,17 +85,25 @@ nothing_after : (most : ℕ) (es : List Entry) → nat_lt most (length es) ≡ f
 nothing_after most es none = drop_all most es (ltb-false most (length es) none)
 
 module _ {T : Type 0} where
+  -- nothing is counted before the first step
+  pub has_no_tally : (j : Journaling T) → JournalInvariant j → j.log ≡ no_entries j.log.most → j.tally ≡ no_tally
+  has_no_tally j k empty =
+      let entries : j.log.entries ≡ [] = ap (λ (l : LogState). l.entries) empty in
+      let free : j.log.is_full ≡ false = ap (λ (l : LogState). l.is_full) empty in
+      let counts = rw entries at k.counts.2 in
+      sym (k.counts.3 free).1 ∙ counts.1
+
   -- what a copy has
   pub is_beginning : (j : Journaling T) (log : History) (journal : Journal) → LeadsTo j log → journal.limit ≡ j.limit
-      → journal.mode ≡ j.mode → journal.min_idle ≡ j.min_idle → journal.entries.items ≡ j.log.entries
-      → journal.full ≡ j.log.is_full → IsBeginning journal log
-  is_beginning j log journal leads limit mode min_idle entries full =
+      → journal.mode ≡ j.mode → journal.min_idle ≡ j.min_idle → journal.max_waiting ≡ j.max_waiting
+      → journal.entries.items ≡ j.log.entries → journal.full ≡ j.log.is_full → IsBeginning journal log
+  is_beginning j log journal leads limit mode min_idle max_waiting entries full =
       let es = entries_of leads.0 in
       let first = leads.1.1.1 in
       let rest : List Entry = drop j.log.most es in (
         leads.0,
         (
-          rw (limit, mode, min_idle) leads.1.0,
+          rw (limit, mode, min_idle, max_waiting) leads.1.0,
           (
             rest,
             (
@@ -108,8 +118,9 @@ module _ {T : Type 0} where
   pub beginning_if_ok : (j : Journaling T) (log : History) (result : Result Journal AllocError) → LeadsTo j log
       → IfOk result (λ journal. journal.limit ≡ j.limit) → IfOk result (λ journal. journal.mode ≡ j.mode)
       → IfOk result (λ journal. journal.min_idle ≡ j.min_idle)
+      → IfOk result (λ journal. journal.max_waiting ≡ j.max_waiting)
       → IfOk result (λ journal. journal.entries.items ≡ j.log.entries)
       → IfOk result (λ journal. journal.full ≡ j.log.is_full) → IfOk result (λ journal. IsBeginning journal log)
-  beginning_if_ok j log (Ok journal) leads limit mode min_idle entries full =
-      is_beginning j log journal leads limit mode min_idle entries full
-  beginning_if_ok j log (Err refused) leads limit mode min_idle entries full = tt
+  beginning_if_ok j log (Ok journal) leads limit mode min_idle max_waiting entries full =
+      is_beginning j log journal leads limit mode min_idle max_waiting entries full
+  beginning_if_ok j log (Err refused) leads limit mode min_idle max_waiting entries full = tt

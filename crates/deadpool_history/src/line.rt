@@ -11,6 +11,8 @@ pub enum Line {
         limit: usize,
         mode: QueueMode,
         min_idle: usize,
+        /// How many gets may wait for a place, if that is bounded.
+        max_waiting: Option<usize>,
     },
     /// A step was made, with its reply.
     Next(Entry),

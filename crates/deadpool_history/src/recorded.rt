@@ -1,19 +1,22 @@
 //! A pool's state, with the history that leads to it.
-ghost use Rattle.std.specs.Prelude.{◌≡◌, ◌+◌, ◌&&◌, [], ◌∷◌, IfOk, is_some, nat_le, not};
+ghost use Rattle.std.specs.Prelude.{◌≡◌, ◌+◌, [], ◌∷◌, IfOk, is_some, not};
 ghost use Rattle.std.specs.Option.{option_or};
 ghost use mathlib.Core.List.{IsPrefix};
 ghost use Rattle.deadpool_chronicle.specs.History.{Calls, calls_by};
+ghost use Rattle.deadpool_desk.specs.Closing.{is_drained};
 ghost use Rattle.deadpool_desk.specs.CoreSteps.{due_now};
-ghost use Rattle.deadpool_desk.specs.DeskState.{places};
+ghost use Rattle.deadpool_desk.specs.DeskState.{size, would_queue};
 ghost use Rattle.deadpool_desk.specs.Replies.{Brings, IsOwnerReplyTo, IsReplyTo, Leaves};
 ghost use Rattle.deadpool_journal.specs.ByNumber.{number_in, numbered};
 ghost use Rattle.deadpool_journal.specs.Copies.{HasSteps};
 ghost use Rattle.deadpool_journal.specs.Journaling.{opening};
 ghost use Rattle.deadpool_journal.specs.LogState.{no_entries};
+ghost use Rattle.deadpool_journal.specs.Tally.{AreBalanced};
 ghost use Rattle.deadpool_history.specs.History.{HasCalled, IsBeginning, IsLegal, IsNext, IsRetain};
-ghost use Rattle.deadpool_history.specs.History.{LeadsTo};
+ghost use Rattle.deadpool_history.specs.History.{IsTallyOf, LeadsTo, LeavesIdle};
 ghost use Rattle.deadpool_history.specs.declared.line.Line.TheVariants as line;
-ghost use Rattle.deadpool_journal.specs.Steps.{MakesNoted, MakesForOwnerNoted, RetainsNoted, TellsUnnoted};
+ghost use Rattle.deadpool_journal.specs.Steps.{MakesNoted, MakesForOwnerNoted, NotifiesUnnoted};
+ghost use Rattle.deadpool_journal.specs.Steps.{RetainsNoted};
 ghost use Rattle.deadpool_journal.specs.declared.entry.Entry.TheVariants as entry;
 
 use crate::line::Line;
@@ -22,7 +25,7 @@ use deadpool_desk::gate::Ticket;
 use deadpool_desk::{
     Desk, OwnerDesk, OwnerReply, OwnerStep, Reply, RetainResult, Retainer, Slot, Step,
 };
-use deadpool_journal::{Journal, Journaled};
+use deadpool_journal::{Journal, Journaled, Tally};
 use std::alloc::AllocError;
 use std::marker::Model;
 
@@ -65,7 +68,8 @@ impl<T> Says<Journaled<T>, (), Line> for ToOpening {
     ghost use Rattle.std.specs.Prelude.{◌≡◌};
     ghost use Rattle.deadpool_history.specs.declared.line.Line.TheVariants.{Opening};
 
-    ghost entry = { λ pool _ _ line. line ≡ Opening pool.limit pool.mode pool.min_idle };
+    ghost entry = { λ pool _ _ line. line
+        ≡ Opening pool.limit pool.mode pool.min_idle pool.max_waiting };
 }
 
 /// A pool's state with its journal, and who adds to the history. The history's entries are steps of the desk machine,
@@ -108,9 +112,10 @@ impl<T: Drop, H: Chronicle> Recorded<T, H> {
         requires unnoted { pool.log ≡ no_entries pool.log.most }
         ensures pool { result.0.pool ≡ pool }
         ensures log { result.0.log
-            ≡ (first.old.number, line.Opening pool.limit pool.mode pool.min_idle) ∷ [] }
+            ≡ (first.old.number, line.Opening pool.limit pool.mode pool.min_idle pool.max_waiting) ∷ [] }
         ensures beginning { result.1.log ≡ result.0.log }
     {
+        pool.laws();
         author.note::<Journaled<T>, (), ToOpening>(first, &pool, &());
         let beginning = author.seen();
         (Recorded { pool, author }, beginning)
@@ -174,6 +179,7 @@ impl<T: Drop, H: Chronicle> Recorded<T, H> {
             self.old.log caller.old self.new.log caller.new }
         ensures seen { IsPrefix caller.old.seen self.old.log }
         ensures called { HasCalled (IsRetain result) caller.old caller.new }
+        ensures idle { LeavesIdle result caller.new.seen }
     {
         let Recorded { pool, author, .. } = self;
         let result = pool.retain(retainer);
@@ -219,11 +225,22 @@ impl<T: Drop, H: Chronicle> Recorded<T, H> {
         author.audit(caller);
     }
 
+    /// How often each thing has happened since the pool was opened. It is no step.
+    pub fn tally(&self) -> Tally
+        ensures tally { result ≡ self.now.pool.tally }
+        ensures balances { AreBalanced (size self.now.pool.core.desk) result }
+        ensures counted { IsTallyOf self.now.log result }
+    {
+        self.pool.tally()
+    }
+
     /// A copy of the journal. It is no step.
     pub fn journal(&self) -> Result<Journal, AllocError>
         ensures limit { IfOk result (λ journal. journal.limit ≡ self.now.pool.limit) }
         ensures mode { IfOk result (λ journal. journal.mode ≡ self.now.pool.mode) }
         ensures min_idle { IfOk result (λ journal. journal.min_idle ≡ self.now.pool.min_idle) }
+        ensures max_waiting { IfOk result (λ journal.
+            journal.max_waiting ≡ self.now.pool.max_waiting) }
         ensures entries { IfOk result (λ journal.
             journal.entries.items ≡ self.now.pool.log.entries) }
         ensures full { IfOk result (λ journal. journal.full ≡ self.now.pool.log.is_full) }
@@ -253,10 +270,16 @@ impl<T: Drop, H: Chronicle> Recorded<T, H> {
         self.pool.is_closed()
     }
 
+    /// Whether the pool has closed and nothing is left in it. It is no step.
+    pub fn is_drained(&self) -> bool
+        ensures { result ≡ is_drained self.now.pool.core.desk }
+    {
+        self.pool.is_drained()
+    }
+
     /// Whether a get that enters now, and is willing to wait, has to join the queue. It is no step.
     pub fn would_queue(&self) -> bool
-        ensures { let desk = self.now.pool.core.desk
-            in result ≡ (desk.is_open && nat_le desk.limit (places desk)) }
+        ensures { result ≡ would_queue self.now.pool.core.desk }
     {
         self.pool.would_queue()
     }
@@ -270,7 +293,7 @@ impl<T: Drop, H: Chronicle> Recorded<T, H> {
 
     /// The next get in the queue that is due to be woken. It is no step, and stands in no history.
     pub fn take_wake(&mut self) -> Option<Ticket>
-        ensures told { TellsUnnoted self.old.pool result self.new.pool }
+        ensures told { NotifiesUnnoted self.old.pool result self.new.pool }
         ensures log { self.new.log ≡ self.old.log }
     {
         let Recorded { pool, .. } = self;

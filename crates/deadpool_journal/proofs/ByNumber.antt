@@ -10,7 +10,8 @@ use Rattle.deadpool_desk.specs.declared.owner_step.OwnerReply.TheVariants as own
 use Rattle.deadpool_desk.specs.declared.owner_step.OwnerStep.TheVariants as owner
 use Rattle.deadpool_desk.specs.declared.step.Held.TheVariants as held
 use Rattle.deadpool_desk.specs.declared.step.Reply.TheVariants.{Object, Create, Going, Exhausted, Closed, Full, Waiting}
-use Rattle.deadpool_desk.specs.declared.step.Reply.TheVariants.{OutOfMemory, Expired, Done, Number, Kept, Detach}
+use Rattle.deadpool_desk.specs.declared.step.Reply.TheVariants.{Crowded, OutOfMemory, Expired, Done, Number, Kept}
+use Rattle.deadpool_desk.specs.declared.step.Reply.TheVariants.{Detach}
 use Rattle.deadpool_desk.specs.declared.step.Reply.TheVariants.{Dropped, Taken, Unknown}
 use Rattle.deadpool_desk.specs.declared.step.Step.TheVariants.{Enter, Ask, Again, Discard, Created, Failed, Refused}
 use Rattle.deadpool_desk.specs.declared.step.Step.TheVariants.{Back, Withdraw, Cancel, Take}
@@ -61,8 +62,9 @@ module _ {T : Type 0} where
       → Does d step o reply d' → Does (numbered d) step (number_in o) reply (numbered d')
   does_numbered d d' (Enter wait) None Closed h = (h.0, ap numbered h.1)
   does_numbered d d' (Enter wait) None Full h = (h.0, h.1, h.2, ap numbered h.3)
-  does_numbered d d' (Enter wait) None (Waiting ticket) h = (h.0, h.1, h.2, h.3, ap numbered h.4)
-  does_numbered d d' (Enter wait) None OutOfMemory h = (h.0, h.1, h.2, ap numbered h.3)
+  does_numbered d d' (Enter wait) None Crowded h = (h.0, h.1, h.2, h.3, ap numbered h.4)
+  does_numbered d d' (Enter wait) None (Waiting ticket) h = (h.0, h.1, h.2, h.3, h.4, ap numbered h.5)
+  does_numbered d d' (Enter wait) None OutOfMemory h = (h.0, h.1, h.2, h.3, ap numbered h.4)
   does_numbered d d' (Enter wait) o reply h = (h.0, h.1, serves_numbered d d' None o reply h.2)
   does_numbered d d' (Ask ticket expired) None Unknown h = (h.0, ap numbered h.1)
   does_numbered d d' (Ask ticket expired) None Closed h = (h.0, h.1, ap numbered h.2)

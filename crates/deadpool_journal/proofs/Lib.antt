@@ -1,3 +1,6 @@
+-- The lemmas on a pool with a journal: steps by number, the books, what the log keeps, what a
+-- retain notes.
+pub mod Balance
 pub mod ByNumber
 pub mod Kept
 pub mod Retains

@@ -3,10 +3,12 @@ use Rattle.deadpool_journal.proofs.Words.{◌≡◌, ℕ, ◌+◌, ◌-◌, ◌�
 use Rattle.deadpool_journal.proofs.Words.{arith, inl, inr, ◌==◌, nat_lt, Result, Ok, Err, ltb-false, AllocError, eq-eqb}
 use Rattle.deadpool_journal.proofs.Words.{ne_eqb, length-map, CoreState, DeskState, least_idle, Retained, Reviews}
 use Rattle.deadpool_journal.proofs.Words.{ReviewsFrom, Retains, RetainsNoting, Removal, Ghosts as RetainerOf, Slot}
-use Rattle.deadpool_journal.proofs.Words.{number_of, numbered, Journaling, IsKept, remaining, StandIn, IsStep}
+use Rattle.deadpool_journal.proofs.Words.{number_of, numbered, Journaling, JournalInvariant, remaining, StandIn, IsStep}
 use Rattle.deadpool_journal.proofs.Words.{NotesRetain, Entry}
 use Rattle.deadpool_journal.proofs.{ByNumber.some_numbered, Kept.step_full}
 use Rattle.deadpool_desk.specs.CoreSteps as core_steps
+use Rattle.deadpool_desk.specs.DeskState.{size}
+use Rattle.deadpool_journal.specs.Tally.{counted_retain}
 
 -- if nothing is removed, all remains
 remaining-none : (at : ℕ) (xs : List ℕ) → remaining at [] xs ≡ xs
@@ -54,7 +56,7 @@ module _ {T R L : Type 0} (asks : RetainerOf R T L) where
       let here : (at == at) ≡ true = eq-eqb at at refl in
       rw (is_noted, here) ((refl, later.0), later.1)
 
-  -- no more go than the floor leaves
+  -- no more go than `min_idle` leaves
   noted_few : (least idle at : ℕ) (slots : List (Slot T)) (r : R) (kept : List (Slot T)) (removed : List L)
       (noted : List Removal) (r' : R) → ReviewsFrom asks least idle at slots r kept removed noted r'
       → length noted ≤ idle - least
@@ -103,19 +105,27 @@ module _ {T R L : Type 0} (asks : RetainerOf R T L) where
       → RetainsNoting asks d r (Err e) d' r' → IsStep (numbered d) (Entry.Retain (Err e)) (numbered d')
   refused_retain_numbered d d' r r' e h = (some_numbered d.idle h.0, ap numbered h.1)
 
+  -- what a retain leaves if there is no room for its entry
+  abbrev pub unnoted : Journaling T → CoreState T → Result (Retained L) AllocError → Journaling T
+  unnoted j core reply = record j {
+    core = core;
+    log = record j.log { is_full = true };
+    tally = counted_retain (size j.core.desk - size core.desk) reply j.tally;
+  }
+
   -- If there is no room for the entry only the mark is set, and what the retain gave up could have been noted.
   pub unnoted_retain : (j : Journaling T) (core : CoreState T) (r r' : R) (reply : Result (Retained L) AllocError)
       → core_steps.Retains asks j.core r reply core r'
       → nat_lt (length j.log.entries) j.log.most ≡ false
-      → NotesRetain asks j r reply (record j { core = core; log = record j.log { is_full = true } }) r'
+      → NotesRetain asks j r reply (unnoted j core reply) r'
   unnoted_retain j core r r' (Ok given) h none = let all = retain_noted j.core.desk core.desk r r' given h.0 in
       (all.0, (all.1, h.1), rw none refl)
   unnoted_retain j core r r' (Err e) h none = rw none refl
 
   pub unnoted_kept : (j : Journaling T) (core : CoreState T) (r r' : R) (reply : Result (Retained L) AllocError)
-      → IsKept j → core_steps.Retains asks j.core r reply core r'
+      → JournalInvariant j → core_steps.Retains asks j.core r reply core r'
       → nat_lt (length j.log.entries) j.log.most ≡ false
-      → IsKept (record j { core = core; log = record j.log { is_full = true } })
+      → JournalInvariant (unnoted j core reply)
   unnoted_kept j core r r' (Ok given) kept h none =
       let all = retain_noted j.core.desk core.desk r r' given h.0 in
       step_full j core (Entry.Retain (Ok all.0)) kept (retain_numbered j.core.desk core.desk r r' (given, all.0) all.1)

@@ -21,5 +21,6 @@ pub use Rattle.deadpool_desk.specs.{declared.retain.Removal.Removal, declared.re
 pub use Rattle.deadpool_desk.specs.{declared.slot.Slot.Slot}
 pub use Rattle.deadpool_journal.specs.{ByNumber.number_of, ByNumber.number_in, ByNumber.numbered}
 pub use Rattle.deadpool_journal.specs.{JournaledFields.journaling_of, Journaling.Journaling, Journaling.opening}
-pub use Rattle.deadpool_journal.specs.{Kept.IsKept, LogState.noted, Removals.remaining, Removals.StandIn, Replay.IsStep}
+pub use Rattle.deadpool_journal.specs.{Kept.JournalInvariant, LogState.noted, Removals.remaining}
+pub use Rattle.deadpool_journal.specs.{Removals.StandIn, Replay.IsStep}
 pub use Rattle.deadpool_journal.specs.{Replay.Runs, Steps.NotesRetain, declared.entry.Entry.Entry}

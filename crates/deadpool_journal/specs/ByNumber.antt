@@ -16,7 +16,8 @@ module _ {T : Type 0} where
     limit = d.limit;
     is_open = d.is_open;
     mode = d.mode;
-    floor = d.floor;
+    min_idle = d.min_idle;
+    max_waiting = d.max_waiting;
     next = d.next;
     handles = d.handles;
     reserve = d.reserve;

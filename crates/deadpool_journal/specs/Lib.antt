@@ -3,6 +3,7 @@
 -- Objects by number, the entries, and the steps that are noted.
 pub mod ByNumber
 pub mod LogState
+pub mod Tally
 pub mod Journaling
 pub mod Steps
 -- What a journal proves: replayed, its entries are steps of the desk machine.

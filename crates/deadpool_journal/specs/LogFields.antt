@@ -6,7 +6,7 @@ use Rattle.deadpool_journal.specs.declared.log.Log.TheInside.{Inside}
 abbrev pub log_of : Inside → LogState
 log_of log = record { entries = log.entries.items; most = log.most; is_full = log.is_full }
 
-pub record IsLog (log : Inside) : Type 0 where
+pub record LogInvariant (log : Inside) : Type 0 where
   pub within : vec_len log.entries ≤ log.most
   pub room : log.most ≤ vec_capacity log.entries
   pub full : log.is_full ≡ true → vec_len log.entries ≡ log.most

@@ -2,7 +2,7 @@
 use Rattle.std.specs.Prelude.{◌≡◌, ℕ, List, Option, Result, Ok, Err}
 use Rattle.std.specs.Option.{option_or}
 use Rattle.std.specs.declared.alloc.AllocError.{AllocError}
-use Rattle.deadpool_desk.specs.CoreSteps.{Makes, MakesForOwner, Retains, RetainsNoting, Tells}
+use Rattle.deadpool_desk.specs.CoreSteps.{Makes, MakesForOwner, Retains, RetainsNoting, Notifies}
 use Rattle.deadpool_desk.specs.Retained.{Retained}
 use Rattle.deadpool_desk.specs.declared.owner_step.OwnerReply.{OwnerReply}
 use Rattle.deadpool_desk.specs.declared.owner_step.OwnerStep.{OwnerStep}
@@ -24,8 +24,8 @@ module _ {T : Type 0} where
   MakesForOwnerNoted j step reply j' = MakesForOwner j.core step reply j'.core × Notes (entry.Owner step reply) j j'
 
   -- A get in the queue is named to be woken. It is no step, and nothing is noted.
-  abbrev pub TellsUnnoted : Journaling T → Option ℕ → Journaling T → Type 0
-  TellsUnnoted j named j' = Tells j.core named j'.core × (j' ≡ record j { core = j'.core })
+  abbrev pub NotifiesUnnoted : Journaling T → Option ℕ → Journaling T → Type 0
+  NotifiesUnnoted j named j' = Notifies j.core named j'.core × (j' ≡ record j { core = j'.core })
 
 module _ {T R L : Type 0} (asks : RetainerOf R T L) where
   -- It is noted with all that it gave up, and where each of these stood among those that were idle.

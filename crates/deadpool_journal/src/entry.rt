@@ -4,7 +4,7 @@ ghost use Rattle.std.specs.Prelude.{◌≡◌, IfOk};
 use deadpool_desk::{OwnerReply, OwnerStep, Removals, Reply, Step};
 use std::alloc::AllocError;
 
-/// A step of a pool with its reply, objects by number. `docs/DEFINITIONS.md` has the text of each.
+/// A step of a pool with its reply, objects by number. `docs/MODEL.md` has the text of each.
 #[derive(Debug, Drop, PartialEq)]
 pub enum Entry {
     /// A step of a get or an object, the number of the object that it took or gave, and the reply.

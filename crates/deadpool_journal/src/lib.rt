@@ -5,8 +5,12 @@ mod entry;
 mod journal;
 mod journaled;
 mod log;
+mod report;
+mod tally;
 mod texts;
 
 pub use entry::Entry;
 pub use journal::Journal;
 pub use journaled::Journaled;
+pub use report::Report;
+pub use tally::Tally;

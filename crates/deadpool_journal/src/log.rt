@@ -28,11 +28,11 @@ impl Model for Log {
 
     ghost Value = { LogState };
 
-    ghost use Rattle.deadpool_journal.specs.LogFields.{log_of, IsLog};
+    ghost use Rattle.deadpool_journal.specs.LogFields.{log_of, LogInvariant};
 
     ghost view = { log_of };
 
-    ghost invariant = { IsLog };
+    ghost invariant = { LogInvariant };
 }
 
 impl Log {

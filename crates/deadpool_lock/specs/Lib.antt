@@ -1,3 +1,3 @@
--- The wakers of those that wait, and when a future has ended.
+-- The wakers of those that wait, and futures that ask something.
+pub mod Asked
 pub mod Places
-pub mod Requests

@@ -3,13 +3,13 @@
 #![tactic(auto)]
 
 mod handle;
-mod listener;
 mod lock;
+mod registration;
 mod request;
 mod wakers;
 
 pub use handle::{Counted, Handle, Home};
-pub use listener::{Listener, wake_at};
 pub use lock::{Step, StepLock, Wakes};
-pub use request::{Request, RequestFuture, RequestRef};
+pub use registration::{Registration, wake_at};
+pub use request::{Borrowed, Owned, Request, Stage};
 pub use wakers::Wakers;

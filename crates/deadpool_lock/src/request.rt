@@ -1,328 +1,401 @@
-//! A future that asks something of what is shared.
-ghost use Rattle.std.specs.Prelude.{◌≡◌, ◌||◌, ⊤, true, false, None, is_some, IfOk, IfErr, IfSome, IsNone, IsSomeAnd};
-ghost use Rattle.std.specs.Option.{ForSome};
-ghost use Rattle.deadpool_lock.specs.Requests.{IsOver, FutureGives, BorrowingGives};
+//! Futures that ask something of what is shared: one with a handle of its own, and one that borrows a handle.
+ghost use Rattle.std.specs.Prelude.{◌≡◌, ◌⊎◌, ⊤, Some, None, IfOk, IfErr, IfSome};
+ghost use Rattle.deadpool_lock.specs.Asked.{Asks, Gives, HasHandle, IsAsking, IsRefused, PollsAsked, Turns};
 ghost use Rattle.futures.specs.Poll.{IfReady, OnPending};
 ghost use Rattle.futures.specs.Task.{Covers, Hears, IsArmed, Keeps};
+ghost use Rattle.futures.specs.declared.task.Poll.{Poll};
+ghost use Rattle.deadpool_lock.specs.declared.request.Stage.{Stage as StageOf};
 
-use crate::{Counted, Handle, Listener};
+use crate::{Counted, Handle, Registration};
 use futures::Future;
-use futures::task::{Context, Poll};
+use futures::task::{Context, Poll, Source};
+use std::alloc::AllocError;
+use std::marker::Model;
 use std::mem;
 
 /// What a future asks of what is shared, from its call to its end.
-pub trait Request<S: Counted>: Drop {
-    type Output: Drop;
+pub trait Request {
+    /// What is asked.
+    type Shared: Counted + Drop;
 
-    /// Why it never began, with what the caller gets back.
-    type Refusal: Drop;
+    /// What is kept for its output until it ends.
+    type Kept: Drop;
 
-    // Holds of each output that it may give.
-    ghost gives: { Self → Self.Output → Type 0 } = { λ _ _. ⊤ };
+    type Output;
 
-    // Holds of each output that says why it never began.
-    ghost refuses: { Self.Refusal → Self.Output → Type 0 } = { λ _ _. ⊤ };
+    // Holds of it at a stage of its future.
+    ghost fits: { StageOf Self.Kept → Self → Type 0 } = { λ _ _. ⊤ };
 
-    /// One poll, in a task that has registered with what is shared before. It comes back if it is pending; otherwise
-    /// there is its output.
+    // Holds of each output that it may give, with what is kept for it.
+    ghost gives: { Self → Self.Kept → Self.Output → Type 0 } = { λ _ _ _. ⊤ };
+
+    // Holds of each output by which it says that it never began.
+    ghost refuses: { Self → Self.Output → Type 0 } = { λ _ _. ⊤ };
+
+    // Relates it before a poll, what the poll comes to, and it after the poll.
+    ghost polls: { Self.Shared → Self → Poll Self.Output → Self → Type 0 } = { λ _ _ _ _. ⊤ };
+
+    /// One poll, in a task that has registered with what is shared before. A poll that gives an output ends the stage,
+    /// and may take what was kept there.
     fn poll(
-        self,
-        shared: &S,
-        listener: &mut Listener,
+        &mut self,
+        stage: &mut Stage<Self::Kept>,
+        shared: &Self::Shared,
+        registration: &mut Registration,
         cx: &mut Context<'_>,
-    ) -> Result<Self, Self::Output>
-        requires registered { Hears cx.old (S.source_of shared.now) }
-        ensures gives { IfErr result (gives self) }
-        ensures same { IfOk result (λ pending. (x : _) → gives pending x → gives self x) }
+    ) -> Poll<Self::Output>
+        requires asks { IsAsking stage.old }
+        requires fits { fits stage.old self.old }
+        requires registered { Hears cx.old (Self.Shared.source_of shared.now) }
+        ensures turns { Turns stage.old result stage.new }
+        ensures gives { IfReady result (Gives gives refuses stage.old self.old) }
+        ensures same { OnPending result
+            ((kept : _) (x : _) → gives self.new kept x → gives self.old kept x) }
+        ensures polls { polls shared.now self.old result self.new }
+        ensures fits { fits stage.new self.new }
         ensures kept { Keeps cx.old cx.new };
 
-    /// Is given up, and gives back what it holds.
-    fn cancel(self, shared: &S);
+    /// Is given up while it asks, and gives back what it holds.
+    fn cancel(self, kept: Self::Kept, shared: &Self::Shared)
+        requires { fits (Stage.Asking kept) self };
 
     /// The output of one that never began.
-    fn refuse(refusal: Self::Refusal) -> Self::Output
-        ensures { refuses refusal result };
+    fn refuse(&mut self) -> Self::Output
+        requires { fits Stage.Refused self.old }
+        ensures refuses { refuses self.old result }
+        ensures ended { fits Stage.Ended self.new };
+
+    /// Is let go of, since it never began or has ended.
+    fn leave(self)
+        requires { fits Stage.Refused self ⊎ fits Stage.Ended self };
 }
 
-/// A request as a future, with a handle of its own. It registers before each poll of the request. One that has ended
-/// stays pending. Dropping it gives up a request that has not ended, and then its handle.
-pub struct RequestFuture<Q: Request<S>, S: Counted + Drop> {
-    // None if no handle was counted.
-    handle: Option<Handle<S>>,
-    // None if it has ended.
-    request: Option<Q>,
-    // Of one without a handle, until its first poll.
-    refusal: Option<Q::Refusal>,
-    listener: Listener,
+/// How far a future is.
+#[derive(Drop)]
+pub enum Stage<K: Drop> {
+    /// It asks, with what is kept for its output.
+    Asking(K),
+    /// There was no memory for it. Its first poll says so.
+    Refused,
+    Ended,
 }
 
-impl<Q: Request<S>, S: Counted + Drop> RequestFuture<Q, S> {
-    /// A request that was not polled yet, with the handle that it holds until it is dropped.
-    pub fn new(handle: Handle<S>, request: Q) -> Self
-        ensures handle { result.handle ≡ Some handle }
-        ensures request { result.request ≡ Some request }
-        ensures refusal { result.refusal ≡ None }
+impl<K: Drop> Stage<K> {
+    /// Ends it, and gives what was kept for the output.
+    #[inline(always)]
+    pub fn end(&mut self) -> K
+        requires { IsAsking self.old }
+        ensures kept { self.old ≡ Stage.Asking result }
+        ensures ended { self.new ≡ Stage.Ended }
     {
-        RequestFuture {
-            handle: Some(handle),
-            request: Some(request),
-            refusal: None,
-            listener: Listener::new(),
-        }
-    }
-
-    /// One that ends with its first poll, and holds nothing.
-    pub fn refused(refusal: Q::Refusal) -> Self
-        ensures handle { result.handle ≡ None }
-        ensures request { result.request ≡ None }
-        ensures refusal { result.refusal ≡ Some refusal }
-    {
-        RequestFuture {
-            handle: None,
-            request: None,
-            refusal: Some(refusal),
-            listener: Listener::new(),
-        }
-    }
-
-    /// One poll.
-    pub fn advance(&mut self, cx: &mut Context<'_>) -> Poll<Q::Output>
-        ensures gives { IfReady result (FutureGives Q.gives Q.refuses
-            self.old.handle self.old.request self.old.refusal) }
-        ensures same { OnPending result ((x : _) →
-            FutureGives Q.gives Q.refuses self.new.handle self.new.request self.new.refusal x →
-            FutureGives Q.gives Q.refuses self.old.handle self.old.request self.old.refusal x) }
-        ensures ended { IfReady result
-            (λ _. IsOver self.new.handle self.new.request self.new.refusal) }
-        ensures waits { OnPending result (is_some self.new.request ≡ is_some self.old.request) }
-        ensures told { OnPending result (IsNone self.old.handle → IsNone self.old.refusal) }
-        ensures stays { IsOver self.old.handle self.old.request self.old.refusal
-            → result ≡ Poll.Pending }
-        ensures over { IsOver self.old.handle self.old.request self.old.refusal
-            → IsOver self.new.handle self.new.request self.new.refusal }
-        ensures handle { self.new.handle ≡ self.old.handle }
-        ensures armed { OnPending result (IsArmed cx.new) }
-        ensures heard { OnPending result
-            (IfSome self.old.handle (λ shared. Hears cx.new (S.source_of shared))) }
-        ensures kept { Keeps cx.old cx.new }
-    {
-        let Some(handle) = &self.handle else {
-            return poll_refused::<Q, S>(&mut self.refusal, &mut self.listener, cx);
+        let Stage::Asking(kept) = mem::replace(self, Stage::Ended) else {
+            unreachable!();
         };
-        poll_request(&mut self.request, handle.shared(), &mut self.listener, cx)
+        kept
+    }
+}
+
+/// A request as a future, with a handle of its own, which it holds until it is dropped. It registers before each poll
+/// of the request. One that has ended stays pending. Dropping it gives up a request that has not ended, and then its
+/// handle.
+pub struct Owned<Q: Request> {
+    // None if it never began.
+    handle: Option<Handle<Q::Shared>>,
+    stage: Stage<Q::Kept>,
+    request: Q,
+    registration: Registration,
+}
+
+impl<Q: Request> Model for Owned<Q> {
+    ghost use Rattle.deadpool_lock.specs.Asked.{Asked, HasHandle};
+
+    ghost Value = { Asked Q.Shared Q.Kept Q };
+
+    ghost view = { λ f. record {
+      shared = f.handle;
+      stage = f.stage;
+      request = f.request;
+      registration = f.registration;
+    } };
+
+    ghost invariant = { λ f. HasHandle f.handle f.stage × Q.fits f.stage f.request };
+}
+
+impl<Q: Request> Owned<Q> {
+    /// A request that was not polled yet, with its handle and what is kept for its output, or what is told if there was
+    /// no memory for these.
+    #[inline(always)]
+    pub fn new(begun: Result<(Handle<Q::Shared>, Q::Kept), AllocError>, request: Q) -> Self
+        requires new { (kept : _) → Q.fits (Stage.Asking kept) request }
+        requires unbegun { Q.fits Stage.Refused request }
+        ensures asks { IfOk begun (λ b. Asks b.0 b.1 request result) }
+        ensures refused { IfErr begun (λ _. IsRefused None request result) }
+    {
+        let (handle, stage) = match begun {
+            Ok((handle, kept)) => (Some(handle), Stage::Asking(kept)),
+            Err(AllocError) => (None, Stage::Refused),
+        };
+        Owned {
+            handle,
+            stage,
+            request,
+            registration: Registration::new(),
+        }
     }
 
     // Gives up a request that has not ended, and then the handle.
     #[cold]
     #[inline(never)]
-    fn give_up(self) {
+    fn give_up(self)
+        requires { IsAsking self.stage }
+    {
         let Self {
             handle,
+            mut stage,
             request,
-            refusal: _,
-            listener: _,
+            registration: _,
         } = self;
-        if let (Some(handle), Some(request)) = (handle, request) {
-            request.cancel(handle.shared());
-        }
+        let Some(handle) = handle else {
+            unreachable!();
+        };
+        request.cancel(stage.end(), handle.shared());
     }
 }
 
-// A poll of one that has no handle.
+// Registers, and polls a request that has not ended.
+#[inline(always)]
+fn poll_stage<Q: Request>(
+    stage: &mut Stage<Q::Kept>,
+    request: &mut Q,
+    shared: &Q::Shared,
+    registration: &mut Registration,
+    cx: &mut Context<'_>,
+) -> Poll<Q::Output>
+    requires { Q.fits stage.old request.old }
+    ensures fits { Q.fits stage.new request.new }
+    ensures gives { IfReady result (Gives Q.gives Q.refuses stage.old request.old) }
+    ensures same { OnPending result ((x : _) → Gives Q.gives Q.refuses stage.new request.new x
+        → Gives Q.gives Q.refuses stage.old request.old x) }
+    ensures turns { Turns stage.old result stage.new }
+    ensures polls { PollsAsked Q.polls (Some shared.now) stage.old request.old result request.new }
+    ensures armed { OnPending result (IsArmed cx.new) }
+    ensures heard { OnPending result (Hears cx.new (Q.Shared.source_of shared.now)) }
+    ensures kept { Keeps cx.old cx.new }
+{
+    if !matches!(stage, Stage::Asking(_)) {
+        return poll_rest(stage, request, Some(shared.source()), registration, cx);
+    }
+    registration.register(Some(shared.source()), cx);
+    request.poll(stage, shared, registration, cx)
+}
+
+// A poll of one that asks nothing, with what it registers with, if there is anything.
 #[cold]
 #[inline(never)]
-fn poll_refused<Q: Request<S>, S: Counted>(
-    refusal: &mut Option<Q::Refusal>,
-    listener: &mut Listener,
+fn poll_rest<Q: Request>(
+    stage: &mut Stage<Q::Kept>,
+    request: &mut Q,
+    source: Option<&Source>,
+    registration: &mut Registration,
     cx: &mut Context<'_>,
 ) -> Poll<Q::Output>
-    ensures gives { IfReady result
-        (λ output. IsSomeAnd refusal.old (λ refused. Q.refuses refused output)) }
-    ensures begun { IfReady result (λ _. is_some refusal.old ≡ true) }
-    ensures waits { OnPending result (IsNone refusal.old) }
-    ensures ended { IsNone refusal.new }
+    requires rests { IsAsking stage.old → ⊥ }
+    requires fits { Q.fits stage.old request.old }
+    ensures fits { Q.fits stage.new request.new }
+    ensures gives { IfReady result (Gives Q.gives Q.refuses stage.old request.old) }
+    ensures turns { Turns stage.old result stage.new }
+    ensures polls { PollsAsked Q.polls None stage.old request.old result request.new }
     ensures armed { OnPending result (IsArmed cx.new) }
+    ensures heard { OnPending result (IfSome source.entry (λ s. Hears cx.new s.now.id)) }
     ensures kept { Keeps cx.old cx.new }
 {
-    listener.listen(None, cx);
-    match refusal.take() {
-        Some(refusal) => Poll::Ready(Q::refuse(refusal)),
-        None => Poll::Pending,
-    }
-}
-
-// Registers, and then polls a request that has not ended.
-#[inline(always)]
-fn poll_request<Q: Request<S>, S: Counted>(
-    asked: &mut Option<Q>,
-    shared: &S,
-    listener: &mut Listener,
-    cx: &mut Context<'_>,
-) -> Poll<Q::Output>
-    ensures gives { IfReady result
-        (λ output. IsSomeAnd asked.old (λ request. Q.gives request output)) }
-    ensures same { OnPending result ((x : _) →
-        IsSomeAnd asked.new (λ request. Q.gives request x) →
-        IsSomeAnd asked.old (λ request. Q.gives request x)) }
-    ensures begun { IfReady result (λ _. is_some asked.old ≡ true) }
-    ensures ended { IfReady result (λ _. IsNone asked.new) }
-    ensures waits { OnPending result (is_some asked.new ≡ is_some asked.old) }
-    ensures armed { OnPending result (IsArmed cx.new) }
-    ensures heard { OnPending result (Hears cx.new (S.source_of shared.now)) }
-    ensures kept { Keeps cx.old cx.new }
-{
-    listener.listen(Some(shared.source()), cx);
-    let Some(request) = asked.take() else {
+    registration.register(source, cx);
+    if !matches!(stage, Stage::Refused) {
         return Poll::Pending;
-    };
-    match request.poll(shared, listener, cx) {
-        Ok(request) => {
-            *asked = Some(request);
-            Poll::Pending
-        }
-        Err(output) => Poll::Ready(output),
     }
+    *stage = Stage::Ended;
+    Poll::Ready(request.refuse())
 }
 
-impl<Q: Request<S>, S: Counted + Drop> Future for RequestFuture<Q, S> {
+impl<Q: Request> Future for Owned<Q> {
     type Output = Q::Output;
 
-    ghost needs = { λ future s. IsSomeAnd future.handle (λ shared. s ≡ S.source_of shared) };
+    ghost use Rattle.std.specs.Prelude.{IsSomeAnd};
+
+    ghost needs = { λ future s. IsSomeAnd future.shared (λ shared. s ≡ Q.Shared.source_of shared) };
 
     // One that has ended gives nothing more.
-    ghost gives = { λ future. FutureGives Q.gives Q.refuses future.handle future.request future.refusal };
+    ghost gives = { λ future. Gives Q.gives Q.refuses future.stage future.request };
 
-    fn poll(&mut self, cx: &mut Context<'_>) -> Poll<Q::Output> {
-        self.advance(cx)
+    #[inline(always)]
+    fn poll(&mut self, cx: &mut Context<'_>) -> Poll<Q::Output>
+        ensures value { IfReady result (Gives Q.gives Q.refuses self.old.stage self.old.request) }
+        ensures again { OnPending result ⊤ }
+        ensures same { OnPending result ((x : _) →
+            Gives Q.gives Q.refuses self.new.stage self.new.request x
+            → Gives Q.gives Q.refuses self.old.stage self.old.request x) }
+        ensures registered { OnPending result (Covers cx.new
+            (λ s. IsSomeAnd self.new.shared (λ shared. s ≡ Q.Shared.source_of shared))) }
+        ensures kept { Keeps cx.old cx.new }
+        ensures shared { self.new.shared ≡ self.old.shared }
+        ensures turns { Turns self.old.stage result self.new.stage }
+        ensures polls { PollsAsked Q.polls self.old.shared self.old.stage self.old.request
+            result self.new.request }
+    {
+        let Some(handle) = &self.handle else {
+            return poll_rest(
+                &mut self.stage,
+                &mut self.request,
+                None,
+                &mut self.registration,
+                cx,
+            );
+        };
+        poll_stage(
+            &mut self.stage,
+            &mut self.request,
+            handle.shared(),
+            &mut self.registration,
+            cx,
+        )
     }
 }
 
-impl<Q: Request<S>, S: Counted + Drop> Drop for RequestFuture<Q, S> {
+impl<Q: Request> Drop for Owned<Q> {
     fn drop(self) {
-        if self.request.is_some() {
+        if matches!(self.stage, Stage::Asking(_)) {
             self.give_up();
             return;
         }
         let Self {
             handle,
-            request: _,
-            refusal: _,
-            listener: _,
+            stage: _,
+            request,
+            registration: _,
         } = self;
+        request.leave();
         drop(handle);
     }
 }
 
-/// A request as a future that borrows a handle, and is none itself. Otherwise it is as a `RequestFuture`.
-pub struct RequestRef<'a, Q: Request<S>, S: Counted + Drop> {
-    handle: &'a Handle<S>,
-    // None if it has ended, or did not begin.
-    request: Option<Q>,
-    // Of one that did not begin, until its first poll.
-    refusal: Option<Q::Refusal>,
-    listener: Listener,
-    ghost either: { ForSome refusal (λ _. is_some request ≡ false) },
+/// A request as a future that borrows a handle, and is none itself. Otherwise it is as an `Owned`.
+pub struct Borrowed<'a, Q: Request> {
+    handle: &'a Handle<Q::Shared>,
+    stage: Stage<Q::Kept>,
+    request: Q,
+    registration: Registration,
 }
 
-impl<'a, Q: Request<S>, S: Counted + Drop> RequestRef<'a, Q, S> {
-    /// A request that was not polled yet, or why there is none.
-    pub fn new(handle: &'a Handle<S>, request: Result<Q, Q::Refusal>) -> Self
-        ensures handle { result.handle.now ≡ handle.now }
-        ensures request { IfOk request (λ asked. result.request ≡ Some asked) }
-        ensures refusal { IfErr request (λ refusal. result.refusal ≡ Some refusal) }
+impl<'a, Q: Request> Model for Borrowed<'a, Q> {
+    ghost use Rattle.std.specs.Prelude.{Some};
+    ghost use Rattle.deadpool_lock.specs.Asked.{Asked};
+
+    ghost Value = { Asked Q.Shared Q.Kept Q };
+
+    ghost view = { λ f. record {
+      shared = Some f.handle.now;
+      stage = f.stage;
+      request = f.request;
+      registration = f.registration;
+    } };
+
+    ghost invariant = { λ f. Q.fits f.stage f.request };
+}
+
+impl<'a, Q: Request> Borrowed<'a, Q> {
+    /// A request that was not polled yet, with what is kept for its output, or what is told if there was no memory for
+    /// that.
+    #[inline(always)]
+    pub fn new(handle: &'a Handle<Q::Shared>, kept: Result<Q::Kept, AllocError>, request: Q) -> Self
+        requires new { (kept : _) → Q.fits (Stage.Asking kept) request }
+        requires unbegun { Q.fits Stage.Refused request }
+        ensures asks { IfOk kept (λ k. Asks handle.now k request result) }
+        ensures refused { IfErr kept (λ _. IsRefused (Some handle.now) request result) }
     {
-        let (request, refusal) = match request {
-            Ok(request) => (Some(request), None),
-            Err(refusal) => (None, Some(refusal)),
+        let stage = match kept {
+            Ok(kept) => Stage::Asking(kept),
+            Err(AllocError) => Stage::Refused,
         };
-        RequestRef {
+        Borrowed {
             handle,
+            stage,
             request,
-            refusal,
-            listener: Listener::new(),
+            registration: Registration::new(),
         }
     }
 
     /// Exchanges what it hears by. A task that keeps that from one future to the next is registered already.
     #[inline]
-    pub fn exchange_listener(&mut self, listener: &mut Listener)
-        ensures taken { self.new.listener ≡ listener.old }
-        ensures given { listener.new ≡ self.old.listener }
-        ensures handle { self.new.handle.now ≡ self.old.handle.now }
-        ensures request { self.new.request ≡ self.old.request }
-        ensures refusal { self.new.refusal ≡ self.old.refusal }
+    pub fn exchange_registration(&mut self, registration: &mut Registration)
+        ensures taken { self.new ≡ record self.old { registration = registration.old } }
+        ensures given { registration.new ≡ self.old.registration }
     {
-        mem::swap(&mut self.listener, listener);
-    }
-
-    /// One poll.
-    pub fn advance(&mut self, cx: &mut Context<'_>) -> Poll<Q::Output>
-        ensures gives { IfReady result
-            (BorrowingGives Q.gives Q.refuses self.old.request self.old.refusal) }
-        ensures same { OnPending result ((x : _) →
-            BorrowingGives Q.gives Q.refuses self.new.request self.new.refusal x →
-            BorrowingGives Q.gives Q.refuses self.old.request self.old.refusal x) }
-        ensures begun { IfReady result
-            (λ _. (is_some self.old.request || is_some self.old.refusal) ≡ true) }
-        ensures ended { IfReady result (λ _. IsNone self.new.request × IsNone self.new.refusal) }
-        ensures waits { OnPending result (is_some self.new.request ≡ is_some self.old.request) }
-        ensures told { OnPending result (IsNone self.old.refusal) }
-        ensures handle { self.new.handle.now ≡ self.old.handle.now }
-        ensures armed { OnPending result (IsArmed cx.new) }
-        ensures heard { OnPending result (Hears cx.new (S.source_of self.old.handle.now)) }
-        ensures kept { Keeps cx.old cx.new }
-    {
-        if let Some(refusal) = self.refusal.take() {
-            return Poll::Ready(Q::refuse(refusal));
-        }
-        poll_request(
-            &mut self.request,
-            self.handle.shared(),
-            &mut self.listener,
-            cx,
-        )
+        mem::swap(&mut self.registration, registration);
     }
 
     // Gives up a request that has not ended.
     #[cold]
     #[inline(never)]
-    fn give_up(self) {
+    fn give_up(self)
+        requires { IsAsking self.stage }
+    {
         let Self {
             handle,
+            mut stage,
             request,
-            refusal: _,
-            listener: _,
+            registration: _,
         } = self;
-        if let Some(request) = request {
-            request.cancel(handle.shared());
-        }
+        request.cancel(stage.end(), handle.shared());
     }
 }
 
-impl<'a, Q: Request<S>, S: Counted + Drop> Future for RequestRef<'a, Q, S> {
+impl<'a, Q: Request> Future for Borrowed<'a, Q> {
     type Output = Q::Output;
 
-    ghost needs = { λ future s. s ≡ S.source_of future.handle.now };
+    ghost use Rattle.std.specs.Prelude.{IsSomeAnd};
+
+    ghost needs = { λ future s. IsSomeAnd future.shared (λ shared. s ≡ Q.Shared.source_of shared) };
 
     // One that has ended gives nothing more.
-    ghost gives = { λ future. BorrowingGives Q.gives Q.refuses future.request future.refusal };
+    ghost gives = { λ future. Gives Q.gives Q.refuses future.stage future.request };
 
-    fn poll(&mut self, cx: &mut Context<'_>) -> Poll<Q::Output> {
-        self.advance(cx)
+    #[inline(always)]
+    fn poll(&mut self, cx: &mut Context<'_>) -> Poll<Q::Output>
+        ensures value { IfReady result (Gives Q.gives Q.refuses self.old.stage self.old.request) }
+        ensures again { OnPending result ⊤ }
+        ensures same { OnPending result ((x : _) →
+            Gives Q.gives Q.refuses self.new.stage self.new.request x
+            → Gives Q.gives Q.refuses self.old.stage self.old.request x) }
+        ensures registered { OnPending result (Covers cx.new
+            (λ s. IsSomeAnd self.new.shared (λ shared. s ≡ Q.Shared.source_of shared))) }
+        ensures kept { Keeps cx.old cx.new }
+        ensures shared { self.new.shared ≡ self.old.shared }
+        ensures turns { Turns self.old.stage result self.new.stage }
+        ensures polls { PollsAsked Q.polls self.old.shared self.old.stage self.old.request
+            result self.new.request }
+    {
+        poll_stage(
+            &mut self.stage,
+            &mut self.request,
+            self.handle.shared(),
+            &mut self.registration,
+            cx,
+        )
     }
 }
 
-impl<'a, Q: Request<S>, S: Counted + Drop> Drop for RequestRef<'a, Q, S> {
+impl<'a, Q: Request> Drop for Borrowed<'a, Q> {
     fn drop(self) {
-        if self.request.is_some() {
+        if matches!(self.stage, Stage::Asking(_)) {
             self.give_up();
             return;
         }
         let Self {
             handle: _,
-            request: _,
-            refusal: _,
-            listener: _,
+            stage: _,
+            request,
+            registration: _,
         } = self;
+        request.leave();
     }
 }

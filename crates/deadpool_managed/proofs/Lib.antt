@@ -1,3 +1,4 @@
+-- The lemmas on a get: its phases, its polls, the hooks that it asks, and its first poll over a settled core.
 pub mod CoreDesk
 pub mod CorePolls
 pub mod FirstPoll

@@ -12,6 +12,7 @@ enter_serving wait Reply.Going fits = tt
 enter_serving wait Reply.Exhausted fits = tt
 enter_serving wait Reply.Closed fits = tt
 enter_serving wait Reply.Full fits = tt
+enter_serving wait Reply.Crowded fits = tt
 enter_serving wait (Reply.Waiting ticket) fits = tt
 enter_serving wait Reply.OutOfMemory fits = tt
 enter_serving wait _ fits = absurd fits
@@ -98,6 +99,7 @@ module _ {V : Type 0} where
       → Serves d None given reply d'
   entered_free d d' wait Reply.Closed None opens free h = absurd (let shut = h.0 in cc)
   entered_free d d' wait Reply.Full None opens free h = absurd (let full = h.1 in omega (arith, full, free))
+  entered_free d d' wait Reply.Crowded None opens free h = absurd (let full = h.1 in omega (arith, full, free))
   entered_free d d' wait (Reply.Waiting ticket) None opens free h = absurd (let full = h.1 in omega (arith, full, free))
   entered_free d d' wait Reply.OutOfMemory None opens free h = absurd (let full = h.1 in omega (arith, full, free))
   entered_free d d' wait reply (Some slot) opens free h = h.2

@@ -1,6 +1,6 @@
 -- The words of a get, its desk and its manager, and those of std, that the proofs cite, passed on from one place.
 pub use Rattle.deadpool_desk.specs.CoreState.{CoreState}
-pub use Rattle.deadpool_desk.specs.CoreSteps.{Makes as CoreMakes, untold_after, Queues}
+pub use Rattle.deadpool_desk.specs.CoreSteps.{Makes as CoreMakes, unnotified_after, Queues}
 pub use Rattle.deadpool_desk.specs.DeskState.{DeskState, places, next_idle, other_idle, settled}
 pub use Rattle.deadpool_desk.specs.DeskSteps.{Serves, Does}
 pub use Rattle.deadpool_desk.specs.Replies.{IsReplyTo}
@@ -9,7 +9,7 @@ pub use Rattle.deadpool_desk.specs.declared.desk.{Desk.Ghosts as DeskOf}
 pub use Rattle.deadpool_desk.specs.declared.step.{Held.Held, Reply.Reply, Step.Step}
 pub use Rattle.deadpool_managed.specs.declared.metrics.Metrics.{Metrics}
 pub use Rattle.deadpool_managed.specs.Slots.{Slot}
-pub use Rattle.deadpool_managed.specs.Bounds.{until_allowance, lacks_allowance, weight, Falls, IsNewObject}
+pub use Rattle.deadpool_managed.specs.Bounds.{until_allowance, lacks_allowance, weight, Decreases, IsNewObject}
 pub use Rattle.deadpool_managed.specs.Calls.{start, ask_hook, followed, ask_hooks}
 pub use Rattle.deadpool_managed.specs.FirstPoll.{AtOnce, FirstPoll, FirstPollEnded, FirstCreation, in_order, IsGivenUp}
 pub use Rattle.deadpool_managed.specs.FirstPoll.{EndsAt, TakesFirst, ChecksAs, CreatesAs, CreatesOne, MayPrepare}

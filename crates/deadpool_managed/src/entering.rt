@@ -74,6 +74,7 @@ impl<M: Manager, A: AsyncHook<M>> Work<M, A> {
             Reply::Exhausted => self.end(PoolError::NumbersExhausted),
             Reply::Closed | Reply::Unknown => self.end(PoolError::Closed),
             Reply::Full | Reply::Expired => self.end(PoolError::Timeout(TimeoutType::Wait)),
+            Reply::Crowded => self.end(PoolError::Crowded),
             Reply::OutOfMemory => self.end(PoolError::OutOfMemory),
             _ => unreachable!(),
         }

@@ -3,7 +3,7 @@
 //! Each advance makes at most one step at the desk. The get asks the manager and the hooks itself, between the steps.
 ghost use Rattle.std.specs.Prelude.{◌≡◌};
 ghost use Rattle.futures.specs.Task.{Keeps};
-ghost use Rattle.deadpool_managed.specs.Bounds.{Falls};
+ghost use Rattle.deadpool_managed.specs.Bounds.{Decreases};
 ghost use Rattle.deadpool_managed.specs.Outside.{may};
 ghost use Rattle.deadpool_managed.specs.Get.{IfReadyObject, deadline_of};
 ghost use Rattle.deadpool_managed.specs.Held.{is_going, held_at, held_after};
@@ -96,7 +96,7 @@ impl<M: Manager, A: AsyncHook<M>> GetState<M, A> {
             (lent M.Manager F.SyncHook A.AsyncHook environment.now now self.old.timeouts)
             desk.old self.old.stage desk.new self.new.stage result }
         ensures timeouts { self.new.timeouts ≡ self.old.timeouts }
-        ensures falls { result ≡ Turn.More → Falls self.old.stage self.new.stage }
+        ensures falls { result ≡ Turn.More → Decreases self.old.stage self.new.stage }
         ensures ready { IfReadyObject M.is_ready result }
         ensures kept { Keeps cx.old cx.new }
         ensures holds { D.holds desk.new (held_after self.new.stage result) }

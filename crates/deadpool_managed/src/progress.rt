@@ -1,7 +1,7 @@
 //! A get that is told its timeouts at each poll.
 ghost use Rattle.std.specs.Prelude.{◌≡◌, None};
 ghost use Rattle.futures.specs.Task.{Keeps};
-ghost use Rattle.deadpool_managed.specs.Bounds.{Falls};
+ghost use Rattle.deadpool_managed.specs.Bounds.{Decreases};
 ghost use Rattle.deadpool_managed.specs.Outside.{may};
 ghost use Rattle.deadpool_managed.specs.Get.{IfReadyObject, deadline_of};
 ghost use Rattle.deadpool_managed.specs.Held.{is_going, held_at, held_after};
@@ -79,7 +79,7 @@ impl<M: Manager, A: AsyncHook<M>> Progress<M, A> {
             desk.old (stage_of self.old.phase self.old.slot)
             desk.new (stage_of self.new.phase self.new.slot) result }
         ensures falls { result ≡ Turn.More
-            → Falls (stage_of self.old.phase self.old.slot)
+            → Decreases (stage_of self.old.phase self.old.slot)
             (stage_of self.new.phase self.new.slot) }
         ensures ready { IfReadyObject M.is_ready result }
         ensures kept { Keeps cx.old cx.new }

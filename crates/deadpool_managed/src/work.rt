@@ -3,7 +3,7 @@
 //! The object stays in one place until it is given out. What is rare stands in functions of its own.
 ghost use Rattle.std.specs.Prelude.{◌≡◌, true, false, None};
 ghost use Rattle.futures.specs.Task.{Keeps};
-ghost use Rattle.deadpool_managed.specs.Bounds.{lacks_allowance, Falls};
+ghost use Rattle.deadpool_managed.specs.Bounds.{lacks_allowance, Decreases};
 ghost use Rattle.deadpool_managed.specs.Outside.{may};
 ghost use Rattle.deadpool_managed.specs.Held.{is_going, held_at};
 ghost use Rattle.deadpool_managed.specs.Kinds.{kind_of};
@@ -78,7 +78,7 @@ impl<M: Manager, A: AsyncHook<M>> Work<M, A> {
         ensures advanced { AdvancesAt D.Desk
             (lent M.Manager F.SyncHook A.AsyncHook environment.now now timeouts.now)
             desk.old (stage_at self.old) desk.new (stage_at self.new) (turn_at result self.new) }
-        ensures falls { result ≡ Came.More → Falls (stage_at self.old) (stage_at self.new) }
+        ensures falls { result ≡ Came.More → Decreases (stage_at self.old) (stage_at self.new) }
         ensures leaves { Leaves D.Desk M.is_ready desk.new result self.new }
         ensures kept { Keeps cx.old cx.new }
     {
@@ -147,7 +147,7 @@ impl<M: Manager, A: AsyncHook<M>> Work<M, A> {
         ensures advanced { AdvancesAt D.Desk
             (lent M.Manager F.SyncHook A.AsyncHook environment.now now timeouts.now)
             desk.old (stage_at self.old) desk.new (stage_at self.new) (turn_at result self.new) }
-        ensures falls { result ≡ Came.More → Falls (stage_at self.old) (stage_at self.new) }
+        ensures falls { result ≡ Came.More → Decreases (stage_at self.old) (stage_at self.new) }
         ensures leaves { Leaves D.Desk M.is_ready desk.new result self.new }
         ensures kept { Keeps cx.old cx.new }
     {
@@ -172,7 +172,7 @@ impl<M: Manager, A: AsyncHook<M>> Work<M, A> {
         ensures advanced { AdvancesAt D.Desk
             (lent M.Manager F.SyncHook A.AsyncHook environment.now now timeouts.now)
             desk.old (stage_at self.old) desk.new (stage_at self.new) (turn_at result self.new) }
-        ensures falls { result ≡ Came.More → Falls (stage_at self.old) (stage_at self.new) }
+        ensures falls { result ≡ Came.More → Decreases (stage_at self.old) (stage_at self.new) }
         ensures leaves { Leaves D.Desk M.is_ready desk.new result self.new }
         ensures kept { Keeps cx.old cx.new }
     {
@@ -200,7 +200,7 @@ impl<M: Manager, A: AsyncHook<M>> Work<M, A> {
         ensures advanced { AdvancesAt D.Desk
             (lent M.Manager F.SyncHook A.AsyncHook environment.now now timeouts.now)
             desk.old (stage_at self.old) desk.new (stage_at self.new) (turn_at result self.new) }
-        ensures falls { result ≡ Came.More → Falls (stage_at self.old) (stage_at self.new) }
+        ensures falls { result ≡ Came.More → Decreases (stage_at self.old) (stage_at self.new) }
         ensures leaves { Leaves D.Desk M.is_ready desk.new result self.new }
         ensures kept { Keeps cx.old cx.new }
     {

@@ -1,3 +1,4 @@
+-- The lemmas on small parts: tables by number, programs of calls, a configuration that reads back.
 pub mod Numbered
 pub mod NumberedCounts
 pub mod Places

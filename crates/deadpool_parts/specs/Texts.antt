@@ -1,6 +1,10 @@
 -- What `{}` writes for each error. `output` gives the text of the cause that a program brings, if it is known.
 use Rattle.std.specs.Prelude.{ℕ, List, ◌++◌, Option, Some, option_map, codes}
 use Rattle.std.specs.Cow.{cow_str_bytes}
+use Rattle.std.specs.Fmt.{decimal}
+use Rattle.std.specs.declared.io.ErrorKind.{ErrorKind}
+use Rattle.std.specs.declared.io.ErrorKind.TheVariants as kind
+use Rattle.deadpool_parts.specs.declared.status.Status.{Status}
 use Rattle.deadpool_parts.specs.declared.errors.BuildError.{BuildError}
 use Rattle.deadpool_parts.specs.declared.errors.BuildError.TheVariants as build
 use Rattle.deadpool_parts.specs.declared.errors.ConfigError.{ConfigError}
@@ -24,6 +28,17 @@ abbrev pub build_error_text : BuildError → List ℕ
 build_error_text build.NoRuntimeSpecified = codes "Error occurred while building the pool: Timeouts require a runtime"
 build_error_text build.OutOfMemory = codes "Error occurred while building the pool: Out of memory"
 
+-- which error of reading and writing it is
+abbrev pub build_error_kind : BuildError → ErrorKind
+build_error_kind build.NoRuntimeSpecified = kind.InvalidInput
+build_error_kind build.OutOfMemory = kind.OutOfMemory
+
+-- how a pool stands
+abbrev pub status_text : Status → List ℕ
+status_text s =
+    codes "max_size " ++ decimal s.max_size ++ codes ", size " ++ decimal s.size
+    ++ codes ", available " ++ decimal s.available ++ codes ", waiting " ++ decimal s.waiting
+
 abbrev pub timeout_text : TimeoutType → List ℕ
 timeout_text phase.Wait = codes "Timeout occurred while waiting for a slot to become available"
 timeout_text phase.Create = codes "Timeout occurred while creating a new object"
@@ -36,6 +51,7 @@ config_error_text config.BadNumber = codes "max_size is not a whole number in ra
 config_error_text config.BadDuration = codes "A timeout is not a duration"
 config_error_text config.BadQueueMode = codes "queue_mode is not Fifo or Lifo"
 config_error_text config.BadMinIdle = codes "min_idle is not a whole number in range"
+config_error_text config.BadMaxWaiting = codes "max_waiting is not a whole number in range"
 config_error_text config.OutOfMemory = codes "Out of memory"
 
 module _ {E : Type 0} where
@@ -59,6 +75,7 @@ module _ {E : Type 0} where
   pool_error_text output (pool.PostCreateHook cause) =
       before_cause (codes "`post_create` hook failed: ")
       (option_map (λ c. c ++ codes "\n") (hook_error_text output cause))
+  pool_error_text output pool.Crowded = Some (codes "Too many gets wait for a slot")
   pool_error_text output pool.OutOfMemory = Some (codes "Out of memory")
   pool_error_text output pool.NumbersExhausted = Some (codes "Object numbers are exhausted")
 

@@ -1,5 +1,5 @@
 //! How a pool is configured.
-ghost use Rattle.std.specs.Prelude.{◌≡◌, ◌*◌, min, IsSomeAnd};
+ghost use Rattle.std.specs.Prelude.{◌≡◌, ◌*◌, min, None, IsSomeAnd};
 ghost use Rattle.std.specs.Duration.{as_nanos};
 ghost use Rattle.deadpool_parts.specs.Timeouts.{no_timeouts};
 
@@ -58,6 +58,8 @@ pub struct PoolConfig {
     /// How many objects a shrink and a retain leave idle, if as many are. It may be above
     /// `max_size`.
     pub min_idle: usize,
+    /// How many gets may wait for a place. One more is refused at once. None is no bound.
+    pub max_waiting: Option<usize>,
 }
 
 impl PoolConfig {
@@ -66,13 +68,15 @@ impl PoolConfig {
         ensures size { result.max_size ≡ max_size }
         ensures timeouts { result.timeouts ≡ no_timeouts }
         ensures mode { result.queue_mode ≡ QueueMode.Fifo }
-        ensures floor { result.min_idle ≡ 0 }
+        ensures min_idle { result.min_idle ≡ 0 }
+        ensures bound { result.max_waiting ≡ None }
     {
         PoolConfig {
             max_size,
             timeouts: Timeouts::new(),
             queue_mode: QueueMode::default(),
             min_idle: 0,
+            max_waiting: None,
         }
     }
 
@@ -81,7 +85,8 @@ impl PoolConfig {
         ensures size { result.max_size ≡ min (2 * count) usize.MAX }
         ensures timeouts { result.timeouts ≡ no_timeouts }
         ensures mode { result.queue_mode ≡ QueueMode.Fifo }
-        ensures floor { result.min_idle ≡ 0 }
+        ensures min_idle { result.min_idle ≡ 0 }
+        ensures bound { result.max_waiting ≡ None }
     {
         PoolConfig::new(count.saturating_mul(2))
     }

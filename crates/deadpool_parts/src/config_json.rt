@@ -1,15 +1,16 @@
 //! Configurations in JSON.
 //!
-//! A configuration is an object with `max_size` and, if wanted, `timeouts`, `queue_mode` and
-//! `min_idle`. In `timeouts`, an object too, `wait`, `create` and `recycle` are each missing, null
-//! or a duration: an object with `secs` and `nanos` and nothing else. Elsewhere keys of other names
-//! are ignored.
+//! A configuration is an object with `max_size` and, if wanted, `timeouts`, `queue_mode`,
+//! `min_idle` and `max_waiting`, which may be null. In `timeouts`, an object too, `wait`, `create`
+//! and `recycle` are each missing, null or a duration: an object with `secs` and `nanos` and nothing
+//! else. Elsewhere keys of other names are ignored.
 ghost use Rattle.std.specs.Prelude.{◌≡◌, codes, Some, None, option_map, IfOk, IsOkUnless};
 ghost use Rattle.std.specs.Duration.{as_nanos};
 ghost use Rattle.serde_json.specs.Find.{get};
 ghost use Rattle.serde_json.specs.View.{view};
 ghost use Rattle.deadpool_parts.specs.PoolConfig.{ReadsWritten, mode_name, read_config, read_max_size, read_min_idle};
-ghost use Rattle.deadpool_parts.specs.PoolConfig.{read_queue_mode, settings_of, written_config};
+ghost use Rattle.deadpool_parts.specs.PoolConfig.{read_max_waiting, read_queue_mode, settings_of};
+ghost use Rattle.deadpool_parts.specs.PoolConfig.{written_around, written_config};
 ghost use Rattle.deadpool_parts.specs.Result.{result_map};
 ghost use Rattle.deadpool_parts.specs.Timeouts.{durations_of, number_at, read_duration, read_timeouts, read_timeout};
 ghost use Rattle.deadpool_parts.specs.Timeouts.{written_timeouts, written_timeout};
@@ -24,7 +25,8 @@ const NANOS_PER_SEC: u32 = 1_000_000_000;
 
 impl PoolConfig {
     /// The configuration that a value is, or the first fault in it: in `max_size`, in `timeouts`
-    /// with its wait, its creation and its recycling, in `queue_mode`, and last in `min_idle`.
+    /// with its wait, its creation and its recycling, in `queue_mode`, in `min_idle`, and last in
+    /// `max_waiting`.
     pub fn from_json(value: &Value) -> Result<Self, ConfigError>
         ensures { result_map settings_of result ≡ read_config (view value.now) }
     {
@@ -32,15 +34,18 @@ impl PoolConfig {
         let timeouts = timeouts_of(value)?;
         let queue_mode = queue_mode_of(value)?;
         let min_idle = min_idle_of(value)?;
+        let max_waiting = max_waiting_of(value)?;
         Ok(PoolConfig {
             max_size,
             timeouts,
             queue_mode,
             min_idle,
+            max_waiting,
         })
     }
 
-    /// The configuration with every key, null for a timeout that is not set.
+    /// The configuration with every key, null for a timeout that is not set, and `max_waiting` only
+    /// if it is set.
     #[tactic(auto, using(crate::proofs::ReadsBack::reads_written))]
     pub fn to_json(&self, alloc: Global) -> Result<Value, ConfigError>
         ensures written { IfOk result (λ v. view v ≡ written_config (settings_of self.now)) }
@@ -121,6 +126,21 @@ fn min_idle_of(value: &Value) -> Result<usize, ConfigError>
     usize::try_from(min_idle).map_err(|_| ConfigError::BadMinIdle)
 }
 
+/// How many may wait, by the object that a configuration is: no bound if the key is missing or null.
+pub fn max_waiting_of(value: &Value) -> Result<Option<usize>, ConfigError>
+    ensures { result ≡ read_max_waiting (get (codes "max_waiting") (view value.now)) }
+{
+    let Some(max_waiting) = value.get("max_waiting") else {
+        return Ok(None);
+    };
+    if max_waiting.is_null() {
+        return Ok(None);
+    }
+    let max_waiting = max_waiting.as_u64().ok_or(ConfigError::BadMaxWaiting)?;
+    let max_waiting = usize::try_from(max_waiting).map_err(|_| ConfigError::BadMaxWaiting)?;
+    Ok(Some(max_waiting))
+}
+
 /// The timeout at a key of an object: not set if the key is missing or null.
 pub fn timeout_at(value: &Value, key: &str) -> Result<Option<Duration>, ConfigError>
     ensures { result_map (option_map as_nanos) result
@@ -164,15 +184,33 @@ fn written_config(alloc: Global, config: PoolConfig) -> Result<Value, AllocError
     ensures reads_back { IfOk result (λ v. read_config (view v) ≡ Ok (settings_of config)) }
 {
     let timeouts = written_timeouts(alloc, config.timeouts)?;
+    let written = written_around(alloc, config, timeouts)?;
+    Ok(written)
+}
+
+// The members of a configuration, with its timeouts as they are written.
+fn written_around(alloc: Global, config: PoolConfig, timeouts: Value) -> Result<Value, AllocError>
+    ensures { IfOk result
+        (λ v. view v ≡ written_around (settings_of config) (view timeouts)) }
+{
     let queue_mode = config.queue_mode.name();
     let max_size = config.max_size;
     let min_idle = config.min_idle;
-    json!(in alloc; {
-        "max_size": max_size,
-        "min_idle": min_idle,
-        "queue_mode": queue_mode,
-        "timeouts": timeouts
-    })
+    match config.max_waiting {
+        None => json!(in alloc; {
+            "max_size": max_size,
+            "min_idle": min_idle,
+            "queue_mode": queue_mode,
+            "timeouts": timeouts
+        }),
+        Some(max_waiting) => json!(in alloc; {
+            "max_size": max_size,
+            "max_waiting": max_waiting,
+            "min_idle": min_idle,
+            "queue_mode": queue_mode,
+            "timeouts": timeouts
+        }),
+    }
 }
 
 fn written_timeouts(alloc: Global, timeouts: Timeouts) -> Result<Value, AllocError>

@@ -1,7 +1,7 @@
 //! Why a call was refused. Each error's text is the `output` of its `Display`.
 use std::alloc::AllocError;
 use std::borrow::CowStr;
-use std::fmt;
+use std::{fmt, io};
 
 /// Why a pool was not made.
 #[derive(Clone, Copy, Debug, PartialEq, Eq)]
@@ -12,6 +12,23 @@ pub enum BuildError {
     OutOfMemory,
 }
 
+impl BuildError {
+    ghost use Rattle.std.specs.Prelude.{◌≡◌};
+    ghost use Rattle.deadpool_parts.specs.Texts.{build_error_text};
+
+    // What its `Display` writes.
+    fn text(self) -> &'static str
+        ensures { result.now ≡ build_error_text self }
+    {
+        match self {
+            BuildError::NoRuntimeSpecified => {
+                "Error occurred while building the pool: Timeouts require a runtime"
+            }
+            BuildError::OutOfMemory => "Error occurred while building the pool: Out of memory",
+        }
+    }
+}
+
 impl fmt::Display for BuildError {
     ghost use Rattle.std.specs.Prelude.{Some};
     ghost use Rattle.deadpool_parts.specs.Texts.{build_error_text};
@@ -19,14 +36,24 @@ impl fmt::Display for BuildError {
     ghost output = { λ error. Some (build_error_text error) };
 
     fn fmt<W: fmt::Write>(&self, f: &mut fmt::Formatter<W>) -> fmt::Result {
-        match self {
-            BuildError::NoRuntimeSpecified => f.write_str(
-                "Error occurred while building the pool: Timeouts require a runtime",
-            ),
-            BuildError::OutOfMemory => {
-                f.write_str("Error occurred while building the pool: Out of memory")
-            }
-        }
+        f.write_str(self.text())
+    }
+}
+
+/// An error of the input, or of memory, with the same text.
+impl From<BuildError> for io::Error {
+    ghost use Rattle.std.specs.Prelude.{◌≡◌};
+    ghost use Rattle.std.specs.IoError.{error_kind};
+    ghost use Rattle.deadpool_parts.specs.Texts.{build_error_kind};
+
+    ghost from_gives = { λ error given. error_kind given ≡ build_error_kind error };
+
+    fn from(error: BuildError) -> io::Error {
+        let kind = match error {
+            BuildError::NoRuntimeSpecified => io::ErrorKind::InvalidInput,
+            BuildError::OutOfMemory => io::ErrorKind::OutOfMemory,
+        };
+        io::Error::new(kind, error.text())
     }
 }
 
@@ -154,6 +181,8 @@ pub enum PoolError<E> {
     NoRuntimeSpecified,
     /// A hook refused the new object.
     PostCreateHook(HookError<E>),
+    /// No place was free, and as many gets waited as may.
+    Crowded,
     /// The get's entry in the queue found no memory, or the handle that a future of a shared pool counts as.
     OutOfMemory,
     /// No object number is left.
@@ -183,6 +212,7 @@ impl<E: fmt::Display> fmt::Display for PoolError<E> {
             PoolError::Closed => f.write_str("Pool has been closed"),
             PoolError::NoRuntimeSpecified => f.write_str("No runtime specified"),
             PoolError::PostCreateHook(cause) => writeln!(f, "`post_create` hook failed: {cause}"),
+            PoolError::Crowded => f.write_str("Too many gets wait for a slot"),
             PoolError::OutOfMemory => f.write_str("Out of memory"),
             PoolError::NumbersExhausted => f.write_str("Object numbers are exhausted"),
         }
@@ -215,6 +245,8 @@ pub enum ConfigError {
     BadQueueMode,
     /// `min_idle` is not a whole number, or does not fit a `usize`.
     BadMinIdle,
+    /// `max_waiting` is neither null nor a whole number that fits a `usize`.
+    BadMaxWaiting,
     /// The value found no memory. Reading never gives this.
     OutOfMemory,
 }
@@ -233,6 +265,9 @@ impl fmt::Display for ConfigError {
             ConfigError::BadDuration => f.write_str("A timeout is not a duration"),
             ConfigError::BadQueueMode => f.write_str("queue_mode is not Fifo or Lifo"),
             ConfigError::BadMinIdle => f.write_str("min_idle is not a whole number in range"),
+            ConfigError::BadMaxWaiting => {
+                f.write_str("max_waiting is not a whole number in range")
+            }
             ConfigError::OutOfMemory => f.write_str("Out of memory"),
         }
     }

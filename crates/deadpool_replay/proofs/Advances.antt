@@ -8,9 +8,10 @@ use Rattle.deadpool_replay.proofs.Words.{DeskState, settled, Does, Getting, May,
 use Rattle.deadpool_replay.proofs.Words.{with_value, Made, no_step, making, Makes, AfterCreation, AfterPrepared}
 use Rattle.deadpool_replay.proofs.Words.{AfterChecked, AdvancesCreation, ended_by, Pool, fail, rest, go_on, with_slot}
 use Rattle.deadpool_replay.proofs.Words.{slot_number, created, reviewed, checked, hand_out, advance_at, party_of}
-use Rattle.deadpool_replay.proofs.Words.{standing_of, IsCounted, has_ticket, queue_of, given, reply_to, Slot, Position}
+use Rattle.deadpool_replay.proofs.Words.{standing_of, TrialInvariant, has_ticket, queue_of}
+use Rattle.deadpool_replay.proofs.Words.{given, reply_to, Slot, Position}
 use Rattle.deadpool_replay.proofs.Words.{Verdict, Preparation, Prepared, Stage, Turn, Step, DeskReply, Reply, core_desk}
-use Rattle.deadpool_replay.proofs.Words.{Fixed, image, get_at, party_at}
+use Rattle.deadpool_replay.proofs.Words.{Setup, image, get_at, party_at}
 use Rattle.futures.specs.declared.task.Poll.TheVariants as poll
 use Rattle.deadpool_parts.specs.declared.errors.TimeoutType.TheVariants as phase
 use Rattle.deadpool_managed.specs.declared.calls.Verdict.TheVariants as verdict
@@ -18,49 +19,49 @@ use Rattle.deadpool_managed.specs.Stages as stage
 use Rattle.deadpool_managed.specs.declared.get.Turn.TheVariants as turn
 use Rattle.deadpool_replay.specs.declared.moves.Reply.TheVariants as reply
 use Rattle.deadpool_replay.proofs.DeskImage.{NoTicket, is_done, owned-same, goes, creates, prepares, lasts, Shifts, put}
-use Rattle.deadpool_replay.proofs.DeskImage.{put_off, IsCounted-set, put-image, put_off-image, Gives-same}
+use Rattle.deadpool_replay.proofs.DeskImage.{put_off, TrialInvariant-set, put-image, put_off-image, Gives-same}
 use Rattle.deadpool_replay.proofs.DeskImage.{holds_creation, holds_object, ends_free}
 
-module _ {M V E C R S F A : Type 0} (may : May V E C R S F A) (fixed : Fixed M F A V E C R S) (n : ℕ) (now : Moment)
+module _ {M V E C R S F A : Type 0} (may : May V E C R S F A) (setup : Setup M F A V E C R S) (n : ℕ) (now : Moment)
     (core core' : DeskState (Slot V)) (gets : List (Option (Getting V C R S))) (out : List (Slot V)) (own : Timeouts)
-    (k : IsCounted core gets out) where
+    (k : TrialInvariant core gets out) where
   abbrev pool : Pool V C R S F A
-  pool = image fixed core gets out
+  pool = image setup core gets out
 
   -- the pool and the counts after an advance
   abbrev Pairs : DeskState (Slot V) → Stage V C R S → Turn V E → Reply V E × Pool V C R S F A → Type 0
   Pairs d s t x =
-      (x ≡ (reply_to t, image fixed d (set gets n (get_at own s)) (given t out)))
-      × IsCounted d (set gets n (get_at own s)) (given t out)
+      (x ≡ (reply_to t, image setup d (set gets n (get_at own s)) (given t out)))
+      × TrialInvariant d (set gets n (get_at own s)) (given t out)
 
   -- what is to be shown of an advance from one stage to another
   abbrev Goal : Stage V C R S → DeskState (Slot V) → Stage V C R S → Turn V E → Type 0
   Goal old d s t =
       Gives may (advance_at (standing_of old) n (party_at own old) now pool) (
         reply_to t,
-        image fixed d (set gets n (get_at own s)) (given t out),
+        image setup d (set gets n (get_at own s)) (given t out),
       )
-      × IsCounted d (set gets n (get_at own s)) (given t out)
+      × TrialInvariant d (set gets n (get_at own s)) (given t out)
 
   module _ (old : Stage V C R S) (h : slice_get gets n ≡ Some (get_at own old)) (none : NoTicket (get_at own old)) where
     -- another stage, with the counts that it makes
     moves_on : (d : DeskState (Slot V)) (s : Stage V C R S) (out' : List (Slot V)) → d.granted ≡ core.granted
         → d.waiting ≡ core.waiting → NoTicket (get_at own s)
-        → Shifts core d (get_at own old) (get_at own s) out out' → IsCounted d (set gets n (get_at own s)) out'
+        → Shifts core d (get_at own old) (get_at own s) out out' → TrialInvariant d (set gets n (get_at own s)) out'
     moves_on d s out' e f no_new shifts =
-        IsCounted-set core d gets n (get_at own old) (get_at own s) out out' h k
+        TrialInvariant-set core d gets n (get_at own old) (get_at own s) out out' h k
         (owned-same core d (set gets n (get_at own s))
         (owned-set has_ticket (queue_of core) gets k.tickets n (get_at own old) (get_at own s) h none no_new) e f)
         shifts
 
     put_as : (s : Stage V C R S) → NoTicket (get_at own s)
-        → put n (party_of (get_at own s)) pool ≡ image fixed core (set gets n (get_at own s)) out
-    put_as s no_new = put-image fixed core gets out k.tickets n (get_at own old) (get_at own s) h none no_new
+        → put n (party_of (get_at own s)) pool ≡ image setup core (set gets n (get_at own s)) out
+    put_as s no_new = put-image setup core gets out k.tickets n (get_at own old) (get_at own s) h none no_new
 
     -- and is in no queue
     put_off_as : (s : Stage V C R S) → NoTicket (get_at own s)
-        → put_off n (party_of (get_at own s)) pool ≡ image fixed core (set gets n (get_at own s)) out
-    put_off_as s no_new = put_off-image fixed core gets out k.tickets n (get_at own old) (get_at own s) h none no_new
+        → put_off n (party_of (get_at own s)) pool ≡ image setup core (set gets n (get_at own s)) out
+    put_off_as s no_new = put_off-image setup core gets out k.tickets n (get_at own old) (get_at own s) h none no_new
 
   module _ (begun : Option C) (until : Option Moment)
       (h : slice_get gets n ≡ Some (get_at own (stage.Creating begun until))) where
@@ -80,7 +81,7 @@ module _ {M V E C R S F A : Type 0} (may : May V E C R S F A) (fixed : Fixed M F
         → Pairs core' s t (fail n (party_at own creator) cause pool)
     creation_failed cause r s t e is_s is_t =
         let done = is_done core core' (settled without_creation) core.creations r one_creation e in
-        let all = ends_free fixed core gets out n (get_at own stage.Finished) without_creation
+        let all = ends_free setup core gets out n (get_at own stage.Finished) without_creation
         (put_off_as creator h (λ u. refl) stage.Finished (λ u. refl))
         (moves_on creator h (λ u. refl) without_creation stage.Finished out refl refl (λ u. refl)
         record {
@@ -154,8 +155,8 @@ module _ {M V E C R S F A : Type 0} (may : May V E C R S F A) (fixed : Fixed M F
       → AfterCreation now deadline x made s t
       → Gives may
       (create begun >>= λ y. Return (created n (party_at own (stage.Creating begun until)) now deadline pool y))
-      (reply_to t, image fixed core' (set gets n (get_at own s)) (given t out))
-      × IsCounted core' (set gets n (get_at own s)) (given t out)
+      (reply_to t, image setup core' (set gets n (get_at own s)) (given t out))
+      × TrialInvariant core' (set gets n (get_at own s)) (given t out)
   creation_made begun until deadline made s t h e x g a =
       let all = creation_answered begun until h deadline x made s t e a in (
         Gives-bind may (create begun)
@@ -166,24 +167,24 @@ module _ {M V E C R S F A : Type 0} (may : May V E C R S F A) (fixed : Fixed M F
   -- a creation that was not begun, if something serves its timeout, or it has none
   creation_begins : (until : Option Moment) (made : Made V) (s : Stage V C R S) (t : Turn V E)
       → slice_get gets n ≡ Some (get_at own (stage.Creating None until))
-      → Makes core_desk core made core' → lacks_runtime fixed.environment.runtime own.create ≡ false
+      → Makes core_desk core made core' → lacks_runtime setup.environment.runtime own.create ≡ false
       → (x : Poll (Result V E) × C) → Gives may (create None) x
       → AfterCreation now (deadline_after now own.create) x made s t → Goal (stage.Creating None until) core' s t
   creation_begins until made s t h e runs x g a =
       let all = creation_made None until (deadline_after now own.create) made s t h e x g a in
-      (Gives-same may _ _ _ (cond-false (lacks_runtime fixed.environment.runtime own.create) _ _ runs) all.0, all.1)
+      (Gives-same may _ _ _ (cond-false (lacks_runtime setup.environment.runtime own.create) _ _ runs) all.0, all.1)
 
   -- a get with a creation under way
   pub from_creating : (begun : Option C) (until : Option Moment) (made : Made V) (s : Stage V C R S) (t : Turn V E)
       → slice_get gets n ≡ Some (get_at own (stage.Creating begun until))
       → Makes core_desk core made core'
-      → AdvancesCreation may fixed.environment.runtime now own.create begun until made s t
+      → AdvancesCreation may setup.environment.runtime now own.create begun until made s t
       → Goal (stage.Creating begun until) core' s t
   from_creating (Some c) until made s t h e a = creation_made (Some c) until until made s t h e a.0 a.1.0 a.1.1
   from_creating None until made s t h e (inl a) =
       let e' = rw a.1.1 at e in
       let all = creation_failed None until h NoRuntimeSpecified a.0 s t e'.1 a.1.2 a.1.3 in
-      (Gives-same may _ _ _ (cond-true (lacks_runtime fixed.environment.runtime own.create) _ _ a.1.0) all.0, all.1)
+      (Gives-same may _ _ _ (cond-true (lacks_runtime setup.environment.runtime own.create) _ _ a.1.0) all.0, all.1)
   from_creating None until made s t h e (inr a) = creation_begins until made s t h e a.0 a.1.0 a.1.1.0 a.1.1.1
 
   module _ (old : Stage V C R S) (h : slice_get gets n ≡ Some (get_at own old)) (none : NoTicket (get_at own old))
@@ -198,7 +199,7 @@ module _ {M V E C R S F A : Type 0} (may : May V E C R S F A) (fixed : Fixed M F
         → d.waiting ≡ core.waiting → NoTicket (get_at own s)
         → d.going ≡ core.going + goes (get_at own s) → d.creations ≡ core.creations + creates (get_at own s)
         → d.outside + 1 + length out ≡ core.outside + prepares (get_at own s) + length out'
-        → length out' + lasts (get_at own s) ≤ length out + 1 → IsCounted d (set gets n (get_at own s)) out'
+        → length out' + lasts (get_at own s) ≤ length out + 1 → TrialInvariant d (set gets n (get_at own s)) out'
     object_moves d s out' e f no_new going creations outside room =
         moves_on old h none d s out' e f no_new record {
           going = omega (arith, goes_none, going);
@@ -244,7 +245,7 @@ module _ {M V E C R S F A : Type 0} (may : May V E C R S F A) (fixed : Fixed M F
         (fail n (party_at own old) cause pool)
     object_refused cause =
         let left : DeskState (Slot V) = record core { outside = core.outside - 1 } in
-        let all = ends_free fixed core gets out n (get_at own stage.Finished) left
+        let all = ends_free setup core gets out n (get_at own stage.Finished) left
         (put_off_as old h none stage.Finished (λ u. refl))
         (object_moves left stage.Finished out refl refl (λ u. refl) (omega arith) (omega arith)
         (omega (arith, one_object)) (omega arith)) in
@@ -256,8 +257,8 @@ module _ {M V E C R S F A : Type 0} (may : May V E C R S F A) (fixed : Fixed M F
       → slice_get gets n ≡ Some (get_at own (stage.Recycling preparation allowance)) → Makes core_desk core made core'
       → AfterPrepared may allowance x made s t
       → Gives may (reviewed n (party_at own (stage.Recycling preparation allowance)) allowance pool x)
-      (reply_to t, image fixed core' (set gets n (get_at own s)) (given t out))
-      × IsCounted core' (set gets n (get_at own s)) (given t out)
+      (reply_to t, image setup core' (set gets n (get_at own s)) (given t out))
+      × TrialInvariant core' (set gets n (get_at own s)) (given t out)
   prepared_answered preparation allowance (Prepared.Accepted slot) no_step s t h e a =
       rw (a.0, a.1, e) (object_given (stage.Recycling preparation allowance) h (λ u. refl) refl refl refl refl slot)
   prepared_answered preparation allowance (Prepared.Pending left) no_step s t h e a =
@@ -278,12 +279,12 @@ module _ {M V E C R S F A : Type 0} (may : May V E C R S F A) (fixed : Fixed M F
       (t : Turn V E)
       → slice_get gets n ≡ Some (get_at own (stage.Recycling preparation allowance)) → Makes core_desk core made core'
       → (x : Prepared V R S)
-      → Gives may (prepare now fixed.environment.runtime own.recycle fixed.environment.hooks preparation) x
+      → Gives may (prepare now setup.environment.runtime own.recycle setup.environment.hooks preparation) x
       → AfterPrepared may allowance x made s t
       → Goal (stage.Recycling preparation allowance) core' s t
   from_recycling preparation allowance made s t h e x g a =
       let all = prepared_answered preparation allowance x made s t h e a in (
-        Gives-bind may (prepare now fixed.environment.runtime own.recycle fixed.environment.hooks preparation)
+        Gives-bind may (prepare now setup.environment.runtime own.recycle setup.environment.hooks preparation)
             (reviewed n (party_at own (stage.Recycling preparation allowance)) allowance pool) x _ g all.0,
         all.1,
       )
@@ -294,8 +295,8 @@ module _ {M V E C R S F A : Type 0} (may : May V E C R S F A) (fixed : Fixed M F
       → slice_get gets n ≡ Some (get_at own (stage.Checking slot at)) → Makes core_desk core made core'
       → AfterChecked may slot x made s t
       → Gives may (checked n (party_at own (stage.Checking slot at)) slot pool x)
-      (reply_to t, image fixed core' (set gets n (get_at own s)) (given t out))
-      × IsCounted core' (set gets n (get_at own s)) (given t out)
+      (reply_to t, image setup core' (set gets n (get_at own s)) (given t out))
+      × TrialInvariant core' (set gets n (get_at own s)) (given t out)
   checked_answered slot at (verdict.Accepted, v) no_step s t h e a =
       rw (a.0, a.1, e) (object_given (stage.Checking slot at) h (λ u. refl) refl refl refl refl (with_value v slot))
   checked_answered slot at (verdict.Pending left, v) no_step s t h e a =
@@ -314,11 +315,11 @@ module _ {M V E C R S F A : Type 0} (may : May V E C R S F A) (fixed : Fixed M F
   pub from_checking : (slot : Slot V) (at : Position S) (made : Made V) (s : Stage V C R S) (t : Turn V E)
       → slice_get gets n ≡ Some (get_at own (stage.Checking slot at))
       → Makes core_desk core made core' → (x : Verdict S E × V)
-      → Gives may (post_create fixed.environment.hooks slot at) x → AfterChecked may slot x made s t
+      → Gives may (post_create setup.environment.hooks slot at) x → AfterChecked may slot x made s t
       → Goal (stage.Checking slot at) core' s t
   from_checking slot at made s t h e x g a =
       let all = checked_answered slot at x made s t h e a in (
-        Gives-bind may (post_create fixed.environment.hooks slot at)
+        Gives-bind may (post_create setup.environment.hooks slot at)
             (checked n (party_at own (stage.Checking slot at)) slot pool) x _ g all.0,
         all.1,
       )

@@ -7,7 +7,7 @@ use Rattle.deadpool_replay.proofs.Basics.{false, refl, ap, ◌∙◌, arith, inl
 use Rattle.deadpool_replay.proofs.Basics.{◌==◌, nat_le, sym, Bool, not, min, length, length-drop, nat_lt, unwrap_or}
 use Rattle.deadpool_replay.proofs.Basics.{max, take, drop, length-append, zero, suc, if◌then◌else◌, cond_both}
 use Rattle.deadpool_replay.proofs.Basics.{cases_Bool, leb-true, nat_tests, slice_get, filter}
-use Rattle.deadpool_replay.proofs.Words.{IsLawful, queue, is_queued, one_step, by_party, resize, staying, give_up}
+use Rattle.deadpool_replay.proofs.Words.{PoolInvariant, queue, is_queued, one_step, by_party, resize, staying, give_up}
 use Rattle.deadpool_replay.proofs.Words.{retain_with, retain, by_handle, started, put_at, back_at, take_at, cancel}
 use Rattle.deadpool_replay.proofs.Words.{advance, Pool, Party, size, prepared_at, is_going, is_creating, prepared_by}
 use Rattle.deadpool_replay.proofs.Words.{settle, least_idle, unpolled, reach, status_of, LeavesEnough, IsOutIfGiven}
@@ -52,7 +52,7 @@ module _ {V C R S : Type 0} where
   started_marked (x ∷ xs) new zero h = refl
   started_marked (x ∷ xs) new (suc n) h = started_marked xs new n h
 
-module _ {V C R S F A : Type 0} (p : Pool V C R S F A) (l : IsLawful p) where
+module _ {V C R S F A : Type 0} (p : Pool V C R S F A) (l : PoolInvariant p) where
   -- a step that names no party and takes no objects but these
   abbrev Steps : Bool → List (Slot V) → Pool V C R S F A → Type 0
   Steps sets leaving q = Follows (reach p) q × Passes sets None leaving p q
@@ -65,7 +65,12 @@ module _ {V C R S F A : Type 0} (p : Pool V C R S F A) (l : IsLawful p) where
       → Steps false leaving (record p { handles = handles; idle = idle; out = out })
   objects_step handles idle out leaving fewer same few enough = (
     record {
-      orderly = record { once = l.once; few_places = omega (arith, same); few_objects = omega (arith, same, fewer) };
+      orderly = record {
+        once = l.once;
+        few_places = omega (arith, same);
+        few_objects = omega (arith, same, fewer);
+        few_waiting = l.few_waiting;
+      };
       marks = l.marks;
       nobody_waits = λ opens free. l.nobody_waits opens (omega (arith, same, free));
     },
@@ -85,6 +90,7 @@ module _ {V C R S F A : Type 0} (p : Pool V C R S F A) (l : IsLawful p) where
               once = l.once;
               few_places = omega (arith, fewer);
               few_objects = omega (arith, fewer, longer);
+              few_waiting = l.few_waiting;
             } l.marks,
         settle_passes false None (numbered n p.out) p _
             (objects_pass false None p.limit p.reserve p.handles p.is_open idle (without_slot n p.out)
@@ -107,6 +113,7 @@ module _ {V C R S F A : Type 0} (p : Pool V C R S F A) (l : IsLawful p) where
           once = l.once;
           few_places = omega arith;
           few_objects = omega (arith, length-drop gone p.idle);
+          few_waiting = l.few_waiting;
         } l.marks,
         settle_passes true None (take gone p.idle) p q
             (objects_pass true None n (max p.reserve n) p.handles p.is_open (drop gone p.idle) p.out
@@ -124,6 +131,7 @@ module _ {V C R S F A : Type 0} (p : Pool V C R S F A) (l : IsLawful p) where
             once = f.orderly.once;
             few_places = f.orderly.few_places;
             few_objects = f.orderly.few_objects;
+            few_waiting = f.orderly.few_waiting;
           };
           marks = f.marks;
           nobody_waits = λ opens free. cc;
@@ -161,7 +169,7 @@ module _ {V E C R S F A : Type 0} where
       Follows (reach p) x.1 × Passes (sets_limit m) (named m) (may_leave m p) p x.1 × IsOutIfGiven m x.0 x.1
       × IsIdleIfKept m x.0 x.1 × LeavesEnough m p x.1
 
-module _ {V C R S F A : Type 0} (E : Type 0) (p : Pool V C R S F A) (l : IsLawful p) where
+module _ {V C R S F A : Type 0} (E : Type 0) (p : Pool V C R S F A) (l : PoolInvariant p) where
   -- a move that changes nothing
   unchanged : (m : Move V) (answer : Reply V E) → IsOutIfGiven m answer p → IsIdleIfKept m answer p → LeavesEnough m p p
       → Moved {E = E} p m (answer, p)
@@ -188,6 +196,7 @@ module _ {V C R S F A : Type 0} (E : Type 0) (p : Pool V C R S F A) (l : IsLawfu
             once = l.once;
             few_places = omega (arith, c0, c1, c2);
             few_objects = omega (arith, c1, c2);
+            few_waiting = l.few_waiting;
           };
           marks = λ n. l.marks n ∙ started_marked p.parties new n refl;
           nobody_waits = λ opens free. l.nobody_waits opens (omega (arith, c0, c1, c2, free));
@@ -196,7 +205,7 @@ module _ {V C R S F A : Type 0} (E : Type 0) (p : Pool V C R S F A) (l : IsLawfu
           limit = λ same. refl;
           few_idle = λ idle. idle;
           closed = λ c. c;
-          floor = refl;
+          min_idle = refl;
           first = refl;
           grows = false;
           next = omega arith;

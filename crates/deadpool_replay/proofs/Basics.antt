@@ -15,7 +15,7 @@ pub use Rattle.deadpool_parts.proofs.Programs.{Gives-bind, Always-bind, Always-G
 pub use Rattle.deadpool_parts.specs.Numbered.{count_numbered}
 pub use Rattle.deadpool_gate.specs.Numbers.{has_number, most_handles, without_number, largest_usize}
 pub use Rattle.deadpool_gate.specs.Orders.{IsOnce, KeepsOrder}
-pub use Rattle.deadpool_gate.specs.Owners.{owner, IsOwned}
+pub use Rattle.deadpool_gate.specs.Owners.{owner, TicketsMatch}
 pub use Rattle.deadpool_parts.specs.Program.{Return, ◌>>=◌, Gives, Always, Program, Ask, ask}
 pub use Rattle.deadpool_gate.specs.Queue.{Queue}
 pub use Rattle.deadpool_parts.specs.Runs.{last_of, all_states, Each, Neighbours, Later}

@@ -4,35 +4,36 @@ use Rattle.deadpool_replay.proofs.Basics.{Option, Some, None, eq-eqb, slice_get,
 use Rattle.deadpool_replay.proofs.Words.{Moment, Timeouts, DeskState, settled, is_listed, desk_unqueued as unqueued}
 use Rattle.deadpool_replay.proofs.Words.{Does, Getting, May, object_of, Made, no_step, making, Makes, CancelsFrom}
 use Rattle.deadpool_replay.proofs.Words.{GivesUp, Pool, prepared_at, removed, cancel, NobodyWaits, standing_of}
-use Rattle.deadpool_replay.proofs.Words.{has_ticket, queue_of, IsCounted, Slot, Stage, Step, DeskReply, Held, core_desk}
-use Rattle.deadpool_replay.proofs.Words.{Fixed, image, get_at}
+use Rattle.deadpool_replay.proofs.Words.{has_ticket, queue_of, TrialInvariant, Slot, Stage}
+use Rattle.deadpool_replay.proofs.Words.{Step, DeskReply, Held, core_desk}
+use Rattle.deadpool_replay.proofs.Words.{Setup, image, get_at}
 use Rattle.deadpool_managed.specs.Stages as stage
 use Rattle.deadpool_replay.specs.declared.moves.Reply.TheVariants as reply
-use Rattle.deadpool_replay.proofs.DeskImage.{NoTicket, is_done, goes, creates, prepares, Shifts, IsCounted-set}
+use Rattle.deadpool_replay.proofs.DeskImage.{NoTicket, is_done, goes, creates, prepares, Shifts, TrialInvariant-set}
 use Rattle.deadpool_replay.proofs.DeskImage.{put_off-unqueued, put_off-image, holds_place, holds_creation, holds_object}
 use Rattle.deadpool_replay.proofs.DeskImage.{ends_free, ends_empty}
 
-module _ {M V E C R S F A : Type 0} (may : May V E C R S F A) (fixed : Fixed M F A V E C R S) (n : ℕ)
+module _ {M V E C R S F A : Type 0} (may : May V E C R S F A) (setup : Setup M F A V E C R S) (n : ℕ)
     (core core' : DeskState (Slot V)) (gets : List (Option (Getting V C R S))) (out : List (Slot V)) (own : Timeouts)
-    (k : IsCounted core gets out) (nobody : NobodyWaits (image fixed core gets out)) where
+    (k : TrialInvariant core gets out) (nobody : NobodyWaits (image setup core gets out)) where
   abbrev pool : Pool V C R S F A
-  pool = image fixed core gets out
+  pool = image setup core gets out
 
   abbrev gone : List (Option (Getting V C R S))
   gone = set gets n None
 
   -- the pool without the party, and its counts
   abbrev Removes : DeskState (Slot V) → Type 0
-  Removes d = (removed n pool ≡ image fixed d gone out) × IsCounted d gone out
+  Removes d = (removed n pool ≡ image setup d gone out) × TrialInvariant d gone out
 
   -- what is to be shown of a get that is cancelled at a stage
   abbrev Goal : Stage V C R S → DeskState (Slot V) → Type 0
   Goal old d =
       Gives may (cancel n (record { timeouts = own; standing = standing_of old }) pool) (
         reply.Cancelled,
-        image fixed d gone out,
+        image setup d gone out,
       )
-      × IsCounted d gone out
+      × TrialInvariant d gone out
 
   -- a get that held a place, and is counted no more
   removes_counted : (old : Stage V C R S) (going creations outside : ℕ) → slice_get gets n ≡ Some (get_at own old)
@@ -42,9 +43,9 @@ module _ {M V E C R S F A : Type 0} (may : May V E C R S F A) (fixed : Fixed M F
       → Removes (settled (record core { going = going; creations = creations; outside = outside }))
   removes_counted old going creations outside h none shifts =
       let left : DeskState (Slot V) = record core { going = going; creations = creations; outside = outside } in
-      ends_free fixed core gets out n None left
-      (put_off-image fixed core gets out k.tickets n (get_at own old) None h none (λ u. refl))
-      (IsCounted-set core left gets n (get_at own old) None out out h k
+      ends_free setup core gets out n None left
+      (put_off-image setup core gets out k.tickets n (get_at own old) None h none (λ u. refl))
+      (TrialInvariant-set core left gets n (get_at own old) None out out h k
       (owned-set has_ticket (queue_of core) gets k.tickets n (get_at own old) None h none (λ u. refl)) shifts)
 
   module _ (ticket : ℕ) (deadline : Option Moment)
@@ -58,9 +59,9 @@ module _ {M V E C R S F A : Type 0} (may : May V E C R S F A) (fixed : Fixed M F
     removes_queued =
         let left : DeskState (Slot V) = unqueued ticket core in
         let old : Option (Getting V C R S) = get_at own (stage.Queued ticket deadline) in
-        ends_free fixed core gets out n None left
-        (put_off-unqueued fixed core gets out k.tickets n old None h ticket is_ours.1 (λ u. refl) (λ u. refl))
-        (IsCounted-set core left gets n old None out out h k
+        ends_free setup core gets out n None left
+        (put_off-unqueued setup core gets out k.tickets n old None h ticket is_ours.1 (λ u. refl) (λ u. refl))
+        (TrialInvariant-set core left gets n old None out out h k
         (owned-leaves has_ticket (queue_of core) gets k.tickets n old None h ticket is_ours.1 (λ u. refl)
         (λ u. refl))
         record { going = refl; creations = refl; outside = refl; room = omega arith })
@@ -107,12 +108,12 @@ module _ {M V E C R S F A : Type 0} (may : May V E C R S F A) (fixed : Fixed M F
       → Shifts core core (get_at own old) None out out
       → ◌≡◌ {A = Option (Slot V)} (prepared_at (standing_of old)) None → core' ≡ core → Goal old core'
   cancels_empty old h none shifts holds e =
-      let counted : IsCounted core gone out =
-      IsCounted-set core core gets n (get_at own old) None out out h k
+      let counted : TrialInvariant core gone out =
+      TrialInvariant-set core core gets n (get_at own old) None out out h k
       (owned-set has_ticket (queue_of core) gets k.tickets n (get_at own old) None h none (λ u. refl)) shifts in
       rw (e, holds) (
         ap (λ (q : Pool V C R S F A). (reply.Cancelled, q))
-            (ends_empty fixed core gets out n None k nobody (get_at own old) h none (λ u. refl) counted),
+            (ends_empty setup core gets out n None k nobody (get_at own old) h none (λ u. refl) counted),
         counted,
       )
 

@@ -17,7 +17,8 @@ pub use Rattle.deadpool_replay.proofs.TrialSteps.{out_fits, advanced, came_back,
 pub use Rattle.deadpool_replay.proofs.TrialSteps.{some_handle, polled}
 pub use Rattle.deadpool_replay.proofs.Well.{opened_well}
 pub use Rattle.deadpool_replay.proofs.Words.{Kept, move_of, party_of, find_slot, slot_number, may, image, with_put}
-pub use Rattle.deadpool_replay.proofs.Words.{ManagerOf, LeavesOrKeeps, RetainerOf, Keeping, NobodyWaits, WithinReach}
-pub use Rattle.deadpool_replay.proofs.Words.{IsWell, MakesMove, Keeps, Pool, PoolRuns, Reply, unpolled, with_slot}
+pub use Rattle.deadpool_replay.proofs.Words.{ManagerOf, LeavesOrKeeps, RetainerOf, Keeping, NobodyWaits, WaitsWithin}
+pub use Rattle.deadpool_replay.proofs.Words.{WithinReach}
+pub use Rattle.deadpool_replay.proofs.Words.{RunInvariant, MakesMove, Keeps, Pool, PoolRuns, Reply, unpolled, with_slot}
 pub use Rattle.deadpool_replay.specs.declared.moves.Move.TheVariants.{Put, Retain, Start, Take}
 pub use Rattle.deadpool_replay.specs.declared.moves.Reply.TheVariants.{Done, Started}

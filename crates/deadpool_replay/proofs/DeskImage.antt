@@ -1,6 +1,6 @@
 -- The pool that a desk, its gets and the objects out stand for: as it settles, as one get changes, ends or starts, and
 -- its counts.
-use Rattle.deadpool_replay.proofs.Basics.{cond_both, ◌≡◌, ℕ, List, ◌∷◌, [], ◌++◌, false, eqb, Option, IsOwned, ◌+◌}
+use Rattle.deadpool_replay.proofs.Basics.{cond_both, ◌≡◌, ℕ, List, ◌∷◌, [], ◌++◌, false, eqb, Option, TicketsMatch, ◌+◌}
 use Rattle.deadpool_replay.proofs.Basics.{length, map, take, drop, refl, ◌∙◌, arith, take-map, drop-map, map-append}
 use Rattle.deadpool_replay.proofs.Basics.{length-map, owner, owned-granting, ◌≤◌, cond, set, sym, ap, inl, inr, Some}
 use Rattle.deadpool_replay.proofs.Basics.{append-nil, is_some, slice_get, cases_lt, map-set, length-set, slice_get-map}
@@ -11,10 +11,11 @@ use Rattle.deadpool_replay.proofs.Basics.{held-push}
 use Rattle.deadpool_replay.proofs.Words.{may, Slot, DeskState, Getting, has_ticket, queue_of, desk_places as places}
 use Rattle.deadpool_replay.proofs.Words.{desk_grants as grants, settled, Pool, Party, is_going, is_creating}
 use Rattle.deadpool_replay.proofs.Words.{prepared_by, places as pool_places, grants as pool_grants, settle, party_of}
-use Rattle.deadpool_replay.proofs.Words.{IsCounted, is_listed, desk_unqueued as unqueued, unqueued as pool_unqueued}
+use Rattle.deadpool_replay.proofs.Words.{TrialInvariant, is_listed}
+use Rattle.deadpool_replay.proofs.Words.{desk_unqueued as unqueued, unqueued as pool_unqueued}
 use Rattle.deadpool_replay.proofs.Words.{NobodyWaits, is_under_way, Timeouts, unpolled, desk_size as size}
 use Rattle.deadpool_replay.proofs.Words.{desk_pending as pending, desk_status_of as status_of, DeskReply, DeskGivesUp}
-use Rattle.deadpool_replay.proofs.Words.{size as pool_size, pending as pool_pending, status_of as pool_status_of, Fixed}
+use Rattle.deadpool_replay.proofs.Words.{size as pool_size, pending as pool_pending, status_of as pool_status_of, Setup}
 use Rattle.deadpool_replay.proofs.Words.{image}
 use Rattle.deadpool_managed.specs.Stages as stage
 
@@ -33,7 +34,7 @@ module _ {V : Type 0} where
 module _ {V C R S : Type 0} where
   -- the tickets of a desk's queue are those of the gets, one each
   abbrev pub Owns : DeskState (Slot V) → List (Option (Getting V C R S)) → Type 0
-  Owns d gets = IsOwned has_ticket (queue_of d) gets
+  Owns d gets = TicketsMatch has_ticket (queue_of d) gets
 
   -- the get has no ticket
   abbrev pub NoTicket : Option (Getting V C R S) → Type 0
@@ -56,9 +57,9 @@ module _ {V : Type 0} where
 module _ {V C R S : Type 0} where
   -- a change of nothing that is counted
   pub same_counted : (d d' : DeskState (Slot V)) (gets : List (Option (Getting V C R S))) (out : List (Slot V))
-      → IsCounted d gets out
+      → TrialInvariant d gets out
       → d'.granted ≡ d.granted → d'.waiting ≡ d.waiting → d'.going ≡ d.going → d'.creations ≡ d.creations
-      → d'.outside ≡ d.outside → IsCounted d' gets out
+      → d'.outside ≡ d.outside → TrialInvariant d' gets out
   same_counted d d' gets out k granted waiting going creations outside =
       record {
         tickets = owned-same d d' gets k.tickets granted waiting;
@@ -70,7 +71,7 @@ module _ {V C R S : Type 0} where
 
   -- what is counted is counted after a grant
   pub counted_settled : (d : DeskState (Slot V)) (gets : List (Option (Getting V C R S))) (out : List (Slot V))
-      → IsCounted d gets out → IsCounted (settled d) gets out
+      → TrialInvariant d gets out → TrialInvariant (settled d) gets out
   counted_settled d gets out k =
       record {
         tickets = owned-granting has_ticket (queue_of d) gets k.tickets (grants d);
@@ -80,10 +81,10 @@ module _ {V C R S : Type 0} where
         room = k.room;
       }
 
-module _ {M V E C R S F A : Type 0} (fixed : Fixed M F A V E C R S) where
+module _ {M V E C R S F A : Type 0} (setup : Setup M F A V E C R S) where
   -- the pool has as many places held as the desk
   pub places-image : (d : DeskState (Slot V)) (gets : List (Option (Getting V C R S))) (out : List (Slot V))
-      → IsCounted d gets out → pool_places (image fixed d gets out) ≡ places d
+      → TrialInvariant d gets out → pool_places (image setup d gets out) ≡ places d
   places-image d gets out k =
       let l : length (map (owner has_ticket gets) d.granted) ≡ length d.granted =
       length-map d.granted (owner has_ticket gets) in
@@ -91,12 +92,12 @@ module _ {M V E C R S F A : Type 0} (fixed : Fixed M F A V E C R S) where
 
   -- if the counts agree, the image of a settled desk is the image, settled
   pub settles : (core : DeskState (Slot V)) (gets : List (Option (Getting V C R S))) (out : List (Slot V))
-      → IsCounted core gets out
-      → image fixed (settled core) gets out ≡ settle (image fixed core gets out)
+      → TrialInvariant core gets out
+      → image setup (settled core) gets out ≡ settle (image setup core gets out)
   settles core gets out k =
       let l2 : length (map (owner has_ticket gets) core.waiting) ≡ length core.waiting =
       length-map core.waiting (owner has_ticket gets) in
-      let p : Pool V C R S F A = image fixed core gets out in
+      let p : Pool V C R S F A = image setup core gets out in
       let same_places : places core ≡ pool_places p = sym (places-image core gets out k) in
       let same : grants core ≡ pool_grants p = rw (l2, ← same_places) refl in
       rw (
@@ -151,11 +152,12 @@ module _ {V C R S : Type 0} where
     pub room : length out' + lasts new ≤ length out + lasts old
 
   -- so the counts stay those of the gets
-  pub IsCounted-set : (d d' : DeskState (Slot V)) (gets : List (Option (Getting V C R S))) (n : ℕ)
+  pub TrialInvariant-set : (d d' : DeskState (Slot V)) (gets : List (Option (Getting V C R S))) (n : ℕ)
       (old new : Option (Getting V C R S)) (out out' : List (Slot V))
-      → slice_get gets n ≡ Some old → IsCounted d gets out → Owns d' (set gets n new) → Shifts d d' old new out out'
-      → IsCounted d' (set gets n new) out'
-  IsCounted-set d d' gets n old new out out' h k o s =
+      → slice_get gets n ≡ Some old → TrialInvariant d gets out → Owns d' (set gets n new)
+      → Shifts d d' old new out out'
+      → TrialInvariant d' (set gets n new) out'
+  TrialInvariant-set d d' gets n old new out out' h k o s =
       let e : map party_of (set gets n new) ≡ set (map party_of gets) n (party_of new) = map-set party_of gets n new in
       let here : slice_get (map party_of gets) n ≡ Some (party_of old) = slice_get-map party_of gets n ∙ (rw h refl) in
       record {
@@ -192,11 +194,11 @@ put n party p = record p { parties = set p.parties n party }
 abbrev pub put_off : {V C R S F A : Type 0} → ℕ → Option (Party V C R S) → Pool V C R S F A → Pool V C R S F A
 put_off n party p = put n party (pool_unqueued n p)
 
-module _ {M V E C R S F A : Type 0} (fixed : Fixed M F A V E C R S)
+module _ {M V E C R S F A : Type 0} (setup : Setup M F A V E C R S)
     (d : DeskState (Slot V)) (gets : List (Option (Getting V C R S))) (out : List (Slot V)) (o : Owns d gets) (n : ℕ)
     (old new : Option (Getting V C R S)) (h : slice_get gets n ≡ Some old) where
   abbrev in_pool : DeskState (Slot V) → List (Option (Getting V C R S)) → Pool V C R S F A
-  in_pool d' gets' = image fixed d' gets' out
+  in_pool d' gets' = image setup d' gets' out
 
   -- the pool with another queue and other parties
   abbrev with : Queue → List (Option (Party V C R S)) → Pool V C R S F A
@@ -241,7 +243,7 @@ pub Gives-same : {Q : Type 0} {Answer : Q → Type 0} {A : Type 0} (may : (q : Q
 Gives-same may p q a e g = subst (λ r. Gives may r a) (sym e) g
 
 module _ {V C R S : Type 0} (d : DeskState (Slot V)) (gets : List (Option (Getting V C R S))) (out : List (Slot V))
-    (k : IsCounted d gets out)
+    (k : TrialInvariant d gets out)
     (n : ℕ) (old : Option (Getting V C R S)) (h : slice_get gets n ≡ Some old) where
   here : slice_get (map party_of gets) n ≡ Some (party_of old)
   here = slice_get-map party_of gets n ∙ (rw h refl)
@@ -260,20 +262,21 @@ module _ {V C R S : Type 0} (d : DeskState (Slot V)) (gets : List (Option (Getti
   holds_object = let c = held-set prepared_by (map party_of gets) n (party_of old) None here in
       omega (arith, c, k.outside)
 
-module _ {M V E C R S F A : Type 0} (fixed : Fixed M F A V E C R S)
+module _ {M V E C R S F A : Type 0} (setup : Setup M F A V E C R S)
     (core : DeskState (Slot V)) (gets : List (Option (Getting V C R S))) (out : List (Slot V)) (n : ℕ)
     (new : Option (Getting V C R S)) where
   abbrev pool : Pool V C R S F A
-  pool = image fixed core gets out
+  pool = image setup core gets out
 
   abbrev after : DeskState (Slot V) → Pool V C R S F A
-  after d = image fixed d (set gets n new) out
+  after d = image setup d (set gets n new) out
 
   -- what a get held is free
-  pub ends_free : (d : DeskState (Slot V)) → put_off n (party_of new) pool ≡ after d → IsCounted d (set gets n new) out
-      → (settle (put_off n (party_of new) pool) ≡ after (settled d)) × IsCounted (settled d) (set gets n new) out
+  pub ends_free : (d : DeskState (Slot V)) → put_off n (party_of new) pool ≡ after d
+      → TrialInvariant d (set gets n new) out
+      → (settle (put_off n (party_of new) pool) ≡ after (settled d)) × TrialInvariant (settled d) (set gets n new) out
   ends_free d e k = (
-    ap settle e ∙ sym (settles fixed d (set gets n new) out k),
+    ap settle e ∙ sym (settles setup d (set gets n new) out k),
     counted_settled d (set gets n new) out k,
   )
 
@@ -286,30 +289,30 @@ module _ {M V E C R S F A : Type 0} (fixed : Fixed M F A V E C R S)
   pub nobody_waits-closed : (d : DeskState (Slot V)) → d.is_open ≡ false → NobodyWaits (after d)
   nobody_waits-closed d shut is_open free = let differ : true ≡ false = sym is_open ∙ shut in cc
 
-  module _ (k : IsCounted core gets out) (nobody : NobodyWaits pool) (old : Option (Getting V C R S))
+  module _ (k : TrialInvariant core gets out) (nobody : NobodyWaits pool) (old : Option (Getting V C R S))
       (h : slice_get gets n ≡ Some old) where
     -- a get that held nothing ends
-    pub ends_empty : NoTicket old → NoTicket new → IsCounted core (set gets n new) out
+    pub ends_empty : NoTicket old → NoTicket new → TrialInvariant core (set gets n new) out
         → settle (put_off n (party_of new) pool) ≡ after core
     ends_empty none no_new k' =
         let same : pool_places (after core) ≡ pool_places pool =
-        places-image fixed core (set gets n new) out k' ∙ sym (places-image fixed core gets out k) in
-        ends_quietly core (put_off-image fixed core gets out k.tickets n old new h none no_new)
+        places-image setup core (set gets n new) out k' ∙ sym (places-image setup core gets out k) in
+        ends_quietly core (put_off-image setup core gets out k.tickets n old new h none no_new)
         (λ is_open free. ap (λ q. q.waiting)
         (renamed-set has_ticket (queue_of core) gets k.tickets n old new h none no_new)
         ∙ nobody is_open (subst (λ m. m < core.limit) same free))
 
     -- a get that waits leaves the queue: since it waited, no place was free
     pub nobody_waits-unqueued : (t : ℕ) → has_number t core.granted ≡ false → has_number t core.waiting ≡ true
-        → IsCounted (unqueued t core) (set gets n new) out
+        → TrialInvariant (unqueued t core) (set gets n new) out
         → NobodyWaits (after (unqueued t core))
     nobody_waits-unqueued t absent waits k' is_open free =
         let granted : without_number t core.granted ≡ core.granted = without_number-same t core.granted absent in
         let as_many : places (unqueued t core) ≡ places core =
         ap (λ ns. places (record core { granted = ns })) granted in
         let same : pool_places (after (unqueued t core)) ≡ pool_places pool =
-        places-image fixed (unqueued t core) (set gets n new) out k' ∙ as_many
-        ∙ sym (places-image fixed core gets out k) in
+        places-image setup (unqueued t core) (set gets n new) out k' ∙ as_many
+        ∙ sym (places-image setup core gets out k) in
         let none : map (owner has_ticket gets) core.waiting ≡ [] =
         nobody is_open (subst (λ m. m < core.limit) same free) in
         absurd (waits_not core.waiting none waits)
@@ -325,7 +328,7 @@ module _ {V C R S : Type 0} where
 
   -- a get that is not yet polled is in no count
   start_counted : (core : DeskState (Slot V)) (gets : List (Option (Getting V C R S))) (out : List (Slot V))
-      → IsCounted core gets out → (t : Timeouts) → IsCounted core (gets ++ Some (newcomer t) ∷ []) out
+      → TrialInvariant core gets out → (t : Timeouts) → TrialInvariant core (gets ++ Some (newcomer t) ∷ []) out
   start_counted core gets out k t =
       let ps = map party_of gets in
       let new : Option (Party V C R S) = Some record { timeouts = t; standing = unpolled } in
@@ -340,14 +343,14 @@ module _ {V C R S : Type 0} where
         room = omega (arith, count-push is_under_way gets (Some (newcomer t)), k.room, longer);
       }
 
-module _ {M V E C R S F A : Type 0} (fixed : Fixed M F A V E C R S) where
+module _ {M V E C R S F A : Type 0} (setup : Setup M F A V E C R S) where
   -- a new get is a new party in the image, and is counted
   pub starts : (core : DeskState (Slot V)) (gets : List (Option (Getting V C R S))) (out : List (Slot V))
-      → IsCounted core gets out → (t : Timeouts)
-      → (image fixed core (gets ++ Some (newcomer t) ∷ []) out
-      ≡ record (image fixed core gets out)
+      → TrialInvariant core gets out → (t : Timeouts)
+      → (image setup core (gets ++ Some (newcomer t) ∷ []) out
+      ≡ record (image setup core gets out)
       { parties = map party_of gets ++ Some (record { timeouts = t; standing = unpolled }) ∷ [] })
-      × IsCounted core (gets ++ Some (newcomer t) ∷ []) out
+      × TrialInvariant core (gets ++ Some (newcomer t) ∷ []) out
   starts core gets out k t =
       let named = renamed-push has_ticket (queue_of core) gets k.tickets (Some (newcomer t)) in (
         rw (
@@ -360,14 +363,14 @@ module _ {M V E C R S F A : Type 0} (fixed : Fixed M F A V E C R S) where
 
   -- a desk says of itself what its pool does
   pub pool_status : (core : DeskState (Slot V)) (gets : List (Option (Getting V C R S))) (out : List (Slot V))
-      → IsCounted core gets out
-      → pool_status_of (image fixed core gets out) ≡ status_of core
+      → TrialInvariant core gets out
+      → pool_status_of (image setup core gets out) ≡ status_of core
   pool_status core gets out k =
       let l1 : length (map (owner has_ticket gets) core.granted) ≡ length core.granted =
       length-map core.granted (owner has_ticket gets) in
       let l2 : length (map (owner has_ticket gets) core.waiting) ≡ length core.waiting =
       length-map core.waiting (owner has_ticket gets) in
-      let p : Pool V C R S F A = image fixed core gets out in
+      let p : Pool V C R S F A = image setup core gets out in
       let sizes : pool_size p ≡ size core = omega (arith, k.outside) in
       let pendings : pool_pending p ≡ pending core = omega (arith, l1, l2, k.going, k.creations) in
       rw (sizes, pendings) refl

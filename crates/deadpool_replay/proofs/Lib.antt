@@ -1,3 +1,4 @@
+-- The lemmas on a trial: each move of a get, an object or the owner is one of the list machine, and its laws stay.
 pub mod Advances
 pub mod AllMoves
 pub mod Basics

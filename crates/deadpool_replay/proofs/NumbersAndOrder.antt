@@ -69,7 +69,7 @@ pub record Passes {V C R S F A : Type 0} (sets : Bool) (name : Option ℕ) (leav
   pub limit : sets ≡ false → q.limit ≡ p.limit
   pub few_idle : HasFewIdle p → HasFewIdle q
   pub closed : (p.is_open ≡ false → p.limit ≡ 0) → q.is_open ≡ false → q.limit ≡ 0
-  pub floor : q.floor ≡ p.floor
+  pub min_idle : q.min_idle ≡ p.min_idle
   pub first : q.first ≡ p.first
   -- the step makes a new object
   pub grows : Bool
@@ -94,7 +94,7 @@ module _ {V C R S F A : Type 0} where
     limit = kept;
     few_idle = few;
     closed = closed;
-    floor = refl;
+    min_idle = refl;
     first = refl;
     grows = false;
     next = omega arith;
@@ -123,7 +123,7 @@ module _ {V C R S F A : Type 0} where
         limit = s.limit;
         few_idle = s.few_idle;
         closed = s.closed;
-        floor = s.floor;
+        min_idle = s.min_idle;
         first = s.first;
         grows = s.grows;
         next = s.next;
@@ -160,7 +160,7 @@ module _ {V C R S F A : Type 0} where
     limit = λ kept. refl;
     few_idle = λ few. omega (arith, fewer, few);
     closed = λ c. c;
-    floor = refl;
+    min_idle = refl;
     first = refl;
     grows = grows;
     next = e;

@@ -3,7 +3,8 @@ use Rattle.deadpool_replay.proofs.Basics.{◌≡◌, ℕ, ◌+◌, ◌<◌, ◌�
 use Rattle.deadpool_replay.proofs.Basics.{refl, sym, ap, ◌∙◌, arith, inl, inr, Option, Some, None, slice_get, is_some}
 use Rattle.deadpool_replay.proofs.Basics.{◌==◌, cases_Bool, ne_eqb, has_number, one_if}
 use Rattle.deadpool_replay.proofs.Words.{Pool, Party, Standing, unpolled, goes, creates, prepared_at, is_going}
-use Rattle.deadpool_replay.proofs.Words.{is_creating, IsLawful, queue, waits_at, is_queued, places_from, is_preparing}
+use Rattle.deadpool_replay.proofs.Words.{is_creating, PoolInvariant, queue, waits_at}
+use Rattle.deadpool_replay.proofs.Words.{is_queued, places_from, is_preparing}
 use Rattle.deadpool_replay.proofs.Words.{listed, IsListedOnce}
 use Rattle.deadpool_replay.proofs.NumberCounts.{times, times-cons, times-append, times-none, times-once, once-times}
 
@@ -57,7 +58,7 @@ module _ {V C R S : Type 0} where
   one_at (Some None) = omega arith
   one_at (Some (Some party)) = one_standing party.standing
 
-module _ {V C R S F A : Type 0} (p : Pool V C R S F A) (l : IsLawful p) where
+module _ {V C R S F A : Type 0} (p : Pool V C R S F A) (l : PoolInvariant p) where
   -- who is in the queue is there once, and stands as queued
   times-queue : (n : ℕ) → times n (queue p) ≤ one_if (is_queued (slice_get p.parties n))
   times-queue n =

@@ -3,9 +3,10 @@ use Rattle.deadpool_replay.proofs.Basics.{◌≡◌, ℕ, suc, List, [], ◌∷�
 use Rattle.deadpool_replay.proofs.Basics.{get_or, position, position_or_len, one-add, cases_Bool, place_is}
 use Rattle.deadpool_replay.proofs.Basics.{found_at_place, arith, Option, ◌+◌, ◌-◌, length-without_numbered, ◌++◌, true}
 use Rattle.deadpool_replay.proofs.Basics.{false, nat_le, sym, le-leb, lt-leb, eq-eqb, ne_eqb, Gives}
-use Rattle.deadpool_replay.proofs.Words.{find_slot, with_put, with_value, Slot, DeskState, Getting, IsCounted, settled}
+use Rattle.deadpool_replay.proofs.Words.{find_slot, with_put, with_value, Slot}
+use Rattle.deadpool_replay.proofs.Words.{DeskState, Getting, TrialInvariant, settled}
 use Rattle.deadpool_replay.proofs.Words.{settle, without_slot, slot_number, May, Does, IsReplyTo, LeavesInHand, Pool}
-use Rattle.deadpool_replay.proofs.Words.{size, one_step, IsTaken, reply_to_back, Step, DeskReply, Reply, Fixed, image}
+use Rattle.deadpool_replay.proofs.Words.{size, one_step, IsTaken, reply_to_back, Step, DeskReply, Reply, Setup, image}
 use Rattle.deadpool_replay.specs.declared.moves.Move.TheVariants as move
 use Rattle.deadpool_replay.specs.declared.moves.Reply.TheVariants as reply
 use Rattle.deadpool_replay.proofs.DeskImage.{settles, counted_settled}
@@ -42,7 +43,7 @@ module _ {V : Type 0} where
 module _ {V C R S : Type 0} where
   -- as many are out as before
   pub put_counted : (core : DeskState (Slot V)) (gets : List (Option (Getting V C R S))) (out : List (Slot V)) (n : ℕ)
-      (v : V) → IsCounted core gets out → IsCounted core gets (with_put n v out)
+      (v : V) → TrialInvariant core gets out → TrialInvariant core gets (with_put n v out)
   put_counted core gets out n v k =
       let same = length-with_put n v out in
       record {
@@ -54,14 +55,14 @@ module _ {V C R S : Type 0} where
       }
 
 module _ {V C R S : Type 0} (core : DeskState (Slot V)) (gets : List (Option (Getting V C R S))) (out : List (Slot V))
-    (n : ℕ) (slot : Slot V) (k : IsCounted core gets out) (h : find_slot n out ≡ Some slot) where
+    (n : ℕ) (slot : Slot V) (k : TrialInvariant core gets out) (h : find_slot n out ≡ Some slot) where
   -- an object that is out has a place
   pub one_outside : (core.outside - 1) + 1 ≡ core.outside
   one_outside = omega (arith, k.outside, length-without_numbered slot_number n out slot h)
 
   -- the desk that counts one object less, whatever is idle
   pub taken_counted : (idle : List (Slot V))
-      → IsCounted (record core { idle = idle; outside = core.outside - 1 }) gets (without_slot n out)
+      → TrialInvariant (record core { idle = idle; outside = core.outside - 1 }) gets (without_slot n out)
   taken_counted idle =
       let less = length-without_numbered slot_number n out slot h in
       record {
@@ -72,19 +73,19 @@ module _ {V C R S : Type 0} (core : DeskState (Slot V)) (gets : List (Option (Ge
         room = omega (arith, less, k.room);
       }
 
-module _ {M V E C R S F A : Type 0} (fixed : Fixed M F A V E C R S)
+module _ {M V E C R S F A : Type 0} (setup : Setup M F A V E C R S)
     (core core' : DeskState (Slot V)) (gets : List (Option (Getting V C R S))) (out : List (Slot V)) (n : ℕ)
-    (slot : Slot V) (k : IsCounted core gets out) (h : find_slot n out ≡ Some slot) where
+    (slot : Slot V) (k : TrialInvariant core gets out) (h : find_slot n out ≡ Some slot) where
   -- an object that leaves the pool for good takes its place with it
   pub takes : core' ≡ settled (record core { outside = core.outside - 1 })
-      → (image fixed core' gets (without_slot n out)
-      ≡ settle (record (image fixed core gets out) { out = without_slot n out }))
-      × IsCounted core' gets (without_slot n out)
+      → (image setup core' gets (without_slot n out)
+      ≡ settle (record (image setup core gets out) { out = without_slot n out }))
+      × TrialInvariant core' gets (without_slot n out)
   takes e =
       let counted = taken_counted core gets out n slot k h core.idle in
       let core1 : DeskState (Slot V) = record core { outside = core.outside - 1 } in
       rw e (
-        settles fixed core1 gets (without_slot n out) counted,
+        settles setup core1 gets (without_slot n out) counted,
         counted_settled core1 gets (without_slot n out) counted,
       )
 
@@ -96,7 +97,8 @@ takes_none DeskReply.Unknown hand fits left = left
 takes_none _ hand fits left = absurd fits
 
 module _ {V C R S : Type 0} (core core' : DeskState (Slot V)) (gets : List (Option (Getting V C R S)))
-    (out : List (Slot V)) (n : ℕ) (slot : Slot V) (k : IsCounted core gets out) (h : find_slot n out ≡ Some slot) where
+    (out : List (Slot V)) (n : ℕ) (slot : Slot V) (k : TrialInvariant core gets out) (h : find_slot n out
+    ≡ Some slot) where
   -- the desk knows of an object that is out
   pub back_known : (r : DeskReply) (hand : Option (Slot V)) → Does core Step.Back (Some slot) r core'
       → LeavesInHand r (Some slot) hand → IsTaken r hand
@@ -106,37 +108,37 @@ module _ {V C R S : Type 0} (core core' : DeskState (Slot V)) (gets : List (Opti
   back_known DeskReply.Unknown hand e left = absurd (omega (arith, one_outside core gets out n slot k h, e.0))
   back_known _ hand e left = absurd e
 
-module _ {M V E C R S F A : Type 0} (may : May V E C R S F A) (fixed : Fixed M F A V E C R S)
+module _ {M V E C R S F A : Type 0} (may : May V E C R S F A) (setup : Setup M F A V E C R S)
     (core core' : DeskState (Slot V)) (gets : List (Option (Getting V C R S))) (out : List (Slot V)) (n : ℕ)
-    (slot : Slot V) (k : IsCounted core gets out) (h : find_slot n out ≡ Some slot) where
+    (slot : Slot V) (k : TrialInvariant core gets out) (h : find_slot n out ≡ Some slot) where
   -- what the desk makes of an object that comes back is what the pool makes of it
   pub backs : (r : DeskReply) (hand : Option (Slot V)) (answer : Reply V E) → Does core Step.Back (Some slot) r core'
       → LeavesInHand r (Some slot) hand → Gives may (reply_to_back r hand) answer
-      → Gives may (one_step (move.Back n) (image fixed core gets out)) (
+      → Gives may (one_step (move.Back n) (image setup core gets out)) (
         answer,
-        image fixed core' gets (without_slot n out),
-      ) × IsCounted core' gets (without_slot n out)
+        image setup core' gets (without_slot n out),
+      ) × TrialInvariant core' gets (without_slot n out)
   backs DeskReply.Kept hand answer e left g =
       let core1 : DeskState (Slot V) = record core { idle = core.idle ++ slot ∷ []; outside = core.outside - 1 } in
       let counted = taken_counted core gets out n slot k h (core.idle ++ slot ∷ []) in
       let has_handle : (core.handles == 0) ≡ false = ne_eqb core.handles 0 (omega (arith, e.1)) in
-      let fits : nat_le (size (image fixed core gets out)) core.limit ≡ true =
+      let fits : nat_le (size (image setup core gets out)) core.limit ≡ true =
       le-leb _ _ (omega (arith, k.outside, e.2)) in
       rw (h, ← g, e.3) (
         rw (has_handle, fits)
             (ap (λ (p : Pool V C R S F A). (reply.Kept, p))
-            (sym (settles fixed core1 gets (without_slot n out) counted))),
+            (sym (settles setup core1 gets (without_slot n out) counted))),
         counted_settled core1 gets (without_slot n out) counted,
       )
   backs DeskReply.Dropped hand answer e left g =
       let no_handle : (core.handles == 0) ≡ true = eq-eqb core.handles 0 e.1 in
-      let all = takes fixed core core' gets out n slot k h e.2 in
+      let all = takes setup core core' gets out n slot k h e.2 in
       rw (h, ← g) (rw no_handle (ap (λ (p : Pool V C R S F A). (reply.Dropped, p)) (sym all.0)), all.1)
   backs DeskReply.Detach hand answer e left g =
       let has_handle : (core.handles == 0) ≡ false = ne_eqb core.handles 0 (omega (arith, e.1)) in
-      let full : nat_le (size (image fixed core gets out)) core.limit ≡ false =
+      let full : nat_le (size (image setup core gets out)) core.limit ≡ false =
       lt-leb _ _ (omega (arith, k.outside, e.2)) in
-      let all = takes fixed core core' gets out n slot k h e.3 in
+      let all = takes setup core core' gets out n slot k h e.3 in
       let asked = rw left at g in
       rw (h, ← asked.1.1) (
         rw (has_handle, full) (

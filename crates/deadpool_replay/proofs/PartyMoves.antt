@@ -6,8 +6,9 @@ use Rattle.deadpool_replay.proofs.Basics.{largest_usize, KeepsOrder, Return, Alw
 use Rattle.deadpool_replay.proofs.Basics.{false, set, refl, ap, ◌∙◌, arith, inl, inr, Option, Some, None, Result, Ok}
 use Rattle.deadpool_replay.proofs.Basics.{Err, [], ◌∷◌, ◌++◌, ◌==◌, sym, eq-eqb, ◌<◌, Bool, not, length, nat_lt, ◌&&◌}
 use Rattle.deadpool_replay.proofs.Basics.{is_none, unwrap_or, max, append_assoc, ◌⊎◌, cond_both, ltb-true, ltb-false}
-use Rattle.deadpool_replay.proofs.Basics.{slice_get-get_or, slice_get}
-use Rattle.deadpool_replay.proofs.Words.{IsLawful, queue, waits_at, is_queued, created, reviewed, checked, hand_out}
+use Rattle.deadpool_replay.proofs.Basics.{slice_get-get_or, slice_get, nat_le, leb-false, length-append}
+use Rattle.deadpool_replay.proofs.Words.{PoolInvariant, queue, waits_at, is_queued}
+use Rattle.deadpool_replay.proofs.Words.{created, reviewed, checked, hand_out}
 use Rattle.deadpool_replay.proofs.Words.{advance_at, enter, inquire, joined, go_on_creating, cancel_with, Pool, Party}
 use Rattle.deadpool_replay.proofs.Words.{prepared_at, is_going, is_creating, prepared_by, places, settle, unpolled}
 use Rattle.deadpool_replay.proofs.Words.{queued, going, Standing, creating, recycling, checking, finished}
@@ -18,7 +19,7 @@ use Rattle.deadpool_replay.proofs.Words.{prepare, post_create, with_value, objec
 use Rattle.deadpool_replay.proofs.Words.{Prepared, Verdict, Slot, deadline_after, is_reached, lacks_runtime}
 use Rattle.deadpool_replay.proofs.Words.{is_positive, QueueMode, Fifo, Lifo, Timeouts, PoolError, Timeout, Backend}
 use Rattle.deadpool_replay.proofs.Words.{NoRuntimeSpecified, PostCreateHook, Closed, OutOfMemory, NumbersExhausted}
-use Rattle.deadpool_replay.proofs.Words.{Moment, Poll}
+use Rattle.deadpool_replay.proofs.Words.{Crowded, Moment, Poll}
 use Rattle.deadpool_replay.specs.declared.moves.Reply.TheVariants as reply
 use Rattle.futures.specs.declared.task.Poll.TheVariants as poll
 use Rattle.deadpool_parts.specs.declared.errors.TimeoutType.TheVariants as phase
@@ -58,7 +59,7 @@ module _ {V C R S F A : Type 0} (E : Type 0) (m : Move V) (n : ℕ) (timeouts : 
       Follows (reach p) x.1 × Passes false (Some n) (its_object (standing_at timeouts old)) p x.1
       × IsOutIfGiven m x.0 x.1
 
-  module _ (l : IsLawful p) where
+  module _ (l : PoolInvariant p) where
     -- The party stands elsewhere, with as many places and no more objects.
     goes_on : (old new : Standing V C R S) (answer : Reply V E) (grows : Bool) (next : ℕ) (out : List (Slot V))
         → Stands old → next ≡ p.next + one_if grows
@@ -162,6 +163,7 @@ module _ {V C R S F A : Type 0} (E : Type 0) (m : Move V) (n : ℕ) (timeouts : 
                   | inl fewer ↦ omega (arith, c, fewer, k.few_objects)
                   | inr none ↦ omega (arith, c, one, room, none)
                 ];
+                few_waiting = k.few_waiting;
               };
               marks = set_marks n (Some before) (Some after)
                   (record p { idle = idle; granted = granted; waiting = waiting }) h marks (out_of_it ∙ sym served);
@@ -193,8 +195,9 @@ module _ {V C R S F A : Type 0} (E : Type 0) (m : Move V) (n : ℕ) (timeouts : 
 
     -- who joins the queue if no place is free
     joined_has : (deadline : Option Moment) (found : Bool) → Stands unpolled → p.limit ≤ places p
+        → length p.waiting < p.max_waiting
         → Advanced unpolled (joined n (standing_at timeouts unpolled) deadline p found)
-    joined_has deadline true h full =
+    joined_has deadline true h full roomy =
         let k = (Follows-self p l).orderly in
         let before : Party V C R S = standing_at timeouts unpolled in
         let after : Party V C R S = standing_at timeouts (queued deadline) in
@@ -205,6 +208,7 @@ module _ {V C R S F A : Type 0} (E : Type 0) (m : Move V) (n : ℕ) (timeouts : 
               once = rw (← append_assoc) (IsOnce-push (queue p) n k.once out_of_it);
               few_places = omega (arith, c, k.few_places);
               few_objects = omega (arith, c, k.few_objects);
+              few_waiting = omega (arith, length-append p.waiting (n ∷ []), roomy);
             };
             marks = set_marks n (Some before) (Some after) (record p { waiting = p.waiting ++ n ∷ [] }) h
                 (λ j other. ap (has_number j) (sym (append_assoc p.granted p.waiting (n ∷ [])))
@@ -217,7 +221,7 @@ module _ {V C R S F A : Type 0} (E : Type 0) (m : Move V) (n : ℕ) (timeouts : 
               (order_pushed n p.granted p.waiting out_of_it) (λ j. omega arith) (λ j. omega arith),
           tt,
         )
-    joined_has deadline false h full = fails unpolled OutOfMemory h
+    joined_has deadline false h full roomy = fails unpolled OutOfMemory h
 
     -- a party that holds a place and nothing else goes on
     going_has : (allowance : Option ℕ) → Stands (going allowance)
@@ -296,8 +300,10 @@ module _ {V C R S F A : Type 0} (E : Type 0) (m : Move V) (n : ℕ) (timeouts : 
           (λ is_open more. l.nobody_waits is_open free) (next_idle p.mode p.idle) (length p.idle) refl)
           (λ full.
           cond_both (is_reached (deadline_after now timeouts.wait) now) _ _ P
-          (λ late. fails unpolled (Timeout phase.Wait) h)
-          (λ early found. joined_has (deadline_after now timeouts.wait) found h (ltb-false (places p) p.limit full)))))
+          (λ late. fails unpolled (Timeout phase.Wait) h) (λ early.
+          cond_both (nat_le p.max_waiting (length p.waiting)) _ _ P (λ crowded. fails unpolled Crowded h)
+          (λ roomy found. joined_has (deadline_after now timeouts.wait) found h (ltb-false (places p) p.limit full)
+          (leb-false p.max_waiting (length p.waiting) roomy))))))
 
       -- a later poll of one that is queued
       inquired_has : (deadline : Option Moment) → Stands (queued deadline)

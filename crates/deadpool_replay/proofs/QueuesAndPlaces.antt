@@ -2,14 +2,16 @@
 -- while a place is free, and no more places and objects than its limit or so many.
 use Rattle.deadpool_replay.proofs.Basics.{◌≡◌, ◌≢◌, ℕ, ◌+◌, ◌-◌, ◌≤◌, max, min, List, ◌++◌, true, false, length, set}
 use Rattle.deadpool_replay.proofs.Basics.{take, drop, sym, ap, ◌∙◌, subst, arith, inl, inr, Option, Some, None}
-use Rattle.deadpool_replay.proofs.Basics.{length-append, length-take, append_assoc, slice_get, is_some, filter}
+use Rattle.deadpool_replay.proofs.Basics.{length-append, length-drop, length-take, append_assoc, slice_get, is_some}
+use Rattle.deadpool_replay.proofs.Basics.{filter}
 use Rattle.deadpool_replay.proofs.Basics.{filter_map, cond_both, cond-true, eqb_tells, take-append-drop, drop_all}
 use Rattle.deadpool_replay.proofs.Basics.{has_number, IsOnce, get-set_same, get-set_other, without_number-append}
 use Rattle.deadpool_replay.proofs.Basics.{without_number-shorter, IsOnce-without, one_if, count-set, held-set}
 use Rattle.deadpool_replay.proofs.Words.{Timeouts, Pool, Party, Standing, goes, creates, prepared_at, is_going}
 use Rattle.deadpool_replay.proofs.Words.{is_creating, prepared_by, creating_count, places, size, reach, grants, settle}
-use Rattle.deadpool_replay.proofs.Words.{to, unqueued, NobodyWaits, MarksQueued, IsLawful, queue, waits_at, is_queued}
-use Rattle.deadpool_replay.proofs.Words.{Slot}
+use Rattle.deadpool_replay.proofs.Words.{to, unqueued, NobodyWaits, MarksQueued}
+use Rattle.deadpool_replay.proofs.Words.{PoolInvariant, queue, waits_at, is_queued}
+use Rattle.deadpool_replay.proofs.Words.{Slot, WaitsWithin}
 use Rattle.deadpool_replay.proofs.NumberLists.{has_number-other, without_number-gone}
 
 module _ {V C R S F A : Type 0} where
@@ -17,11 +19,12 @@ module _ {V C R S F A : Type 0} where
   abbrev pub MarksOthers : ℕ → Pool V C R S F A → Type 0
   MarksOthers n p = (m : ℕ) → m ≢ n → has_number m (queue p) ≡ is_queued (slice_get p.parties m)
 
-  -- nobody is in the queue twice, and no more places and objects than the limit or so many
+  -- nobody is in the queue twice, no more places and objects than the limit or so many, and no more wait than may
   pub record IsOrderly (most : ℕ) (p : Pool V C R S F A) : Type 0 where
     pub once : IsOnce (queue p)
     pub few_places : places p ≤ max p.limit most
     pub few_objects : size p + creating_count p ≤ max p.limit most
+    pub few_waiting : WaitsWithin p
 
   -- and those in the queue are marked, and nobody waits while a place is free
   pub record Follows (most : ℕ) (p : Pool V C R S F A) : Type 0 where
@@ -30,16 +33,26 @@ module _ {V C R S F A : Type 0} where
     pub nobody_waits : NobodyWaits p
 
   -- a lawful pool is within its own reach
-  pub Follows-self : (p : Pool V C R S F A) → IsLawful p → Follows (reach p) p
+  pub Follows-self : (p : Pool V C R S F A) → PoolInvariant p → Follows (reach p) p
   Follows-self p l = record {
-    orderly = record { once = l.once; few_places = omega arith; few_objects = omega arith };
+    orderly = record {
+      once = l.once;
+      few_places = omega arith;
+      few_objects = omega arith;
+      few_waiting = l.few_waiting;
+    };
     marks = l.marks;
     nobody_waits = l.nobody_waits;
   }
 
   -- what follows is lawful
-  pub Follows-lawful : (most : ℕ) (p : Pool V C R S F A) → Follows most p → IsLawful p
-  Follows-lawful most p f = record { once = f.orderly.once; marks = f.marks; nobody_waits = f.nobody_waits }
+  pub Follows-lawful : (most : ℕ) (p : Pool V C R S F A) → Follows most p → PoolInvariant p
+  Follows-lawful most p f = record {
+    once = f.orderly.once;
+    marks = f.marks;
+    nobody_waits = f.nobody_waits;
+    few_waiting = f.orderly.few_waiting;
+  }
 
   -- what follows is within so much or the limit
   pub Follows-reach : (most : ℕ) (p : Pool V C R S F A) → Follows most p → reach p ≤ max p.limit most
@@ -63,6 +76,7 @@ module _ {V C R S F A : Type 0} where
           once = rw same k.once;
           few_places = omega (arith, few, longer, length-take n p.waiting, k.few_places);
           few_objects = k.few_objects;
+          few_waiting = omega (arith, length-drop n p.waiting, k.few_waiting);
         };
         marks = λ m. ap (has_number m) same ∙ marks m;
         nobody_waits = λ opens free. let is = all opens in
@@ -89,6 +103,7 @@ module _ {V C R S F A : Type 0} where
         once = rw (← left) (IsOnce-without n (queue p) k.once);
         few_places = omega (arith, without_number-shorter n p.granted, k.few_places);
         few_objects = k.few_objects;
+        few_waiting = omega (arith, without_number-shorter n p.waiting, k.few_waiting);
       }
 
   -- the others are in it as before
@@ -156,6 +171,7 @@ module _ {V C R S F A : Type 0} where
         once = u.once;
         few_places = omega (arith, c, u.few_places);
         few_objects = omega (arith, c, u.few_objects);
+        few_waiting = u.few_waiting;
       }
       (set_marks n (Some party) new (unqueued n p) h (unqueued_marks n p marks) (unqueued_gone n p ∙ sym w))
 
@@ -174,6 +190,7 @@ module _ {V C R S F A : Type 0} where
           once = k.once;
           few_places = omega (arith, c, same, k.few_places);
           few_objects = omega (arith, c, few, k.few_objects);
+          few_waiting = k.few_waiting;
         };
         marks = set_marks n (Some (standing_at timeouts old)) (Some (standing_at timeouts new)) p h
             (λ m other. f.marks m) (f.marks n ∙ ap is_queued h ∙ waits);

@@ -2,9 +2,10 @@
 use Rattle.deadpool_replay.proofs.Basics.{◌≡◌, ℕ, ◌≤◌, List, false, max, arith, inl, inr, refl, cases_Bool, has_number}
 use Rattle.deadpool_replay.proofs.Basics.{all_states, Each, Neighbours}
 pub use Rattle.deadpool_replay.proofs.Words.{WithinReach, EachReply, Moment, May, Pool, size, reach, one_step, PoolRuns}
-pub use Rattle.deadpool_replay.proofs.Words.{numbers, IsWell, Succeeds, sets_limit, NoneReturns, EachState, EachStep}
-pub use Rattle.deadpool_replay.proofs.Words.{EachLater, EachMove, EndsWell, StaysWithin, Move, Reply, may}
-pub use Rattle.deadpool_replay.proofs.Words.{IsEmptyIfClosed, KeepsFloor, LeavesEnough, HasFewIdle, CountsOn, may_leave}
+pub use Rattle.deadpool_replay.proofs.Words.{numbers, RunInvariant, Succeeds, sets_limit}
+pub use Rattle.deadpool_replay.proofs.Words.{NoneReturns, EachState, EachStep}
+pub use Rattle.deadpool_replay.proofs.Words.{EachLater, EachMove, EndsWell, StaysWithin, Move, Reply, may, may_leave}
+pub use Rattle.deadpool_replay.proofs.Words.{IsEmptyIfClosed, KeepsMinIdle, LeavesEnough, HasFewIdle, CountsOn}
 pub use Rattle.deadpool_replay.proofs.Words.{OthersStayInPool, OthersStayQueued, OthersStand, IsNumbered, IsOutIfGiven}
 pub use Rattle.deadpool_replay.proofs.Words.{IsIdleIfKept, IsListedOnce, MarksQueued, KeepsQueue}
 use Rattle.deadpool_replay.specs.declared.moves.Move.TheVariants as move
@@ -34,20 +35,21 @@ module _ {V C R S F A : Type 0} where
 module _ {V E C R S F A : Type 0} (may : May V E C R S F A) where
   -- every state is well, and each succeeds the one before it and is within its reach
   runs_well : (moves : List (Move V)) (p after : Pool V C R S F A) (passed : List (List (Pool V C R S F A)))
-      (answers : List (Reply V E)) → IsWell p → PoolRuns may p moves passed answers after
-      → Each IsWell (all_states p passed) × Neighbours (λ q r. Succeeds q r × WithinReach q r) (all_states p passed)
-      × IsWell after
+      (answers : List (Reply V E)) → RunInvariant p → PoolRuns may p moves passed answers after
+      → Each RunInvariant (all_states p passed) × Neighbours (λ q r. Succeeds q r
+      × WithinReach q r) (all_states p passed)
+      × RunInvariant after
   runs_well moves p after passed answers w ran =
-      runs_have may (λ m. Unit {0}) IsWell (λ q r. Succeeds q r × WithinReach q r) (λ n now meant. tt)
+      runs_have may (λ m. Unit {0}) RunInvariant (λ q r. Succeeds q r × WithinReach q r) (λ n now meant. tt)
       (λ m q meant h. Always-more (WellAfter q)
-      (λ (x : Reply V E × Pool V C R S F A). IsWell x.1 × (Succeeds q x.1 × WithinReach q x.1))
+      (λ (x : Reply V E × Pool V C R S F A). RunInvariant x.1 × (Succeeds q x.1 × WithinReach q x.1))
       (λ x k. (k.0, (k.1, k.2))) (one_step m q) (moved_well E m q h))
       moves p after passed answers (each_of (λ m. Unit {0}) (λ m. tt) moves) w ran
 
   -- what follows for a pool that is well
-  pub each_state : (P : Pool V C R S F A → Type 0) → ((q : Pool V C R S F A) → IsWell q → P q) → EachState may P
+  pub each_state : (P : Pool V C R S F A → Type 0) → ((q : Pool V C R S F A) → RunInvariant q → P q) → EachState may P
   each_state P implies moves p after passed answers w ran =
-      Each-more IsWell P implies (all_states p passed) (runs_well moves p after passed answers w ran).0
+      Each-more RunInvariant P implies (all_states p passed) (runs_well moves p after passed answers w ran).0
 
   -- what follows for one that succeeds another, and is within its reach
   pub each_step : (P : Pool V C R S F A → Pool V C R S F A → Type 0)
@@ -59,13 +61,14 @@ module _ {V E C R S F A : Type 0} (may : May V E C R S F A) where
   -- What each move has holds of the states that one move passes, if an advance within a poll is as any other.
   pub each_move : (P : Move V → Pool V C R S F A → Pool V C R S F A → Type 0)
       → ((n : ℕ) (now : Moment) (q r : Pool V C R S F A) → P (move.Advance n now) q r → P (move.Poll n now) q r)
-      → ((m : Move V) (p : Pool V C R S F A) (x : Reply V E × Pool V C R S F A) → IsWell p → IsWell x.1 → Moved p m x
+      → ((m : Move V) (p : Pool V C R S F A) (x : Reply V E × Pool V C R S F A) → RunInvariant p → RunInvariant x.1
+      → Moved p m x
       → P m p x.1) → EachMove may P
   each_move P polls keeps m p passed answer w made =
-      makes_next may (λ l. (q r : Pool V C R S F A) → P l q r → P m q r) IsWell (P m)
+      makes_next may (λ l. (q r : Pool V C R S F A) → P l q r → P m q r) RunInvariant (P m)
       (λ n now implies q r h. implies q r (polls n now q r h))
       (λ l q implies h.
-      Always-more (Moved q l) (λ (x : Reply V E × Pool V C R S F A). IsWell x.1 × P m q x.1)
+      Always-more (Moved q l) (λ (x : Reply V E × Pool V C R S F A). RunInvariant x.1 × P m q x.1)
       (λ x k. let after = (well_after l q x h k).0 in (after, implies q x.1 (keeps l q x h after k))) (one_step l q)
       (moved_has E q h.lawful l))
       m p passed answer (λ q r h. h) w made
@@ -74,8 +77,8 @@ module _ {V E C R S F A : Type 0} (may : May V E C R S F A) where
       → ((m : Move V) (p : Pool V C R S F A) (x : Reply V E × Pool V C R S F A) → Moved p m x → P m x.0 x.1)
       → EachReply may P
   each_reply P has m p passed answer w made =
-      makes_reply may (λ l. Unit {0}) IsWell (λ q r. Unit {0}) (λ n now meant. tt)
-      (λ l q meant h. Always-more (WellAfter q) (λ (x : Reply V E × Pool V C R S F A). IsWell x.1 × Unit {0})
+      makes_reply may (λ l. Unit {0}) RunInvariant (λ q r. Unit {0}) (λ n now meant. tt)
+      (λ l q meant h. Always-more (WellAfter q) (λ (x : Reply V E × Pool V C R S F A). RunInvariant x.1 × Unit {0})
       (λ x k. (k.0, tt)) (one_step l q) (moved_well E l q h)) P
       (λ l q h. Always-more (Moved q l) (λ (x : Reply V E × Pool V C R S F A). P l x.0 x.1) (has l q) (one_step l q)
       (moved_has E q h.lawful l)) m p passed answer tt w made
@@ -93,10 +96,10 @@ module _ {V E C R S F A : Type 0} (may : May V E C R S F A) where
   -- if a run begins within its limit, and sets none, the size stays within it
   pub stays_within : StaysWithin may
   stays_within moves p after passed answers w within kept ran =
-      let have = runs_have may (λ m. sets_limit m ≡ false) (λ q. IsWell q × (reach q ≤ q.limit)) (λ q r. Unit {0})
+      let have = runs_have may (λ m. sets_limit m ≡ false) (λ q. RunInvariant q × (reach q ≤ q.limit)) (λ q r. Unit {0})
       (λ n now same. refl)
       (λ m q same g. Always-more (Moved q m)
-      (λ (x : Reply V E × Pool V C R S F A). (IsWell x.1 × (reach x.1 ≤ x.1.limit)) × Unit {0})
+      (λ (x : Reply V E × Pool V C R S F A). (RunInvariant x.1 × (reach x.1 ≤ x.1.limit)) × Unit {0})
       (λ x h.
       let next = well_after m q x g.0 h in
       let before : reach q ≤ q.limit = g.1 in
@@ -104,5 +107,5 @@ module _ {V E C R S F A : Type 0} (may : May V E C R S F A) where
       let limit : x.1.limit ≡ q.limit = h.1.limit same in
       ((next.0, omega (arith, before, reached, limit)), tt)) (one_step m q) (moved_has E q g.0.lawful m))
       moves p after passed answers kept (w, within) ran in
-      Each-more (λ q. IsWell q × (reach q ≤ q.limit)) (λ q. size q ≤ q.limit)
+      Each-more (λ q. RunInvariant q × (reach q ≤ q.limit)) (λ q. size q ≤ q.limit)
       (λ q g. let all = g.1 in omega (arith, all)) (all_states p passed) have.0

@@ -1,20 +1,21 @@
 -- What is seen of a trial's fields is what is seen of the pool that they are.
 use Rattle.deadpool_replay.proofs.Basics.{◌≡◌, ℕ, List, Option, Some, None, refl, slice_get, slice_get-map, eq-eqb}
 use Rattle.deadpool_replay.proofs.Basics.{granted-renamed}
-use Rattle.deadpool_replay.proofs.Words.{Slot, DeskState, Getting, Timeouts, has_ticket, queue_of, party_of, IsCounted}
-use Rattle.deadpool_replay.proofs.Words.{Fixed, image, get_at}
+use Rattle.deadpool_replay.proofs.Words.{Slot, DeskState, Getting, Timeouts}
+use Rattle.deadpool_replay.proofs.Words.{has_ticket, queue_of, party_of, TrialInvariant}
+use Rattle.deadpool_replay.proofs.Words.{Setup, image, get_at}
 use Rattle.deadpool_replay.specs.Look.{look_of}
 use Rattle.deadpool_replay.specs.TrialFields.{look_as}
 use Rattle.deadpool_managed.specs.Kinds.{kind_of}
 use Rattle.deadpool_managed.specs.Stages.{Stage}
 use Rattle.deadpool_managed.specs.Stages as stage
 
-module _ {M V E C R S F A : Type 0} (fixed : Fixed M F A V E C R S) (d : DeskState (Slot V))
-    (gets : List (Option (Getting V C R S))) (out : List (Slot V)) (k : IsCounted d gets out) (n : ℕ)
+module _ {M V E C R S F A : Type 0} (setup : Setup M F A V E C R S) (d : DeskState (Slot V))
+    (gets : List (Option (Getting V C R S))) (out : List (Slot V)) (k : TrialInvariant d gets out) (n : ℕ)
     (own : Timeouts) where
   -- of a get, by its stage
   pub look_of-get : (s : Stage V C R S) → slice_get gets n ≡ Some (get_at own s)
-      → look_of n (image fixed d gets out) ≡ look_as d.granted (kind_of s)
+      → look_of n (image setup d gets out) ≡ look_as d.granted (kind_of s)
   look_of-get stage.Unpolled there = rw (slice_get-map party_of gets n, there) refl
   look_of-get (stage.Queued t deadline) there =
       let mine = (k.tickets.listed n t (get_at own (stage.Queued t deadline)) there (eq-eqb t t refl)).1 in

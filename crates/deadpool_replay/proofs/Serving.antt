@@ -5,12 +5,12 @@ use Rattle.deadpool_replay.proofs.Basics.{lt-ltb, le-ltb, slice_get, slice_get-g
 use Rattle.deadpool_replay.proofs.Words.{QueueMode, Fifo, Lifo, Timeouts, NumbersExhausted, start, DeskState, next_idle}
 use Rattle.deadpool_replay.proofs.Words.{other_idle, settled, Serves, Getting, AfterServed, Moment, Pool, Party}
 use Rattle.deadpool_replay.proofs.Words.{Standing, recycling, creating_count, settle, unqueued as pool_unqueued, go_on}
-use Rattle.deadpool_replay.proofs.Words.{serve_from, serve, party_of, IsCounted, given, reply_to, Slot, PreRecycle}
-use Rattle.deadpool_replay.proofs.Words.{Stage, Turn, DeskReply, Reply, Fixed, image, get_at}
+use Rattle.deadpool_replay.proofs.Words.{serve_from, serve, party_of, TrialInvariant, given, reply_to, Slot, PreRecycle}
+use Rattle.deadpool_replay.proofs.Words.{Stage, Turn, DeskReply, Reply, Setup, image, get_at}
 use Rattle.deadpool_managed.specs.Stages as stage
 use Rattle.deadpool_replay.specs.declared.moves.Reply.TheVariants as reply
 use Rattle.deadpool_replay.proofs.DeskImage.{Owns, NoTicket, settles, counted_settled, goes, creates, prepares, lasts}
-use Rattle.deadpool_replay.proofs.DeskImage.{IsCounted-set, put}
+use Rattle.deadpool_replay.proofs.DeskImage.{TrialInvariant-set, put}
 
 module _ {T : Type 0} where
   -- if nothing is idle, nothing is next
@@ -27,15 +27,15 @@ module _ {T : Type 0} where
 
 -- core: the desk before; d: the desk without the place of the get at n; granted, waiting: the queue of the pool without
 -- the get
-module _ {M V E C R S F A : Type 0} (fixed : Fixed M F A V E C R S) (n : ℕ) (core d : DeskState (Slot V))
+module _ {M V E C R S F A : Type 0} (setup : Setup M F A V E C R S) (n : ℕ) (core d : DeskState (Slot V))
     (gets : List (Option (Getting V C R S))) (out : List (Slot V)) (own : Timeouts) (old : Stage V C R S)
     (standing : Standing V C R S) (granted waiting : List ℕ)
-    (h : slice_get gets n ≡ Some (Some record { timeouts = own; stage = old })) (k : IsCounted core gets out) where
+    (h : slice_get gets n ≡ Some (Some record { timeouts = own; stage = old })) (k : TrialInvariant core gets out) where
   abbrev pool : Pool V C R S F A
-  pool = record (image fixed d gets out) { granted = granted; waiting = waiting }
+  pool = record (image setup d gets out) { granted = granted; waiting = waiting }
 
   abbrev after : DeskState (Slot V) → Stage V C R S → Pool V C R S F A
-  after d' s = image fixed d' (set gets n (get_at own s)) out
+  after d' s = image setup d' (set gets n (get_at own s)) out
 
   abbrev party : Party V C R S
   party = record { timeouts = own; standing = standing }
@@ -61,9 +61,9 @@ module _ {M V E C R S F A : Type 0} (fixed : Fixed M F A V E C R S) (n : ℕ) (c
   stood : HasLeft → (d' : DeskState (Slot V)) (s : Stage V C R S) → Owns d' (set gets n (get_at own s))
       → d'.going ≡ d.going + goes (get_at own s)
       → d'.creations ≡ d.creations + creates (get_at own s) → d'.outside ≡ d.outside + prepares (get_at own s)
-      → lasts (get_at own s) ≤ 1 → IsCounted d' (set gets n (get_at own s)) out
+      → lasts (get_at own s) ≤ 1 → TrialInvariant d' (set gets n (get_at own s)) out
   stood left d' s o places creations outside room =
-      IsCounted-set core d' gets n (get_at own old) (get_at own s) out out h k o record {
+      TrialInvariant-set core d' gets n (get_at own old) (get_at own s) out out h k o record {
         going = omega (arith, left.going, places);
         creations = omega (arith, left.creations, left.creates_none, creations);
         outside = omega (arith, left.outside, left.prepares_none, outside);
@@ -80,7 +80,7 @@ module _ {M V E C R S F A : Type 0} (fixed : Fixed M F A V E C R S) (n : ℕ) (c
           after (record d { idle = other_idle d.mode d.idle; outside = d.outside + 1 })
               (stage.Recycling (PreRecycle slot start) (Some more)),
         ))
-        × IsCounted (record d { idle = other_idle d.mode d.idle; outside = d.outside + 1 })
+        × TrialInvariant (record d { idle = other_idle d.mode d.idle; outside = d.outside + 1 })
         (set gets n (get_at own (stage.Recycling (PreRecycle slot start) (Some more)))) out
     served_object allowance slot more e f =
         let new : Stage V C R S = stage.Recycling (PreRecycle slot start) (Some more) in
@@ -101,7 +101,7 @@ module _ {M V E C R S F A : Type 0} (fixed : Fixed M F A V E C R S) (n : ℕ) (c
     served_going : (allowance : Option ℕ) → d.idle ≢ [] → unwrap_or allowance (length d.idle) ≡ 0
         → (serve {E = E} n party allowance pool
         ≡ (reply.Pending, after (record d { going = d.going + 1 }) (stage.Going None)))
-        × IsCounted (record d { going = d.going + 1 }) (set gets n (get_at own (stage.Going None))) out
+        × TrialInvariant (record d { going = d.going + 1 }) (set gets n (get_at own (stage.Going None))) out
     served_going allowance some f =
         let i = next_idle-some d.mode d.idle some in (
           ap (λ (i : Option (Slot V)). serve_from i (unwrap_or allowance (length d.idle)) n party pool) i.1
@@ -115,7 +115,8 @@ module _ {M V E C R S F A : Type 0} (fixed : Fixed M F A V E C R S) (n : ℕ) (c
     served_create : (allowance : Option ℕ) → d.idle ≡ [] → d.next + d.creations < largest_usize
         → (serve {E = E} n party allowance pool
         ≡ (reply.More, after (record d { creations = d.creations + 1 }) (stage.Creating None None)))
-        × IsCounted (record d { creations = d.creations + 1 }) (set gets n (get_at own (stage.Creating None None))) out
+        × TrialInvariant (record d { creations = d.creations + 1 })
+        (set gets n (get_at own (stage.Creating None None))) out
     served_create allowance empty less = (
       ap (λ (i : Option (Slot V)). serve_from i (unwrap_or allowance (length d.idle)) n party pool)
           (next_idle-none d.mode d.idle empty)
@@ -129,7 +130,7 @@ module _ {M V E C R S F A : Type 0} (fixed : Fixed M F A V E C R S) (n : ℕ) (c
     -- no number is left for an object, and its place is free
     served_exhausted : (allowance : Option ℕ) → d.idle ≡ [] → largest_usize ≤ d.next + d.creations
         → (serve {E = E} n party allowance pool ≡ (reply.Failed NumbersExhausted, after (settled d) stage.Finished))
-        × IsCounted (settled d) (set gets n (get_at own stage.Finished)) out
+        × TrialInvariant (settled d) (set gets n (get_at own stage.Finished)) out
     served_exhausted allowance empty more =
         let counted = stood left d stage.Finished (left.owned stage.Finished (λ u. refl)) (omega arith) (omega arith)
         (omega arith) (omega arith) in (
@@ -141,7 +142,7 @@ module _ {M V E C R S F A : Type 0} (fixed : Fixed M F A V E C R S) (n : ℕ) (c
               (ap (put n (party_of (get_at own stage.Finished))) left.unqueued
               ∙ left.named stage.Finished (λ u. refl))
               ∙ ap (λ (q : Pool V C R S F A). (reply.Failed NumbersExhausted, q))
-              (sym (settles fixed d (set gets n (get_at own stage.Finished)) out counted)),
+              (sym (settles setup d (set gets n (get_at own stage.Finished)) out counted)),
           counted_settled d (set gets n (get_at own stage.Finished)) out counted,
         )
 
@@ -150,8 +151,8 @@ module _ {M V E C R S F A : Type 0} (fixed : Fixed M F A V E C R S) (n : ℕ) (c
         (object : Option (Slot V)) (s : Stage V C R S) (t : Turn V E)
         → Serves d allowance object reply d' → AfterServed deadline reply object s t
         → (serve {E = E} n party allowance pool
-        ≡ (reply_to t, image fixed d' (set gets n (get_at own s)) (given t out)))
-        × IsCounted d' (set gets n (get_at own s)) (given t out)
+        ≡ (reply_to t, image setup d' (set gets n (get_at own s)) (given t out)))
+        × TrialInvariant d' (set gets n (get_at own s)) (given t out)
     serves d' allowance deadline (DeskReply.Object more) (Some slot) s t e a =
         rw (a.0, a.1, e.2) (served_object allowance slot more e.0 e.1)
     serves d' allowance deadline DeskReply.Going None s t e a = rw (a.0, a.1, e.2) (served_going allowance e.0 e.1)

@@ -4,8 +4,8 @@ use Rattle.deadpool_replay.proofs.Basics.{Option, Ok, Err, refl, sym, ap, ◌∙
 use Rattle.deadpool_replay.proofs.Basics.{nat_tests, has_number, Gives, Return, ask, ◌>>=◌, Gives-bind}
 use Rattle.deadpool_replay.proofs.Words.{Kept, May, Asking, Detach, Reserve, DeskState}
 use Rattle.deadpool_replay.proofs.Words.{desk_least_idle as least_idle_core, Retained, Reviews, Retains, Getting, Pool}
-use Rattle.deadpool_replay.proofs.Words.{staying, give_up, retain, retain_with, IsCounted, RetainerOf, Slot, Reply}
-use Rattle.deadpool_replay.proofs.Words.{Fixed, image}
+use Rattle.deadpool_replay.proofs.Words.{staying, give_up, retain, retain_with, TrialInvariant, RetainerOf, Slot, Reply}
+use Rattle.deadpool_replay.proofs.Words.{Setup, image}
 use Rattle.deadpool_replay.specs.declared.moves.Reply.TheVariants as reply
 use Rattle.deadpool_replay.proofs.DeskImage.{Gives-same, same_counted}
 
@@ -54,17 +54,17 @@ module _ {V E C R S F A K : Type 0} (may : May V E C R S F A) (memory : (found :
         ),
       )
 
-  module _ {M : Type 0} (fixed : Fixed M F A V E C R S)
+  module _ {M : Type 0} (setup : Setup M F A V E C R S)
       (core core' : DeskState (Slot V)) (gets : List (Option (Getting V C R S))) (out : List (Slot V))
-      (counted : IsCounted core gets out) (some : (core.handles == 0) ≡ false) (r r' : K) (same : stays r) where
+      (counted : TrialInvariant core gets out) (some : (core.handles == 0) ≡ false) (r r' : K) (same : stays r) where
     abbrev before : Pool V C R S F A
-    before = image fixed core gets out
+    before = image setup core gets out
 
     abbrev least : ℕ
     least = least_idle_core core.limit core
 
     abbrev after : Pool V C R S F A
-    after = image fixed core' gets out
+    after = image setup core' gets out
 
     -- what a retain asks, whether a handle is left or not, and whether something is idle or not
     abbrev retaining : Bool → Bool → Asking V E C R S F A (Reply V E × Pool V C R S F A)
@@ -73,9 +73,9 @@ module _ {V E C R S F A K : Type 0} (may : May V E C R S F A) (memory : (found :
         (cond empty (Return (reply.Retained record { retained = 0; removed = [] }, before))
         (ask Reserve >>= retain_with kept before))
 
-    still_counted : (idle : List (Slot V)) → core' ≡ record core { idle = idle } → IsCounted core' gets out
+    still_counted : (idle : List (Slot V)) → core' ≡ record core { idle = idle } → TrialInvariant core' gets out
     still_counted idle is =
-        subst (λ (d : DeskState (Slot V)). IsCounted d gets out) (sym is)
+        subst (λ (d : DeskState (Slot V)). TrialInvariant d gets out) (sym is)
         (same_counted core (record core { idle = idle }) gets out counted refl refl refl refl refl)
 
     kept_some : (idle : List (Slot V)) → core.idle ≡ idle → (given : Retained V) (stay : List (Slot V))
@@ -91,7 +91,7 @@ module _ {V E C R S F A K : Type 0} (may : May V E C R S F A) (memory : (found :
         ap (λ n. let x : Retained V = record { retained = n; removed = [] } in x) (sym (count ∙ ap length nothing)) ∙ ap
         (λ (vs : List V). let x : Retained V = record { retained = given.retained; removed = vs } in x) (sym ran.1) in
         ap (λ (x : Retained V). (reply.Retained x, before)) as_given
-        ∙ ap (λ (d : DeskState (Slot V)). (reply.Retained given, image fixed d gets out)) (sym unchanged)
+        ∙ ap (λ (d : DeskState (Slot V)). (reply.Retained given, image setup d gets out)) (sym unchanged)
     kept_some (s ∷ ss) e given stay ran count is =
         let all = reviewed least (length (s ∷ ss)) (s ∷ ss) r stay given.removed r' same ran in
         let left : List (Slot V) = staying kept least (length core.idle) core.idle in
@@ -104,7 +104,7 @@ module _ {V E C R S F A K : Type 0} (may : May V E C R S F A) (memory : (found :
         (ap length stays ∙ sym count) in
         let as_after : record before { idle = left } ≡ after =
         ap (λ (xs : List (Slot V)). let p : Pool V C R S F A = record before { idle = xs } in p) stays
-        ∙ ap (λ (d : DeskState (Slot V)). image fixed d gets out) (sym is) in
+        ∙ ap (λ (d : DeskState (Slot V)). image setup d gets out) (sym is) in
         rw (busy s ss) (
           true,
           (
@@ -120,7 +120,7 @@ module _ {V E C R S F A K : Type 0} (may : May V E C R S F A) (memory : (found :
         )
 
     pub retained_ok : (given : Retained V) → Retains asks core r (Ok given) core' r'
-        → Gives may (retain kept before) (reply.Retained given, after) × IsCounted core' gets out
+        → Gives may (retain kept before) (reply.Retained given, after) × TrialInvariant core' gets out
     retained_ok given ran = (
       Gives-same may _ (retaining false (length core.idle == 0)) _ (ap (λ b. retaining b (length core.idle == 0)) some)
           (kept_some core.idle refl given ran.0 ran.1 ran.2 ran.3),
@@ -133,13 +133,13 @@ module _ {V E C R S F A K : Type 0} (may : May V E C R S F A) (memory : (found :
     refused_some (s ∷ ss) nonempty unchanged =
         rw (busy s ss) (
           false,
-          (memory false, ap (λ (d : DeskState (Slot V)). (reply.OutOfMemory, image fixed d gets out)) (sym unchanged)),
+          (memory false, ap (λ (d : DeskState (Slot V)). (reply.OutOfMemory, image setup d gets out)) (sym unchanged)),
         )
 
     pub retained_err : (e : AllocError) → Retains asks core r (Err e) core' r'
-        → Gives may (retain kept before) (reply.OutOfMemory, after) × IsCounted core' gets out
+        → Gives may (retain kept before) (reply.OutOfMemory, after) × TrialInvariant core' gets out
     retained_err e ran = (
       Gives-same may _ (retaining false (length core.idle == 0)) _ (ap (λ b. retaining b (length core.idle == 0)) some)
           (refused_some core.idle ran.0 ran.1),
-      subst (λ (d : DeskState (Slot V)). IsCounted d gets out) (sym ran.1) counted,
+      subst (λ (d : DeskState (Slot V)). TrialInvariant d gets out) (sym ran.1) counted,
     )

@@ -6,9 +6,10 @@ use Rattle.deadpool_replay.proofs.Basics.{length-set_n as length-set, last_of, G
 use Rattle.deadpool_replay.proofs.Words.{Kept, party_of, by_party, cancel, advance, Makes, AdvancesFrom, Advanced}
 use Rattle.deadpool_replay.proofs.Words.{Advances, PollsOver, Moment, Timeouts, may, DeskState, Does, LeavesInHand}
 use Rattle.deadpool_replay.proofs.Words.{Getting, Made, CancelsFrom, Pool, find_slot, without_slot, one_step, Polls}
-use Rattle.deadpool_replay.proofs.Words.{is_more, IsWell, IsCounted, given, reply_to, reply_to_back, Slot, ManagerOf}
+use Rattle.deadpool_replay.proofs.Words.{is_more, RunInvariant, TrialInvariant, given}
+use Rattle.deadpool_replay.proofs.Words.{reply_to, reply_to_back, Slot, ManagerOf}
 use Rattle.deadpool_replay.proofs.Words.{SyncHookOf, AsyncHookOf, Stage, Turn, Step, DeskReply, Move, Reply, CoreState}
-use Rattle.deadpool_replay.proofs.Words.{core_desk, own_desk, makes_at_desk, polls_at_desk, Fixed, image, get_at}
+use Rattle.deadpool_replay.proofs.Words.{core_desk, own_desk, makes_at_desk, polls_at_desk, Setup, image, get_at}
 use Rattle.deadpool_managed.specs.declared.get.Turn.TheVariants as turn
 use Rattle.deadpool_replay.specs.declared.moves.Move.TheVariants as move
 use Rattle.deadpool_replay.specs.declared.moves.Reply.TheVariants as reply
@@ -29,7 +30,7 @@ some_handle b n is some = grind (arith, nat_tests)
 -- the objects out have room if the parties have theirs
 pub out_fits : {V C R S : Type 0} (core : DeskState (Slot V)) (gets : List (Option (Getting V C R S))) (n : ℕ)
     (x : Option (Getting V C R S)) (out : List (Slot V)) (len most capacity : ℕ)
-    → IsCounted core (set gets n x) out → len ≡ length gets → len ≤ most → most ≤ capacity → length out ≤ capacity
+    → TrialInvariant core (set gets n x) out → len ≡ length gets → len ≤ most → most ≤ capacity → length out ≤ capacity
 out_fits core gets n x out len most capacity k e l c =
     omega (arith, k.room, length-set gets n x, e, l, c)
 
@@ -48,31 +49,31 @@ party_here gets n get here = slice_get-map party_of gets n ∙ ap (option_map pa
 module _ {M V E C R S F A : Type 0} (m : ManagerOf M V E C R) (f : SyncHookOf F M V E C R)
     (a : AsyncHookOf A M S V E C R) (manager : M) where
   -- what a move leads to is well
-  pub leads_to_well : (mv : Move V) (p q : Pool V C R S F A) (answer : Reply V E) → IsWell p
-      → Gives (may m f a manager) (one_step mv p) (answer, q) → IsWell q
+  pub leads_to_well : (mv : Move V) (p q : Pool V C R S F A) (answer : Reply V E) → RunInvariant p
+      → Gives (may m f a manager) (one_step mv p) (answer, q) → RunInvariant q
   leads_to_well mv p q answer well given =
       (Always-Gives (WellAfter p) (may m f a manager) (one_step mv p) (answer, q) (moved_well E mv p well) given).0
 
-  module _ (fixed : Fixed M F A V E C R S) (n : ℕ) (now : Moment) (own : Timeouts) (out : List (Slot V)) where
+  module _ (setup : Setup M F A V E C R S) (n : ℕ) (now : Moment) (own : Timeouts) (out : List (Slot V)) where
     -- the pool after a turn of the get that the party n has
     abbrev after : DeskState (Slot V) → List (Option (Getting V C R S)) → Stage V C R S → Turn V E → Pool V C R S F A
-    after core gets s t = image fixed core (set gets n (get_at own s)) (given t out)
+    after core gets s t = image setup core (set gets n (get_at own s)) (given t out)
 
     -- one advance of it
     advance_leads : (core core' : DeskState (Slot V)) (gets : List (Option (Getting V C R S))) (old s : Stage V C R S)
-        (t : Turn V E) (made : Made V) → IsCounted core gets out
-        → IsWell (image fixed core gets out) → slice_get gets n ≡ Some (get_at own old)
+        (t : Turn V E) (made : Made V) → TrialInvariant core gets out
+        → RunInvariant (image setup core gets out) → slice_get gets n ≡ Some (get_at own old)
         → Makes core_desk core made core'
-        → AdvancesFrom (may m f a manager) fixed.environment.runtime fixed.environment.hooks now own old made s t
-        → Gives (may m f a manager) (one_step (move.Advance n now) (image fixed core gets out)) (
+        → AdvancesFrom (may m f a manager) setup.environment.runtime setup.environment.hooks now own old made s t
+        → Gives (may m f a manager) (one_step (move.Advance n now) (image setup core gets out)) (
           reply_to t,
           after core' gets s t,
         )
-        × IsCounted core' (set gets n (get_at own s)) (given t out) × IsWell (after core' gets s t)
+        × TrialInvariant core' (set gets n (get_at own s)) (given t out) × RunInvariant (after core' gets s t)
     advance_leads core core' gets old s t made counted well here makes advances =
-        let all = get_advanced (may m f a manager) (λ found. tt) fixed n now core core' gets out own old s t made
+        let all = get_advanced (may m f a manager) (λ found. tt) setup n now core core' gets out own old s t made
         counted well.lawful.nobody_waits here makes advances in
-        let pool = image fixed core gets out in
+        let pool = image setup core gets out in
         let gives = Gives-same (may m f a manager) _ _ _
         (ap (λ y. by_party y (advance n now) pool) (party_here gets n (get_at own old) here)) all.0 in
         (gives, all.1, leads_to_well (move.Advance n now) _ _ _ well gives)
@@ -80,13 +81,14 @@ module _ {M V E C R S F A : Type 0} (m : ManagerOf M V E C R) (f : SyncHookOf F 
     -- a poll of it, by the states that its advances pass
     poll_leads : (core core' : DeskState (Slot V)) (gets : List (Option (Getting V C R S))) (old s : Stage V C R S)
         (t : Turn V E) (steps : List (Advanced (DeskState (Slot V)) V C R S))
-        → IsCounted core gets out → IsWell (image fixed core gets out) → slice_get gets n ≡ Some (get_at own old)
-        → Advances core_desk (may m f a manager) fixed.environment.runtime fixed.environment.hooks now own core old
+        → TrialInvariant core gets out → RunInvariant (image setup core gets out) → slice_get gets n
+        ≡ Some (get_at own old)
+        → Advances core_desk (may m f a manager) setup.environment.runtime setup.environment.hooks now own core old
         steps core' s t
         → ((passed : List (Pool V C R S F A))
-        × Polls (may m f a manager) n now (image fixed core gets out) passed (reply_to t)
-        × (after core' gets s t ≡ last_of (image fixed core gets out) passed))
-        × IsCounted core' (set gets n (get_at own s)) (given t out) × IsWell (after core' gets s t)
+        × Polls (may m f a manager) n now (image setup core gets out) passed (reply_to t)
+        × (after core' gets s t ≡ last_of (image setup core gets out) passed))
+        × TrialInvariant core' (set gets n (get_at own s)) (given t out) × RunInvariant (after core' gets s t)
     poll_leads core core' gets old s t [] counted well here ran = absurd ran
     poll_leads core core' gets old s t (x ∷ []) counted well here ran =
         let all = advance_leads core x.desk gets old x.stage t x.made counted well here ran.0 ran.1 in
@@ -101,11 +103,11 @@ module _ {M V E C R S F A : Type 0} (m : ManagerOf M V E C R) (f : SyncHookOf F 
           rest.2,
         )
 
-  module _ (fixed : Fixed M F A V E C R S) (core core' : CoreState (Kept V)) (gets : List (Option (Getting V C R S)))
-      (out : List (Slot V)) (counted : IsCounted core.desk gets out)
-      (well : IsWell (image fixed core.desk gets out)) (n : ℕ) where
+  module _ (setup : Setup M F A V E C R S) (core core' : CoreState (Kept V)) (gets : List (Option (Getting V C R S)))
+      (out : List (Slot V)) (counted : TrialInvariant core.desk gets out)
+      (well : RunInvariant (image setup core.desk gets out)) (n : ℕ) where
     abbrev pool : Pool V C R S F A
-    pool = image fixed core.desk gets out
+    pool = image setup core.desk gets out
 
     -- A get that is there, and keeps its timeouts
     module _ (now : Moment) (g g' : Getting V C R S) (t : Turn V E) (here : slice_get gets n ≡ Some (Some g))
@@ -116,46 +118,46 @@ module _ {M V E C R S F A : Type 0} (m : ManagerOf M V E C R) (f : SyncHookOf F 
 
       -- is advanced
       pub advanced : (made : Made V) → Makes own_desk core made core'
-          → AdvancesFrom (may m f a manager) fixed.environment.runtime fixed.environment.hooks now g.timeouts g.stage
+          → AdvancesFrom (may m f a manager) setup.environment.runtime setup.environment.hooks now g.timeouts g.stage
           made g'.stage t
-          → Gives (may m f a manager) (one_step (move.Advance n now) (image fixed core.desk gets out)) (
+          → Gives (may m f a manager) (one_step (move.Advance n now) (image setup core.desk gets out)) (
             reply_to t,
-            image fixed core'.desk (set gets n (Some g')) (given t out),
+            image setup core'.desk (set gets n (Some g')) (given t out),
           )
-          × IsCounted core'.desk (set gets n (Some g')) (given t out)
-          × IsWell (image fixed core'.desk (set gets n (Some g')) (given t out))
+          × TrialInvariant core'.desk (set gets n (Some g')) (given t out)
+          × RunInvariant (image setup core'.desk (set gets n (Some g')) (given t out))
       advanced made makes advances =
           rw still at
-          (advance_leads fixed n now g.timeouts out core.desk core'.desk gets g.stage g'.stage t made counted well
+          (advance_leads setup n now g.timeouts out core.desk core'.desk gets g.stage g'.stage t made counted well
           here (makes_at_desk core core' made makes) advances)
 
       -- or polled
-      pub polled : PollsOver own_desk (may m f a manager) fixed.environment.runtime fixed.environment.hooks now
+      pub polled : PollsOver own_desk (may m f a manager) setup.environment.runtime setup.environment.hooks now
           g.timeouts core g.stage core' g'.stage t
           → ((passed : List (Pool V C R S F A))
-          × Polls (may m f a manager) n now (image fixed core.desk gets out) passed (reply_to t)
-          × (image fixed core'.desk (set gets n (Some g')) (given t out)
-          ≡ last_of (image fixed core.desk gets out) passed))
-          × IsCounted core'.desk (set gets n (Some g')) (given t out)
-          × IsWell (image fixed core'.desk (set gets n (Some g')) (given t out))
+          × Polls (may m f a manager) n now (image setup core.desk gets out) passed (reply_to t)
+          × (image setup core'.desk (set gets n (Some g')) (given t out)
+          ≡ last_of (image setup core.desk gets out) passed))
+          × TrialInvariant core'.desk (set gets n (Some g')) (given t out)
+          × RunInvariant (image setup core'.desk (set gets n (Some g')) (given t out))
       polled ran =
           let steps =
-          polls_at_desk (may m f a manager) fixed.environment.runtime fixed.environment.hooks now g.timeouts g'.stage
+          polls_at_desk (may m f a manager) setup.environment.runtime setup.environment.hooks now g.timeouts g'.stage
           t core core' g.stage ran in
           rw still at
-          (poll_leads fixed n now g.timeouts out core.desk core'.desk gets g.stage g'.stage t steps.0 counted well
+          (poll_leads setup n now g.timeouts out core.desk core'.desk gets g.stage g'.stage t steps.0 counted well
           here steps.1)
 
     -- the party n is cancelled
     pub cancelled : (g : Getting V C R S) (made : Made V) → slice_get gets n ≡ Some (Some g)
         → Makes own_desk core made core' → CancelsFrom (may m f a manager) g.stage made
-        → Gives (may m f a manager) (one_step (move.Cancel n) (image fixed core.desk gets out)) (
+        → Gives (may m f a manager) (one_step (move.Cancel n) (image setup core.desk gets out)) (
           reply.Cancelled,
-          image fixed core'.desk (set gets n None) out,
+          image setup core'.desk (set gets n None) out,
         )
-        × IsCounted core'.desk (set gets n None) out × IsWell (image fixed core'.desk (set gets n None) out)
+        × TrialInvariant core'.desk (set gets n None) out × RunInvariant (image setup core'.desk (set gets n None) out)
     cancelled g made here makes gives_back =
-        let all = get_cancelled (may m f a manager) fixed n core.desk core'.desk gets out g.timeouts counted
+        let all = get_cancelled (may m f a manager) setup n core.desk core'.desk gets out g.timeouts counted
         well.lawful.nobody_waits g.stage made here (makes_at_desk core core' made makes) gives_back in
         let done = Gives-same (may m f a manager) _ _ _
         (ap (λ y. by_party y (cancel n) pool) (party_here gets n (Some g) here)) all.0 in
@@ -166,12 +168,13 @@ module _ {M V E C R S F A : Type 0} (m : ManagerOf M V E C R) (f : SyncHookOf F 
         → find_slot n out ≡ Some slot → Does core.desk Step.Back (Some slot) r core'.desk
         → LeavesInHand r (Some slot) hand
         → Gives (may m f a manager) (reply_to_back r hand) answer
-        → Gives (may m f a manager) (one_step (move.Back n) (image fixed core.desk gets out)) (
+        → Gives (may m f a manager) (one_step (move.Back n) (image setup core.desk gets out)) (
           answer,
-          image fixed core'.desk gets (without_slot n out),
+          image setup core'.desk gets (without_slot n out),
         )
-        × IsCounted core'.desk gets (without_slot n out) × IsWell (image fixed core'.desk gets (without_slot n out))
+        × TrialInvariant core'.desk gets (without_slot n out)
+        × RunInvariant (image setup core'.desk gets (without_slot n out))
     came_back slot r hand answer here does left given =
-        let all = backs (may m f a manager) fixed core.desk core'.desk gets out n slot counted here r hand answer does
+        let all = backs (may m f a manager) setup core.desk core'.desk gets out n slot counted here r hand answer does
         left given in
         (all.0, all.1, leads_to_well (move.Back n) _ _ _ well all.0)

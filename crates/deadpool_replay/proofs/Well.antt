@@ -5,7 +5,8 @@ use Rattle.deadpool_replay.proofs.Basics.{sym, ap, ◌∙◌, arith, inl, inr, �
 use Rattle.deadpool_replay.proofs.Basics.{cases_Bool, and_parts, eqb-true, eqb_tells, nil_from_length, has_number}
 use Rattle.deadpool_replay.proofs.Basics.{Always, one_if}
 use Rattle.deadpool_replay.proofs.Words.{WithinReach, reach, QueueMode, Timeouts, Runtime, HookLists, Pool, Party}
-use Rattle.deadpool_replay.proofs.Words.{opened, one_step, IsLawful, is_queued, numbers, IsNumbered, IsWell, CountsOn}
+use Rattle.deadpool_replay.proofs.Words.{bounded, opened, one_step, PoolInvariant, is_queued}
+use Rattle.deadpool_replay.proofs.Words.{numbers, IsNumbered, RunInvariant, CountsOn}
 use Rattle.deadpool_replay.proofs.Words.{Succeeds, sets_limit, named, may_leave, OthersStayQueued, OthersStand, Slot}
 use Rattle.deadpool_replay.proofs.Words.{Move, Reply}
 use Rattle.deadpool_replay.proofs.NumberCounts.{times, times-none, times-some, times-once, once-times, held}
@@ -79,7 +80,7 @@ is_name (Some k) n = elim (eqb_tells k n) [ inl same ↦ inl (ap Some same.1) | 
 
 module _ {V C R S F A : Type 0} where
   -- if the others are as they were, those that were queued are
-  pub others_stay_queued : (m : Move V) (p q : Pool V C R S F A) → IsLawful p → IsLawful q → OthersStand m p q
+  pub others_stay_queued : (m : Move V) (p q : Pool V C R S F A) → PoolInvariant p → PoolInvariant q → OthersStand m p q
       → OthersStayQueued m p q
   others_stay_queued m p q l k others n there gone =
       elim (is_name (named m) n) [
@@ -113,8 +114,8 @@ module _ {V C R S F A : Type 0} where
       ))
 
   -- a step that has so much leads from a pool that is well to one that is well and succeeds it
-  passes_well : (sets : Bool) (name : Option ℕ) (leaving : List (Slot V)) (p q : Pool V C R S F A) → IsWell p
-      → IsLawful q → Passes sets name leaving p q → IsWell q × Succeeds p q
+  passes_well : (sets : Bool) (name : Option ℕ) (leaving : List (Slot V)) (p q : Pool V C R S F A) → RunInvariant p
+      → PoolInvariant q → Passes sets name leaving p q → RunInvariant q × Succeeds p q
   passes_well sets name leaving p q w l s =
       let few = s.few_idle w.few_idle in (
         record {
@@ -127,11 +128,12 @@ module _ {V C R S F A : Type 0} where
         record { counted = counts_on sets name leaving p q w.numbered s; queued = s.order },
       )
 
-  pub opened_well : (limit : ℕ) (mode : QueueMode) (runtime : Option Runtime) (hooks : HookLists F A)
-      (timeouts : Timeouts) (first most floor : ℕ)
-      → IsWell (opened {V = V} {C = C} {R = R} {S = S} limit mode runtime hooks timeouts first most floor)
-  opened_well limit mode runtime hooks timeouts first most floor = record {
-    lawful = record { once = tt; marks = λ n. refl; nobody_waits = λ opens free. refl };
+  pub opened_well : (max_waiting : Option ℕ) (limit : ℕ) (mode : QueueMode) (runtime : Option Runtime)
+      (hooks : HookLists F A) (timeouts : Timeouts) (first most min_idle : ℕ)
+      → RunInvariant (bounded max_waiting
+      (opened {V = V} {C = C} {R = R} {S = S} limit mode runtime hooks timeouts first most min_idle))
+  opened_well max_waiting limit mode runtime hooks timeouts first most min_idle = record {
+    lawful = record { once = tt; marks = λ n. refl; nobody_waits = λ opens free. refl; few_waiting = omega arith };
     few_idle = omega arith;
     closed = λ shut. cc;
     numbered = record { once = tt; given = λ n h. cc; rising = omega arith };
@@ -140,10 +142,10 @@ module _ {V C R S F A : Type 0} where
 module _ {V E C R S F A : Type 0} where
   -- the pool after a step is well, succeeds p, and is within its reach
   abbrev pub WellAfter : Pool V C R S F A → Reply V E × Pool V C R S F A → Type 0
-  WellAfter p x = IsWell x.1 × Succeeds p x.1 × WithinReach p x.1
+  WellAfter p x = RunInvariant x.1 × Succeeds p x.1 × WithinReach p x.1
 
   -- what a move has leads from a pool that is well to such a one
-  pub well_after : (m : Move V) (p : Pool V C R S F A) (x : Reply V E × Pool V C R S F A) → IsWell p → Moved p m x
+  pub well_after : (m : Move V) (p : Pool V C R S F A) (x : Reply V E × Pool V C R S F A) → RunInvariant p → Moved p m x
       → WellAfter p x
   well_after m p x w h =
       let all = passes_well (sets_limit m) (named m) (may_leave m p) p x.1 w (Follows-lawful (reach p) x.1 h.0) h.1 in
@@ -151,6 +153,6 @@ module _ {V E C R S F A : Type 0} where
 
 module _ {V C R S F A : Type 0} (E : Type 0) where
   -- a pool that is well stays so by any move
-  pub moved_well : (m : Move V) (p : Pool V C R S F A) → IsWell p → Always (WellAfter {E = E} p) (one_step m p)
+  pub moved_well : (m : Move V) (p : Pool V C R S F A) → RunInvariant p → Always (WellAfter {E = E} p) (one_step m p)
   moved_well m p w =
       Always-more (Moved p m) (WellAfter p) (λ x h. well_after m p x w h) (one_step m p) (moved_has E p w.lawful m)

@@ -1,21 +1,23 @@
 -- The words of a pool, its desk and its gets that the proofs cite, passed on from one place, and a get at a stage.
 use Rattle.deadpool_replay.proofs.Basics.{Option, Some}
-pub use Rattle.deadpool_replay.specs.Image.{party_of, standing_of, IsCounted, has_ticket, queue_of, is_under_way, image}
-pub use Rattle.deadpool_replay.specs.Laws.{IsLawful, queue, is_queued, waits_at, MarksQueued}
+pub use Rattle.deadpool_replay.specs.Image.{party_of, standing_of, TrialInvariant, has_ticket}
+pub use Rattle.deadpool_replay.specs.Image.{queue_of, is_under_way, image}
+pub use Rattle.deadpool_replay.specs.Laws.{PoolInvariant, queue, is_queued, waits_at, MarksQueued}
 pub use Rattle.deadpool_replay.specs.Moves.{one_step, by_party, resize, staying, give_up, retain_with, retain}
-pub use Rattle.deadpool_replay.specs.Moves.{by_handle, started, put_at, back_at, take_at, NobodyWaits, Polls, is_more}
+pub use Rattle.deadpool_replay.specs.Moves.{by_handle, started, put_at, back_at, take_at, NobodyWaits, WaitsWithin}
+pub use Rattle.deadpool_replay.specs.Moves.{Polls, is_more}
 pub use Rattle.deadpool_replay.specs.Moves.{MakesMove, PoolRuns, WithinReach, stays}
 pub use Rattle.deadpool_replay.specs.Party.{created, reviewed, checked, hand_out, advance_at, cancel, advance, enter}
 pub use Rattle.deadpool_replay.specs.Party.{inquire, joined, go_on_creating, cancel_with}
 pub use Rattle.deadpool_replay.specs.Pool.{Pool, Party, size, prepared_at, is_going, is_creating, prepared_by, settle}
 pub use Rattle.deadpool_replay.specs.Pool.{least_idle, unpolled, reach, status_of, grants, places, pending, Standing}
 pub use Rattle.deadpool_replay.specs.Pool.{queued, going, preparing, goes, creates, creating, recycling, checking}
-pub use Rattle.deadpool_replay.specs.Pool.{finished, creating_count, opened}
+pub use Rattle.deadpool_replay.specs.Pool.{finished, creating_count, bounded, opened}
 pub use Rattle.deadpool_replay.specs.RunLaws.{LeavesEnough, IsOutIfGiven, IsIdleIfKept, HasFewIdle, prepared_in}
 pub use Rattle.deadpool_replay.specs.RunLaws.{sets_limit, named, may_leave, numbers, places_from, is_preparing, listed}
-pub use Rattle.deadpool_replay.specs.RunLaws.{IsListedOnce, EachReply, IsWell, Succeeds, NoneReturns, EachState}
+pub use Rattle.deadpool_replay.specs.RunLaws.{IsListedOnce, EachReply, RunInvariant, Succeeds, NoneReturns, EachState}
 pub use Rattle.deadpool_replay.specs.RunLaws.{EachStep, EachLater, EachMove, EndsWell, StaysWithin, IsNumbered}
-pub use Rattle.deadpool_replay.specs.RunLaws.{CountsOn, OthersStayQueued, OthersStand, IsEmptyIfClosed, KeepsFloor}
+pub use Rattle.deadpool_replay.specs.RunLaws.{CountsOn, OthersStayQueued, OthersStand, IsEmptyIfClosed, KeepsMinIdle}
 pub use Rattle.deadpool_replay.specs.RunLaws.{OthersStayInPool, KeepsQueue}
 pub use Rattle.deadpool_replay.specs.Steps.{fail, rest, go_on, with_slot, slot_number, find_slot, without_slot}
 pub use Rattle.deadpool_replay.specs.Steps.{given_up, resized, with_put, closed, cloned, handle_dropped, removed}
@@ -24,7 +26,7 @@ pub use Rattle.deadpool_replay.specs.TrialFields.{given, reply_to, IsTaken, repl
 pub use Rattle.deadpool_replay.specs.TrialFields.{reply_to_owner}
 pub use Rattle.deadpool_replay.specs.declared.moves.Move.{Move}
 pub use Rattle.deadpool_replay.specs.declared.moves.Reply.{Reply}
-pub use Rattle.deadpool_replay.specs.declared.trial.Fixed.{Fixed}
+pub use Rattle.deadpool_replay.specs.declared.trial.Setup.{Setup}
 pub use Rattle.deadpool_replay.specs.declared.trial.owner.Keeping.{Keeping}
 pub use Rattle.deadpool_managed.proofs.CoreDesk.{core_desk, own_desk, makes_at_desk}
 pub use Rattle.deadpool_managed.proofs.CorePolls.{polls_at_desk}
@@ -72,6 +74,7 @@ pub use Rattle.deadpool_parts.specs.declared.config.QueueMode.TheVariants.{Fifo,
 pub use Rattle.deadpool_parts.specs.declared.config.Timeouts.{Timeouts}
 pub use Rattle.deadpool_parts.specs.declared.errors.PoolError.{PoolError}
 pub use Rattle.deadpool_parts.specs.declared.errors.PoolError.TheVariants.{Timeout, Backend, NoRuntimeSpecified}
+pub use Rattle.deadpool_parts.specs.declared.errors.PoolError.TheVariants.{Crowded}
 pub use Rattle.deadpool_parts.specs.declared.errors.PoolError.TheVariants.{PostCreateHook, Closed, OutOfMemory}
 pub use Rattle.deadpool_parts.specs.declared.errors.PoolError.TheVariants.{NumbersExhausted}
 pub use Rattle.deadpool_parts.specs.declared.errors.RecycleError.{RecycleError}

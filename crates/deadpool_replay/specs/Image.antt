@@ -1,7 +1,7 @@
 -- The pool in lists that a core, its gets and the objects out stand for.
 use Rattle.std.specs.Prelude.{ℕ, ◌+◌, ◌≤◌, ◌≡◌, List, length, map, Option, Some, None, Bool, true, false, ◌==◌}
 use Rattle.std.specs.List.{filter, filter_map}
-use Rattle.deadpool_gate.specs.Owners.{owner, IsOwned}
+use Rattle.deadpool_gate.specs.Owners.{owner, TicketsMatch}
 use Rattle.deadpool_gate.specs.Queue.{Queue}
 use Rattle.deadpool_desk.specs.DeskState.{DeskState}
 use Rattle.deadpool_managed.specs.Stages.{Getting, Stage}
@@ -9,7 +9,7 @@ use Rattle.deadpool_replay.specs.Pool.{Pool, Party, Standing, unpolled, queued, 
 use Rattle.deadpool_replay.specs.Pool.{finished, is_going, is_creating, prepared_by}
 use Rattle.deadpool_managed.specs.Slots.{Slot}
 use Rattle.deadpool_managed.specs.Stages as stage
-use Rattle.deadpool_replay.specs.declared.trial.Fixed.{Fixed}
+use Rattle.deadpool_replay.specs.declared.trial.Setup.{Setup}
 
 module _ {V : Type 0} where
   -- a desk's queue
@@ -49,30 +49,31 @@ module _ {V C R S : Type 0} where
       not_finished _ = true
 
   -- The desk's counts are the lengths of the lists, and the objects out have room if the parties have theirs.
-  pub record IsCounted (d : DeskState (Slot V)) (gets : List (Option (Getting V C R S))) (out : List (Slot V)) :
+  pub record TrialInvariant (d : DeskState (Slot V)) (gets : List (Option (Getting V C R S))) (out : List (Slot V)) :
       Type 0 where
-    pub tickets : IsOwned has_ticket (queue_of d) gets
+    pub tickets : TicketsMatch has_ticket (queue_of d) gets
     pub going : d.going ≡ length (filter is_going (map party_of gets))
     pub creations : d.creations ≡ length (filter is_creating (map party_of gets))
     pub outside : d.outside ≡ length (filter_map prepared_by (map party_of gets)) + length out
     pub room : length out + length (filter is_under_way gets) ≤ length gets
 
 -- the pool of a desk, of its gets and of the objects out, with what never changes
-abbrev pub image : {M V E C R S F A : Type 0} → Fixed M F A V E C R S → DeskState (Slot V)
+abbrev pub image : {M V E C R S F A : Type 0} → Setup M F A V E C R S → DeskState (Slot V)
     → List (Option (Getting V C R S)) → List (Slot V) → Pool V C R S F A
-image fixed d gets out = record {
+image setup d gets out = record {
   limit = d.limit;
   is_open = d.is_open;
   mode = d.mode;
-  runtime = fixed.environment.runtime;
-  hooks = fixed.environment.hooks;
-  floor = d.floor;
+  runtime = setup.environment.runtime;
+  hooks = setup.environment.hooks;
+  min_idle = d.min_idle;
+  max_waiting = d.max_waiting;
   handles = d.handles;
-  first = fixed.first;
+  first = setup.first;
   next = d.next;
   reserve = d.reserve;
-  timeouts = fixed.timeouts;
-  most_parties = fixed.most_parties;
+  timeouts = setup.timeouts;
+  most_parties = setup.most_parties;
   parties = map party_of gets;
   idle = d.idle;
   waiting = map (owner has_ticket gets) d.waiting;

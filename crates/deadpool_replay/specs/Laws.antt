@@ -3,7 +3,7 @@ use Rattle.std.specs.Prelude.{ℕ, ◌≡◌, ◌++◌, List, Bool, true, false,
 use Rattle.deadpool_gate.specs.Numbers.{has_number}
 use Rattle.deadpool_gate.specs.Orders.{IsOnce}
 use Rattle.deadpool_replay.specs.Pool.{Pool, Party, Standing, queued}
-use Rattle.deadpool_replay.specs.Moves.{NobodyWaits}
+use Rattle.deadpool_replay.specs.Moves.{NobodyWaits, WaitsWithin}
 
 module _ {V C R S : Type 0} where
   abbrev pub waits_at : Standing V C R S → Bool
@@ -23,7 +23,8 @@ module _ {V C R S F A : Type 0} where
   abbrev pub MarksQueued : Pool V C R S F A → Type 0
   MarksQueued p = (n : ℕ) → has_number n (queue p) ≡ is_queued (slice_get p.parties n)
 
-  pub record IsLawful (p : Pool V C R S F A) : Type 0 where
+  pub record PoolInvariant (p : Pool V C R S F A) : Type 0 where
     pub once : IsOnce (queue p)
     pub marks : MarksQueued p
     pub nobody_waits : NobodyWaits p
+    pub few_waiting : WaitsWithin p

@@ -17,6 +17,8 @@ pub mod ScriptsPreparation
 pub mod ScriptsTimeouts
 pub mod ScriptsOwnSteps
 pub mod ScriptsMinIdle
+pub mod ScriptsMaxWaiting
+pub mod ScriptsClosing
 -- How the fields of a trial are seen as the machine. No contract of another crate cites them.
 pub mod TrialFields
 pub mod Image

@@ -157,6 +157,10 @@ module _ {V C R S F A : Type 0} where
   abbrev pub NobodyWaits : Pool V C R S F A → Type 0
   NobodyWaits p = p.is_open ≡ true → places p < p.limit → p.waiting ≡ []
 
+  -- no more wait than may
+  abbrev pub WaitsWithin : Pool V C R S F A → Type 0
+  WaitsWithin p = length p.waiting ≤ p.max_waiting
+
   -- from one state to the next, reach rises only as far as the limit
   abbrev pub WithinReach : Pool V C R S F A → Pool V C R S F A → Type 0
   WithinReach p q = reach q ≤ max q.limit (reach p)

@@ -1,6 +1,6 @@
 -- What one advance of a party does, by where it stands, and what its cancelling does.
 use Rattle.std.specs.Prelude.{ℕ, ◌+◌, Bool, true, false, [], ◌∷◌, ◌++◌, Option, Some, None, Result, Ok, Err}
-use Rattle.std.specs.Prelude.{if◌then◌else◌, nat_lt, not}
+use Rattle.std.specs.Prelude.{if◌then◌else◌, length, nat_lt, nat_le, not}
 use Rattle.futures.specs.declared.task.Poll.{Poll}
 use Rattle.futures.specs.declared.task.Poll.TheVariants as poll
 use Rattle.deadpool_parts.specs.Moments.{deadline_after, is_reached, lacks_runtime, cannot_wait}
@@ -8,7 +8,7 @@ use Rattle.deadpool_gate.specs.Numbers.{has_number}
 use Rattle.deadpool_parts.specs.Program.{Return, ask, ◌>>=◌}
 use Rattle.deadpool_parts.specs.declared.moment.Moment.{Moment}
 use Rattle.deadpool_parts.specs.declared.errors.PoolError.TheVariants.{Timeout, Backend, Closed, NoRuntimeSpecified}
-use Rattle.deadpool_parts.specs.declared.errors.PoolError.TheVariants.{PostCreateHook, OutOfMemory}
+use Rattle.deadpool_parts.specs.declared.errors.PoolError.TheVariants.{PostCreateHook, Crowded, OutOfMemory}
 use Rattle.deadpool_parts.specs.declared.errors.TimeoutType.TheVariants as phase
 use Rattle.deadpool_managed.specs.Calls.{start}
 use Rattle.deadpool_managed.specs.Metrics.{new_metrics}
@@ -39,6 +39,7 @@ module _ {V E C R S F A : Type 0} where
       else if not p.is_open then Return (fail n party Closed p)
       else if nat_lt (places p) p.limit then Return (serve n party None p)
       else if is_reached deadline now then Return (fail n party (Timeout phase.Wait) p)
+      else if nat_le p.max_waiting (length p.waiting) then Return (fail n party Crowded p)
       else (ask Reserve >>= λ found. Return (joined n party deadline p found))
 
   -- a later poll of a party that waits or was granted a place

@@ -1,6 +1,6 @@
 -- The state of a managed pool, in lists. Every count is a length.
 use Rattle.std.specs.Prelude.{ℕ, ◌+◌, ◌-◌, min, max, Bool, true, false, List, [], length, ◌++◌, take, drop, Option}
-use Rattle.std.specs.Prelude.{Some, None, if◌then◌else◌}
+use Rattle.std.specs.Prelude.{Some, None, if◌then◌else◌, unwrap_or}
 use Rattle.std.specs.List.{filter, filter_map}
 use Rattle.deadpool_gate.specs.Numbers.{largest_usize}
 use Rattle.deadpool_parts.specs.declared.moment.Moment.{Moment}
@@ -42,7 +42,9 @@ pub record Pool (V C R S F A : Type 0) : Type 0 where
   pub runtime : Option Runtime
   pub hooks : HookLists F A
   -- how many objects a smaller limit and a retain leave idle, if as many are
-  pub floor : ℕ
+  pub min_idle : ℕ
+  -- how many parties may wait
+  pub max_waiting : ℕ
   pub handles : ℕ
   -- the number that the first object got, and the one that the next object gets
   pub first : ℕ
@@ -92,16 +94,17 @@ module _ {V C R S : Type 0} where
   prepared_by (Some party) = prepared_at party.standing
 
 module _ {V C R S F A : Type 0} where
-  -- a new pool: nothing idle or asked for, and one handle
+  -- a new pool: nothing idle or asked for, one handle, and no bound on those that wait
   abbrev pub opened : ℕ → QueueMode → Option Runtime → HookLists F A → Timeouts → ℕ → ℕ → ℕ → Pool V C R S F A
-  opened limit mode runtime hooks timeouts first most_parties floor =
+  opened limit mode runtime hooks timeouts first most_parties min_idle =
       record {
         limit = limit;
         is_open = true;
         mode = mode;
         runtime = runtime;
         hooks = hooks;
-        floor = floor;
+        min_idle = min_idle;
+        max_waiting = largest_usize;
         handles = 1;
         first = first;
         next = first;
@@ -114,6 +117,10 @@ module _ {V C R S F A : Type 0} where
         granted = [];
         out = [];
       }
+
+  -- with a bound on those that wait, or with none
+  abbrev pub bounded : Option ℕ → Pool V C R S F A → Pool V C R S F A
+  bounded most p = record p { max_waiting = unwrap_or most largest_usize }
 
   abbrev pub going_count : Pool V C R S F A → ℕ
   going_count p = length (filter is_going p.parties)
@@ -135,7 +142,7 @@ module _ {V C R S F A : Type 0} where
 
   -- how many objects stay idle at this limit, if as many are
   abbrev pub least_idle : ℕ → Pool V C R S F A → ℕ
-  least_idle n p = min p.floor n
+  least_idle n p = min p.min_idle n
 
   -- gets that were polled and hold no object
   abbrev pub pending : Pool V C R S F A → ℕ

@@ -11,10 +11,10 @@ use Rattle.deadpool_parts.specs.declared.moment.Runtime.{Runtime}
 use Rattle.deadpool_managed.specs.HookLists.{HookLists}
 use Rattle.deadpool_managed.specs.Outside.{May}
 use Rattle.deadpool_replay.specs.Pool.{Pool, Party, opened, is_going, is_creating, prepared_by, preparing, size}
-use Rattle.deadpool_replay.specs.Pool.{least_idle, reach}
+use Rattle.deadpool_replay.specs.Pool.{bounded, least_idle, reach}
 use Rattle.deadpool_replay.specs.Steps.{given_up}
 use Rattle.deadpool_replay.specs.Moves.{MakesMove, PoolRuns}
-use Rattle.deadpool_replay.specs.Laws.{IsLawful, queue}
+use Rattle.deadpool_replay.specs.Laws.{PoolInvariant, queue}
 use Rattle.deadpool_managed.specs.Slots.{Slot}
 use Rattle.deadpool_replay.specs.declared.moves.Move.{Move}
 use Rattle.deadpool_replay.specs.declared.moves.Move.TheVariants as move
@@ -60,8 +60,8 @@ module _ {V C R S F A : Type 0} where
   IsListedOnce p = IsOnce (listed p)
 
   -- what is true of every state of a run from a new pool
-  pub record IsWell (p : Pool V C R S F A) : Type 0 where
-    pub lawful : IsLawful p
+  pub record RunInvariant (p : Pool V C R S F A) : Type 0 where
+    pub lawful : PoolInvariant p
     pub few_idle : HasFewIdle p
     pub closed : IsEmptyIfClosed p
     pub numbered : IsNumbered p
@@ -88,9 +88,10 @@ module _ {V C R S F A : Type 0} where
 
 -- a new pool is well
 abbrev pub OpensWell : (V C R S F A : Type 0) → Type 0
-OpensWell V C R S F A = (limit : ℕ) (mode : QueueMode) (runtime : Option Runtime) (hooks : HookLists F A)
-    (timeouts : Timeouts) (first most floor : ℕ)
-    → IsWell (opened {V = V} {C = C} {R = R} {S = S} limit mode runtime hooks timeouts first most floor)
+OpensWell V C R S F A = (max_waiting : Option ℕ) (limit : ℕ) (mode : QueueMode) (runtime : Option Runtime)
+    (hooks : HookLists F A) (timeouts : Timeouts) (first most min_idle : ℕ)
+    → RunInvariant (bounded max_waiting
+    (opened {V = V} {C = C} {R = R} {S = S} limit mode runtime hooks timeouts first most min_idle))
 
 -- the move may give the pool another limit
 abbrev pub sets_limit : {V : Type 0} → Move V → Bool
@@ -165,8 +166,8 @@ module _ {V C R S F A : Type 0} where
       → slice_get q.parties n ≡ Some party
 
   -- how many objects are to stay idle is as it was
-  abbrev pub KeepsFloor : Move V → Pool V C R S F A → Pool V C R S F A → Type 0
-  KeepsFloor m p q = q.floor ≡ p.floor
+  abbrev pub KeepsMinIdle : Move V → Pool V C R S F A → Pool V C R S F A → Type 0
+  KeepsMinIdle m p q = q.min_idle ≡ p.min_idle
 
   -- a resize and a retain leave as many idle as are to stay at the limit after them, if as many were
   abbrev pub LeavesEnough : Move V → Pool V C R S F A → Pool V C R S F A → Type 0
@@ -190,39 +191,41 @@ module _ {V E C R S F A : Type 0} (may : May V E C R S F A) where
   abbrev pub EachState : (Pool V C R S F A → Type 0) → Type 0
   EachState P = (moves : List (Move V)) (p after : Pool V C R S F A) (passed : List (List (Pool V C R S F A)))
       (answers : List (Reply V E))
-      → IsWell p → PoolRuns may p moves passed answers after → Each P (all_states p passed)
+      → RunInvariant p → PoolRuns may p moves passed answers after → Each P (all_states p passed)
 
   -- P holds of each two neighbours in every such run
   abbrev pub EachStep : (Pool V C R S F A → Pool V C R S F A → Type 0) → Type 0
   EachStep P = (moves : List (Move V)) (p after : Pool V C R S F A) (passed : List (List (Pool V C R S F A)))
       (answers : List (Reply V E))
-      → IsWell p → PoolRuns may p moves passed answers after → Neighbours P (all_states p passed)
+      → RunInvariant p → PoolRuns may p moves passed answers after → Neighbours P (all_states p passed)
 
   -- P holds of each state of every such run and each later one
   abbrev pub EachLater : (Pool V C R S F A → Pool V C R S F A → Type 0) → Type 0
   EachLater P = (moves : List (Move V)) (p after : Pool V C R S F A) (passed : List (List (Pool V C R S F A)))
       (answers : List (Reply V E))
-      → IsWell p → PoolRuns may p moves passed answers after → Later P (all_states p passed)
+      → RunInvariant p → PoolRuns may p moves passed answers after → Later P (all_states p passed)
 
   -- P holds of each two neighbours among a state that is well and those that one move passes from it
   abbrev pub EachMove : (Move V → Pool V C R S F A → Pool V C R S F A → Type 0) → Type 0
-  EachMove P = (m : Move V) (p : Pool V C R S F A) (passed : List (Pool V C R S F A)) (answer : Reply V E) → IsWell p
+  EachMove P = (m : Move V) (p : Pool V C R S F A) (passed : List (Pool V C R S F A)) (answer : Reply V E)
+      → RunInvariant p
       → MakesMove may p m passed answer → Neighbours (P m) (p ∷ passed)
 
   -- P holds of each move, its reply and the last state that it passes, from a state that is well
   abbrev pub EachReply : (Move V → Reply V E → Pool V C R S F A → Type 0) → Type 0
-  EachReply P = (m : Move V) (p : Pool V C R S F A) (passed : List (Pool V C R S F A)) (answer : Reply V E) → IsWell p
+  EachReply P = (m : Move V) (p : Pool V C R S F A) (passed : List (Pool V C R S F A)) (answer : Reply V E)
+      → RunInvariant p
       → MakesMove may p m passed answer → P m answer (last_of p passed)
 
   -- every such run ends well
   abbrev pub EndsWell : Type 0
   EndsWell = (moves : List (Move V)) (p after : Pool V C R S F A) (passed : List (List (Pool V C R S F A)))
       (answers : List (Reply V E))
-      → IsWell p → PoolRuns may p moves passed answers after → IsWell after
+      → RunInvariant p → PoolRuns may p moves passed answers after → RunInvariant after
 
   -- if such a run begins within its limit, and no move sets one, the size stays within it
   abbrev pub StaysWithin : Type 0
   StaysWithin = (moves : List (Move V)) (p after : Pool V C R S F A) (passed : List (List (Pool V C R S F A)))
       (answers : List (Reply V E))
-      → IsWell p → reach p ≤ p.limit → Each (λ m. sets_limit m ≡ false) moves
+      → RunInvariant p → reach p ≤ p.limit → Each (λ m. sets_limit m ≡ false) moves
       → PoolRuns may p moves passed answers after → Each (λ q. size q ≤ q.limit) (all_states p passed)

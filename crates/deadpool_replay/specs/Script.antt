@@ -3,7 +3,7 @@
 --
 -- The values are numbers. Each of the pool's three lists has one hook, which may be pending, and no state of a
 -- creation, of a recycling or of a hook says anything.
-use Rattle.std.specs.Prelude.{◌≡◌, ℕ, zero, suc, ◌+◌, ◌/◌, ◌%◌, min, Bool, true, List, [], ◌∷◌, ◌++◌, length, map}
+use Rattle.std.specs.Prelude.{◌≡◌, ℕ, zero, suc, ◌+◌, ◌-◌, ◌/◌, ◌%◌, min, Bool, true, List, [], ◌∷◌, ◌++◌, length, map}
 use Rattle.std.specs.Prelude.{Option, Some, None, Result, Ok, Err, if◌then◌else◌, codes}
 use Rattle.std.specs.Option.{option_map}
 use Rattle.std.specs.declared.alloc.Global.{Global}
@@ -23,7 +23,7 @@ use Rattle.deadpool_parts.specs.declared.errors.RecycleError.TheVariants.{Backen
 use Rattle.deadpool_replay.specs.Moves.{one_step, is_more, retain}
 use Rattle.deadpool_managed.specs.Outside.{Question, Answer, Asking, BeginCreation, PollCreation, BeginRecycling}
 use Rattle.deadpool_managed.specs.Outside.{PollRecycling, CallHook, BeginHook, PollHook, Detach, Reserve}
-use Rattle.deadpool_replay.specs.Pool.{Pool, opened}
+use Rattle.deadpool_replay.specs.Pool.{Pool, bounded, opened, places}
 use Rattle.deadpool_replay.specs.Steps.{find_slot}
 use Rattle.deadpool_managed.specs.declared.hooks.Hook.TheVariants.{AsyncFn}
 use Rattle.deadpool_managed.specs.Slots.{Slot}
@@ -60,8 +60,8 @@ pub record Script : Type 0 where
   pub post_create : List Word
 
 -- the beginning of each script
-abbrev pub untold : Script
-untold = record { value = 0; create = []; recycle = []; pre_recycle = []; post_recycle = []; post_create = [] }
+abbrev pub empty_script : Script
+empty_script = record { value = 0; create = []; recycle = []; pre_recycle = []; post_recycle = []; post_create = [] }
 
 abbrev pub words : Kind → Script → List Word
 words Create s = s.create
@@ -159,10 +159,12 @@ timeouts_of wait create recycle =
       recycle = option_map nanoseconds recycle;
     }
 
--- one line of a script: a move, or words for calls to come. A retain's move has its numbers in a vector: here they are
--- a list
+-- one line of a script: a move, a closing that says what is left, or words for calls to come. A retain's move has its
+-- numbers in a vector: here they are a list
 pub data Event : Type 0 where
   move_by : Move ℕ → Event
+  -- the pool closes
+  drain : Event
   -- the numbers of the idle objects that are kept
   retain_only : List ℕ → Event
   answer : Kind → List Word → Event
@@ -214,6 +216,8 @@ status = move_by move.Status
 pub data Line : Type 0 where
   plain : Reply ℕ (Unit {0}) → Line
   object : ℕ → ℕ → Line
+  -- how much is left in a closed pool
+  has_left : ℕ → Line
 
 abbrev pub handed : ℕ → Option (Slot ℕ) → Line
 handed n (Some slot) = object n slot.value.value
@@ -223,7 +227,20 @@ abbrev pub line_of : Reply ℕ (Unit {0}) → ScriptPool → Line
 line_of (reply.Object n) p = handed n (find_slot n p.out)
 line_of r p = plain r
 
+-- What is left in a closed pool: its objects, and the parties that hold a place or have a creation under way. A party
+-- that was granted a place and has not asked is refused when it does, so it does not count.
+abbrev pub left_in : ScriptPool → ℕ
+left_in p = places p - length p.granted
+
+-- a line has its reply, and one that drains the pool what is left in it
+abbrev pub line_after : Event → Reply ℕ (Unit {0}) → ScriptPool → Line
+line_after drain reply.Done p = has_left (left_in p)
+line_after _ r p = line_of r p
+
 -- the other replies as they are written
+abbrev pub drained : Line
+drained = has_left 0
+
 abbrev pub party : ℕ → Line
 party n = plain (reply.Started n)
 
@@ -278,19 +295,23 @@ upgraded found = plain (reply.Upgraded found)
 -- ---- how it is played
 
 -- no timeouts are configured
-abbrev pub new_pool_with_floor : ℕ → QueueMode → Option Runtime → ℕ → ℕ → ScriptPool
-new_pool_with_floor limit mode runtime first floor =
+abbrev pub new_pool_with_min_idle : ℕ → QueueMode → Option Runtime → ℕ → ℕ → ScriptPool
+new_pool_with_min_idle limit mode runtime first min_idle =
     opened limit mode runtime
     (record {
       pre_recycle = AsyncFn PreRecycle ∷ [];
       post_recycle = AsyncFn PostRecycle ∷ [];
       post_create = AsyncFn PostCreate ∷ [];
     })
-    (timeouts_of None None None) first 1024 floor
+    (timeouts_of None None None) first 1024 min_idle
 
 -- no object has to stay idle
 abbrev pub new_pool : ℕ → QueueMode → Option Runtime → ℕ → ScriptPool
-new_pool limit mode runtime first = new_pool_with_floor limit mode runtime first 0
+new_pool limit mode runtime first = new_pool_with_min_idle limit mode runtime first 0
+
+-- so many may wait
+abbrev pub new_pool_with_bound : ℕ → QueueMode → Option Runtime → ℕ → ℕ → ScriptPool
+new_pool_with_bound limit mode runtime first most = bounded (Some most) (new_pool limit mode runtime first)
 
 -- a reply with the pool after it, and the script after that
 abbrev pub Played : Type 0
@@ -315,13 +336,14 @@ by_move m p s = played (one_step m p) s
 
 abbrev pub done : Event → ScriptPool → Script → Played
 done (move_by m) p s = by_move m p s
+done drain p s = played (one_step move.Close p) s
 done (retain_only ns) p s = played (retain ns p) s
 done (answer kind ws) p s = ((reply.Done, p), with_words kind (words kind s ++ ws) s)
 
 -- the replies to some lines
 abbrev pub play : ScriptPool → Script → List Event → List Line
 play p s [] = []
-play p s (e ∷ es) = let x = done e p s in line_of x.0.0 x.0.1 ∷ play x.0.1 x.1 es
+play p s (e ∷ es) = let x = done e p s in line_after e x.0.0 x.0.1 ∷ play x.0.1 x.1 es
 
 -- a line with its reply
 pub record Exchange : Type 0 where
@@ -334,4 +356,4 @@ event ⇒ line = record { event = event; line = line }
 
 -- from a pool, the lines have these replies
 abbrev pub Plays : ScriptPool → List Exchange → Type 0
-Plays p exchanges = play p untold (map (λ x. x.event) exchanges) ≡ map (λ x. x.line) exchanges
+Plays p exchanges = play p empty_script (map (λ x. x.event) exchanges) ≡ map (λ x. x.line) exchanges

@@ -4,14 +4,14 @@ use Rattle.std.specs.Prelude.{false, [], ◌∷◌, Some, None, refl}
 use Rattle.deadpool_parts.specs.declared.config.QueueMode.TheVariants.{Fifo}
 use Rattle.deadpool_parts.specs.declared.errors.PoolError.TheVariants.{Timeout}
 use Rattle.deadpool_parts.specs.declared.errors.TimeoutType.TheVariants as phase
-use Rattle.deadpool_replay.specs.Script.{Plays, ◌⇒◌, new_pool_with_floor, Stalls, Recycle, start, start_with, poll}
+use Rattle.deadpool_replay.specs.Script.{Plays, ◌⇒◌, new_pool_with_min_idle, Stalls, Recycle, start, start_with, poll}
 use Rattle.deadpool_replay.specs.Script.{back, resize_to, retain_only, close_pool, drop_handle, upgrade_handle, status}
 use Rattle.deadpool_replay.specs.Script.{answer, party, no_handle, pending, object, failed, ok, kept, detached, dropped}
 use Rattle.deadpool_replay.specs.Script.{retained, stands, upgraded}
 
 -- A shrink leaves two idle while the others are out, and a get has no place all the same. A smaller limit leaves one,
 -- and a close none.
-pub floor-under-shrink-and-retain : Plays (new_pool_with_floor 4 Fifo None 0 2) (
+pub floor-under-shrink-and-retain : Plays (new_pool_with_min_idle 4 Fifo None 0 2) (
     start ⇒ party 0 ∷
     poll 0 0 ⇒ object 0 0 ∷
     start ⇒ party 1 ∷
@@ -37,7 +37,7 @@ pub floor-under-shrink-and-retain : Plays (new_pool_with_floor 4 Fifo None 0 2) 
 floor-under-shrink-and-retain = refl
 
 -- Nothing is kept, and the last stays.
-pub retain-keeps-the-floor : Plays (new_pool_with_floor 3 Fifo None 0 1) (
+pub retain-keeps-the-floor : Plays (new_pool_with_min_idle 3 Fifo None 0 1) (
     start ⇒ party 0 ∷
     poll 0 0 ⇒ object 0 0 ∷
     start ⇒ party 1 ∷
@@ -51,7 +51,7 @@ pub retain-keeps-the-floor : Plays (new_pool_with_floor 3 Fifo None 0 1) (
 retain-keeps-the-floor = refl
 
 -- As many stay as the limit allows. A close leaves none.
-pub floor-above-the-limit : Plays (new_pool_with_floor 2 Fifo None 0 5) (
+pub floor-above-the-limit : Plays (new_pool_with_min_idle 2 Fifo None 0 5) (
     start ⇒ party 0 ∷
     poll 0 0 ⇒ object 0 0 ∷
     start ⇒ party 1 ∷
@@ -71,7 +71,7 @@ pub floor-above-the-limit : Plays (new_pool_with_floor 2 Fifo None 0 5) (
 floor-above-the-limit = refl
 
 -- Four are idle and three are to stay. A limit of two leaves two, the last of them.
-pub floor-above-a-smaller-limit : Plays (new_pool_with_floor 4 Fifo None 0 3) (
+pub floor-above-a-smaller-limit : Plays (new_pool_with_min_idle 4 Fifo None 0 3) (
     start ⇒ party 0 ∷
     poll 0 0 ⇒ object 0 0 ∷
     start ⇒ party 1 ∷
@@ -92,7 +92,7 @@ floor-above-a-smaller-limit = refl
 
 -- One object is under preparation and one is out. The limit of one leaves one idle, and the others are given up as they
 -- come back.
-pub floor-beside-objects-in-use : Plays (new_pool_with_floor 4 Fifo None 0 1) (
+pub floor-beside-objects-in-use : Plays (new_pool_with_min_idle 4 Fifo None 0 1) (
     start ⇒ party 0 ∷
     poll 0 0 ⇒ object 0 0 ∷
     start ⇒ party 1 ∷
@@ -119,7 +119,7 @@ pub floor-beside-objects-in-use : Plays (new_pool_with_floor 4 Fifo None 0 1) (
 floor-beside-objects-in-use = refl
 
 -- The first three go, front to back, and the last two stay.
-pub retain-rejects-all-of-five : Plays (new_pool_with_floor 5 Fifo None 0 2) (
+pub retain-rejects-all-of-five : Plays (new_pool_with_min_idle 5 Fifo None 0 2) (
     start ⇒ party 0 ∷
     poll 0 0 ⇒ object 0 0 ∷
     start ⇒ party 1 ∷
@@ -142,7 +142,7 @@ pub retain-rejects-all-of-five : Plays (new_pool_with_floor 5 Fifo None 0 2) (
 retain-rejects-all-of-five = refl
 
 -- The first is kept. The next three go, and the last stays.
-pub retain-keeps-one-and-the-floor : Plays (new_pool_with_floor 5 Fifo None 0 2) (
+pub retain-keeps-one-and-the-floor : Plays (new_pool_with_min_idle 5 Fifo None 0 2) (
     start ⇒ party 0 ∷
     poll 0 0 ⇒ object 0 0 ∷
     start ⇒ party 1 ∷
@@ -166,7 +166,7 @@ pub retain-keeps-one-and-the-floor : Plays (new_pool_with_floor 5 Fifo None 0 2)
 retain-keeps-one-and-the-floor = refl
 
 -- Two are left when the fourth is asked about, so it stays beside the last, which is kept.
-pub retain-spares-before-it-keeps : Plays (new_pool_with_floor 5 Fifo None 0 2) (
+pub retain-spares-before-it-keeps : Plays (new_pool_with_min_idle 5 Fifo None 0 2) (
     start ⇒ party 0 ∷
     poll 0 0 ⇒ object 0 0 ∷
     start ⇒ party 1 ∷
@@ -186,7 +186,7 @@ pub retain-spares-before-it-keeps : Plays (new_pool_with_floor 5 Fifo None 0 2) 
 retain-spares-before-it-keeps = refl
 
 -- The shrink gives nobody up, and no place is left over: a get waits until the limit grows by more than what is out.
-pub growth-after-a-stopped-shrink : Plays (new_pool_with_floor 4 Fifo None 0 2) (
+pub growth-after-a-stopped-shrink : Plays (new_pool_with_min_idle 4 Fifo None 0 2) (
     start ⇒ party 0 ∷
     poll 0 0 ⇒ object 0 0 ∷
     start ⇒ party 1 ∷
@@ -212,7 +212,7 @@ pub growth-after-a-stopped-shrink : Plays (new_pool_with_floor 4 Fifo None 0 2) 
 growth-after-a-stopped-shrink = refl
 
 -- Of two that are too many one is given up.
-pub shrink-stopped-half-way : Plays (new_pool_with_floor 4 Fifo None 0 1) (
+pub shrink-stopped-half-way : Plays (new_pool_with_min_idle 4 Fifo None 0 1) (
     start ⇒ party 0 ∷
     poll 0 0 ⇒ object 0 0 ∷
     start ⇒ party 1 ∷
@@ -233,7 +233,7 @@ pub shrink-stopped-half-way : Plays (new_pool_with_floor 4 Fifo None 0 1) (
 shrink-stopped-half-way = refl
 
 -- The object that was out is not kept when it comes back.
-pub last-handle-keeps-no-floor : Plays (new_pool_with_floor 2 Fifo None 0 2) (
+pub last-handle-keeps-no-floor : Plays (new_pool_with_min_idle 2 Fifo None 0 2) (
     start ⇒ party 0 ∷
     poll 0 0 ⇒ object 0 0 ∷
     start ⇒ party 1 ∷

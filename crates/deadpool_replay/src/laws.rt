@@ -5,12 +5,12 @@ ghost use Rattle.deadpool_managed.specs.Outside.{may};
 ghost use Rattle.deadpool_replay.specs.RunLaws.{OpensWell, EachState, EachStep, EachLater, EachMove, EachReply};
 ghost use Rattle.deadpool_replay.specs.RunLaws.{EndsWell, StaysWithin, HasFewIdle, IsEmptyIfClosed, IsNumbered};
 ghost use Rattle.deadpool_replay.specs.RunLaws.{CountsOn, NoneReturns, KeepsQueue, OthersStayInPool, OthersStayQueued};
-ghost use Rattle.deadpool_replay.specs.RunLaws.{OthersStand, KeepsFloor, LeavesEnough, IsOutIfGiven, IsIdleIfKept};
+ghost use Rattle.deadpool_replay.specs.RunLaws.{OthersStand, KeepsMinIdle, LeavesEnough, IsOutIfGiven, IsIdleIfKept};
 ghost use Rattle.deadpool_replay.specs.RunLaws.{IsListedOnce};
 
 use deadpool_managed::{AsyncHook, Manager, SyncHook};
 
-/// A new pool is well.
+/// A new pool is well, with any bound on those that wait.
 pub fn opened_is_well<M: Manager, F: SyncHook<M>, A: AsyncHook<M>>()
     ensures { OpensWell M.Type M.Creating M.Recycling A.State F A }
 {}
@@ -57,8 +57,8 @@ pub fn no_object_is_lost<M: Manager, F: SyncHook<M>, A: AsyncHook<M>>()
 /// How many objects are to stay idle never changes. A resize and a retain leave as many idle, as far as the limit after
 /// them allows, if as many were. A poll is looked at advance by advance.
 pub fn enough_stay_idle<M: Manager, F: SyncHook<M>, A: AsyncHook<M>>()
-    ensures floor { (manager : M)
-        → EachMove (may M.Manager F.SyncHook A.AsyncHook manager) KeepsFloor }
+    ensures min_idle { (manager : M)
+        → EachMove (may M.Manager F.SyncHook A.AsyncHook manager) KeepsMinIdle }
     ensures idle { (manager : M)
         → EachMove (may M.Manager F.SyncHook A.AsyncHook manager) LeavesEnough }
 {}

@@ -6,10 +6,10 @@ ghost use Rattle.deadpool_parts.specs.Runs.{last_of, all_states, Each, Neighbour
 ghost use Rattle.deadpool_parts.specs.declared.errors.BuildError.{BuildError};
 ghost use Rattle.deadpool_builder.specs.Building.{lacks_any_runtime};
 ghost use Rattle.deadpool_managed.specs.Outside.{may};
-ghost use Rattle.deadpool_replay.specs.Pool.{Pool, opened};
+ghost use Rattle.deadpool_replay.specs.Pool.{Pool, bounded, opened};
 ghost use Rattle.deadpool_replay.specs.Steps.{find_slot};
-ghost use Rattle.deadpool_replay.specs.Moves.{MakesMove, PoolRuns, NobodyWaits, WithinReach};
-ghost use Rattle.deadpool_replay.specs.RunLaws.{IsWell};
+ghost use Rattle.deadpool_replay.specs.Moves.{MakesMove, PoolRuns, NobodyWaits, WaitsWithin, WithinReach};
+ghost use Rattle.deadpool_replay.specs.RunLaws.{RunInvariant};
 
 mod objects;
 mod owner;
@@ -29,7 +29,7 @@ use std::marker::Model;
 
 // What never changes in a trial.
 #[derive(Drop)]
-struct Fixed<M: Manager, F: SyncHook<M>, A: AsyncHook<M>> {
+struct Setup<M: Manager, F: SyncHook<M>, A: AsyncHook<M>> {
     environment: Environment<M, F, A>,
     // The configured ones.
     timeouts: Timeouts,
@@ -42,7 +42,7 @@ struct Fixed<M: Manager, F: SyncHook<M>, A: AsyncHook<M>> {
 /// not asked: each move says its moment.
 #[derive(Drop)]
 pub struct Trial<M: Manager, F: SyncHook<M>, A: AsyncHook<M>, C: Drop> {
-    fixed: Fixed<M, F, A>,
+    setup: Setup<M, F, A>,
     core: Core<Kept<M::Type>>,
     // By number; none if the party was cancelled.
     parties: Vec<Option<GetState<M, A>>>,
@@ -58,20 +58,20 @@ impl<M: Manager, F: SyncHook<M>, A: AsyncHook<M>, C: Drop> Model for Trial<M, F,
     ghost Value = { Replay M M.Type M.Creating M.Recycling A.State F A };
 
     ghost use Rattle.std.specs.Prelude.{◌≤◌, vec_len, vec_capacity};
-    ghost use Rattle.deadpool_replay.specs.Image.{image, IsCounted};
-    ghost use Rattle.deadpool_replay.specs.RunLaws.{IsWell};
+    ghost use Rattle.deadpool_replay.specs.Image.{image, TrialInvariant};
+    ghost use Rattle.deadpool_replay.specs.RunLaws.{RunInvariant};
 
     ghost view = { λ t. record {
-      pool = image t.fixed t.core.desk t.parties.items t.out.items;
-      manager = t.fixed.environment.manager;
+      pool = image t.setup t.core.desk t.parties.items t.out.items;
+      manager = t.setup.environment.manager;
     } };
 
     ghost invariant = { λ t. record {
-      counted : IsCounted t.core.desk t.parties.items t.out.items;
-      well : IsWell (image t.fixed t.core.desk t.parties.items t.out.items);
-      parties : vec_len t.parties ≤ t.fixed.most_parties;
-      party_room : t.fixed.most_parties ≤ vec_capacity t.parties;
-      out_room : t.fixed.most_parties ≤ vec_capacity t.out;
+      counted : TrialInvariant t.core.desk t.parties.items t.out.items;
+      well : RunInvariant (image t.setup t.core.desk t.parties.items t.out.items);
+      parties : vec_len t.parties ≤ t.setup.most_parties;
+      party_room : t.setup.most_parties ≤ vec_capacity t.parties;
+      out_room : t.setup.most_parties ≤ vec_capacity t.out;
     } };
 }
 
@@ -85,8 +85,9 @@ impl<M: Manager, F: SyncHook<M>, A: AsyncHook<M>, C: Drop> Trial<M, F, A, C> {
     ) -> Result<Self, BuildError>
         ensures refused { (result ≡ Err BuildError.NoRuntimeSpecified)
             ↔ (lacks_any_runtime builder.runtime builder.timeouts ≡ true) }
-        ensures pool { IfOk result (λ t. t.pool ≡ opened builder.max_size builder.queue_mode
-            builder.runtime builder.hooks builder.timeouts first_number parties builder.min_idle) }
+        ensures pool { IfOk result (λ t. t.pool ≡ bounded builder.max_waiting
+            (opened builder.max_size builder.queue_mode builder.runtime builder.hooks
+            builder.timeouts first_number parties builder.min_idle)) }
         ensures manager { IfOk result (λ t. t.manager ≡ builder.manager) }
     {
         let OpenPool {
@@ -96,14 +97,14 @@ impl<M: Manager, F: SyncHook<M>, A: AsyncHook<M>, C: Drop> Trial<M, F, A, C> {
             clock,
             alloc,
         } = builder.open(first_number)?;
-        let fixed = Fixed {
+        let setup = Setup {
             environment,
             timeouts,
             most_parties: parties,
             first: first_number,
         };
         Ok(Trial {
-            fixed,
+            setup,
             core,
             parties: Vec::with_capacity(alloc, parties)?,
             out: Vec::with_capacity(alloc, parties)?,
@@ -114,7 +115,7 @@ impl<M: Manager, F: SyncHook<M>, A: AsyncHook<M>, C: Drop> Trial<M, F, A, C> {
 
     /// What is true of the pool of every trial. The call does nothing.
     pub fn laws(&self)
-        ensures { IsWell self.now.pool }
+        ensures { RunInvariant self.now.pool }
     {
         let _ = &self.core;
     }
@@ -146,6 +147,11 @@ impl<M: Manager, F: SyncHook<M>, A: AsyncHook<M>, C: Drop> Trial<M, F, A, C> {
             → PoolRuns (may M.Manager F.SyncHook A.AsyncHook self.old.manager)
             self.old.pool moves.items passed replies.items self.new.pool
             → Each NobodyWaits (all_states self.old.pool passed)) }
+        ensures waits_within { IfOk result (λ replies.
+            (passed : List (List (Pool M.Type M.Creating M.Recycling A.State F A)))
+            → PoolRuns (may M.Manager F.SyncHook A.AsyncHook self.old.manager)
+            self.old.pool moves.items passed replies.items self.new.pool
+            → Each WaitsWithin (all_states self.old.pool passed)) }
         ensures within_reach { IfOk result (λ replies.
             (passed : List (List (Pool M.Type M.Creating M.Recycling A.State F A)))
             → PoolRuns (may M.Manager F.SyncHook A.AsyncHook self.old.manager)

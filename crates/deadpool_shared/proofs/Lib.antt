@@ -1,4 +1,3 @@
 -- What the proofs of this crate stand on.
 mod Calls
 mod Lent
-mod Pending

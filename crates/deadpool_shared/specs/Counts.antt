@@ -3,8 +3,6 @@ use Rattle.std.specs.Prelude.{◌≡◌, ℕ, ◌+◌, ◌-◌, ◌≤◌, ⊤, 
 use Rattle.deadpool_chronicle.specs.History.{Knowing}
 use Rattle.deadpool_history.specs.declared.line.Line.{Line}
 use Rattle.deadpool_journal.specs.Journaling.{Journaling}
-use Rattle.deadpool_managed.specs.Held.{held_at}
-use Rattle.deadpool_managed.specs.Stages.{Stage}
 use Rattle.deadpool_desk.specs.declared.step.Holding.{Holding}
 use Rattle.deadpool_desk.specs.declared.step.Holding.TheVariants as holding
 use Rattle.deadpool_desk.specs.declared.step.Reply.{Reply}
@@ -55,11 +53,6 @@ IsNewCaller c = (c.mine ≡ []) × (c.admitted ≡ 0)
 -- a holder that has made no step yet and has nothing
 abbrev pub IsNewHolder : Holder → Type 0
 IsNewHolder h = (h.has ≡ counts_of holding.Nothing) × IsNewCaller h.caller
-
--- what a get holds at a stage, until it has ended and lost its home
-abbrev pub held_by : {H V C R S : Type 0} → Option H → Stage V C R S → Holding
-held_by (Some home) stage = held_at stage
-held_by None stage = holding.Nothing
 
 -- the counts of all holders after one of them has something else
 abbrev pub shifted : Holding → Holding → Counts → Counts

@@ -1,7 +1,6 @@
--- What a get gives to who polls it, and what its poll is at its seat.
+-- A get of the pool, as contracts see it, what it gives to who polls it, and what its poll is at its seat.
 use Rattle.std.specs.Option.{option_or}
-use Rattle.std.specs.Prelude.{◌≡◌, ◌||◌, true, is_some, Option, Some, Result, Ok, Err, IfOk}
-use Rattle.futures.specs.Poll.{OnPending}
+use Rattle.std.specs.Prelude.{◌≡◌, Option, Some, None, Result, Ok, Err, IfOk}
 use Rattle.futures.specs.declared.task.Poll.{Poll}
 use Rattle.futures.specs.declared.task.Poll.TheVariants as poll
 use Rattle.deadpool_parts.specs.declared.errors.PoolError.{PoolError}
@@ -9,33 +8,45 @@ use Rattle.deadpool_parts.specs.declared.moment.Moment.{Moment}
 use Rattle.deadpool_desk.specs.declared.desk.Desk.{Ghosts as DeskOf}
 use Rattle.deadpool_desk.specs.declared.slot.Slot.{Slot}
 use Rattle.deadpool_journal.specs.ByNumber.{number_in}
+use Rattle.deadpool_desk.specs.declared.step.Holding.{Holding}
+use Rattle.deadpool_desk.specs.declared.step.Holding.TheVariants.{Nothing}
+use Rattle.deadpool_lock.specs.declared.request.Stage.{Stage as Future}
+use Rattle.deadpool_lock.specs.declared.request.Stage.TheVariants.{Asking}
+use Rattle.deadpool_managed.specs.Held.{held_at}
+use Rattle.deadpool_managed.specs.Phases.{Working, stage_of}
 use Rattle.deadpool_managed.specs.Stages.{Stage}
 use Rattle.deadpool_managed.specs.Steps.{Lent, PollsAt}
 use Rattle.deadpool_managed.specs.declared.get.Turn.{Turn}
 use Rattle.deadpool_managed.specs.declared.get.Turn.TheVariants as turn
 use Rattle.deadpool_managed.specs.declared.kept.Kept.{Kept}
+use Rattle.deadpool_managed.specs.declared.work.Phase.TheVariants.{Unpolled}
 use Rattle.deadpool_shared.specs.Calling.{CallsFromSeat}
 use Rattle.deadpool_shared.specs.Counts.{Holder, IsKnown, counts_of, had}
+
+-- its timeouts, how far it is, and what it holds, once it was handed out shares
+pub record Get (D V C R S : Type 0) : Type 0 where
+  pub timeouts : D
+  pub progress : Working V C R S
+  pub shares : Option Holder
+
+module _ {D V C R S : Type 0} where
+  -- it was not polled yet
+  abbrev pub getting : D → Get D V C R S
+  getting timeouts = record { timeouts = timeouts; progress = record { phase = Unpolled; slot = None }; shares = None }
+
+  abbrev pub stage_in : Get D V C R S → Stage V C R S
+  stage_in get = stage_of get.progress.phase get.progress.slot
+
+-- what a get holds at a stage, while its future asks
+abbrev pub held_while : {K V C R S : Type 0} → Future K → Stage V C R S → Holding
+held_while (Asking kept) stage = held_at stage
+held_while _ stage = Nothing
 
 module _ {O W E : Type 0} where
   -- What is given comes from an object that is ready. The relation says what comes from which object, the test which
   -- objects are ready.
   abbrev pub GivesReady : (O → W → Type 0) → (O → Type 0) → Result W E → Type 0
   GivesReady comes_from is_ready r = IfOk r (λ w. (o : O) × (is_ready o × comes_from o w))
-
-module _ {O W E H R : Type 0} where
-  -- A get that has ended gives nothing more. An object goes back to the pool that was asked.
-  abbrev pub GivesOnce : (O → W → Type 0) → (O → Type 0) → (O → H) → Option H → Option R → Result W E → Type 0
-  GivesOnce comes_from is_ready home_of home refusal r =
-      ((is_some home || is_some refusal) ≡ true)
-      × GivesReady comes_from (λ o. is_ready o × (home ≡ Some (home_of o))) r
-
-  -- while it is pending it gives no more than it might have given before
-  abbrev pub StaysGiving : (O → W → Type 0) → (O → Type 0) → (O → H) → Option H → Option R → Option H → Option R
-      → Poll (Result W E) → Type 0
-  StaysGiving comes_from is_ready home_of home refusal home' refusal' polled =
-      OnPending polled ((x : Result W E) → GivesOnce comes_from is_ready home_of home' refusal' x
-      → GivesOnce comes_from is_ready home_of home refusal x)
 
 -- the seat of a holder, as a desk: each step is one call of its caller's
 abbrev pub seat_desk : {T : Type 0} → DeskOf (Option Holder) T

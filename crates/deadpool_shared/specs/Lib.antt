@@ -4,10 +4,16 @@
 pub mod Names
 -- What each get and object holds of the pool's three counts.
 pub mod Counts
+-- Who waits for the end of a pool.
+pub mod Ends
 -- What each step under the lock does to the pool and to the wakers.
 pub mod Locked
 -- What a step adds to the history.
 pub mod Calling
+-- How a drain ends, and its calls.
+pub mod Drains
+-- A drain, as contracts see it.
+pub mod Draining
 -- What a get gives, and what its poll is at its seat.
 pub mod Gets
 -- What contracts of this crate cite of those below.

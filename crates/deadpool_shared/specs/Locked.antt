@@ -1,15 +1,18 @@
 -- What is done under the lock of a pool, with the wakers of those in its queue.
-use Rattle.std.specs.Prelude.{◌≡◌, ◌⊎◌, ◌&&◌, ℕ, Bool, true, false, nat_le, List, Option, Some, None, if◌then◌else◌}
-use Rattle.deadpool_desk.specs.DeskState.{places}
+use Rattle.std.specs.Prelude.{◌≡◌, ◌⊎◌, ◌&&◌, ◌==◌, not, ℕ, Bool, true, false, List, Option, Some, None, if◌then◌else◌}
+use Rattle.deadpool_gate.specs.Gate.{waiting_count}
+use Rattle.deadpool_desk.specs.Closing.{is_drained}
+use Rattle.deadpool_desk.specs.DeskState.{DeskState, would_queue}
 use Rattle.deadpool_desk.specs.declared.slot.Slot.{Slot}
 use Rattle.deadpool_desk.specs.declared.step.Reply.{Reply}
 use Rattle.deadpool_desk.specs.declared.step.Reply.TheVariants.{Waiting, OutOfMemory}
 use Rattle.deadpool_desk.specs.declared.step.Step.{Step}
 use Rattle.deadpool_desk.specs.declared.step.Step.TheVariants.{Enter, Ask, Withdraw}
 use Rattle.deadpool_journal.specs.Journaling.{Journaling}
-use Rattle.deadpool_journal.specs.Steps.{MakesNoted, TellsUnnoted}
+use Rattle.deadpool_journal.specs.Steps.{MakesNoted, NotifiesUnnoted}
 use Rattle.deadpool_journal.specs.declared.journal.Journal.{Journal}
 use Rattle.deadpool_lock.specs.Places.{with_room, Follows}
+use Rattle.deadpool_shared.specs.Ends.{EndsState}
 
 -- the ticket of a get that makes this step
 abbrev pub ticket_of : Step → Option ℕ
@@ -30,7 +33,7 @@ may_wait _ = false
 module _ {T : Type 0} where
   -- a new get has to join the queue, if it may wait
   abbrev pub joins : Step → Journaling T → Bool
-  joins step j = may_wait step && (j.core.desk.is_open && nat_le j.core.desk.limit (places j.core.desk))
+  joins step j = may_wait step && would_queue j.core.desk
 
   -- A step is made, and the wakers go with it. Of a new get that has to join the queue there is a place for its waker
   -- before, in which the waker stands if the get waits. Or there is no memory for that place, and no step is made.
@@ -47,10 +50,21 @@ module _ {T : Type 0} where
   abbrev pub TellsLocked : {W : Type 0} → Journaling T → List (Option W) → Option W → Journaling T → List (Option W)
       → Type 0
   TellsLocked j wakers waker j' wakers' =
-      (named : Option ℕ) × (TellsUnnoted j named j' × Follows named None wakers None waker wakers' None)
+      (named : Option ℕ) × (NotifiesUnnoted j named j' × Follows named None wakers None waker wakers' None)
+
+  -- Somebody waits for the end of a pool, which has come.
+  abbrev pub is_end_due : EndsState → DeskState (Slot T) → Bool
+  is_end_due ends d = not (waiting_count ends.line.waiters == 0) && is_drained d
+
+  -- No get is to be told, and the pool is drained: one that waits for that may be. It is no step, and no get's waker
+  -- is touched.
+  abbrev pub TellsEnd : {W : Type 0} → Journaling T → List (Option W) → Journaling T → List (Option W) → Type 0
+  TellsEnd j wakers j' wakers' =
+      NotifiesUnnoted j None j' × (is_drained j.core.desk ≡ true) × (wakers' ≡ wakers)
 
   -- what a copy of the journal has
   abbrev pub IsCopy : Journaling T → Journal → Type 0
   IsCopy j journal =
       (journal.limit ≡ j.limit) × (journal.mode ≡ j.mode) × (journal.min_idle ≡ j.min_idle)
+      × (journal.max_waiting ≡ j.max_waiting)
       × (journal.entries.items ≡ j.log.entries) × (journal.full ≡ j.log.is_full)

@@ -45,12 +45,12 @@ where
         requires opens { blanks ≡ L.names }
         ensures refused { (result ≡ Err NoRuntimeSpecified)
             ↔ (lacks_any_runtime self.runtime self.timeouts ≡ true) }
-        ensures environment { IfOk result (λ pool. pool.handle.environment
+        ensures environment { IfOk result (λ pool. pool.environment
             ≡ record { manager = self.manager; hooks = self.hooks; runtime = self.runtime }) }
-        ensures timeouts { IfOk result (λ pool. pool.handle.timeouts ≡ self.timeouts) }
-        ensures clock { IfOk result (λ pool. pool.handle.clock ≡ self.clock) }
-        ensures opening { IfOk result (λ pool. pool.handle.opening.log
-            ≡ (0, line.Opening self.max_size self.queue_mode self.min_idle) ∷ []) }
+        ensures timeouts { IfOk result (λ pool. pool.timeouts ≡ self.timeouts) }
+        ensures clock { IfOk result (λ pool. pool.clock ≡ self.clock) }
+        ensures opening { IfOk result (λ pool. pool.opening.log
+            ≡ (0, line.Opening self.max_size self.queue_mode self.min_idle self.max_waiting) ∷ []) }
     {
         let PoolParts {
             environment,
@@ -59,10 +59,12 @@ where
             timeouts,
             queue_mode,
             min_idle,
+            max_waiting,
             journal,
             alloc,
         } = self.into_parts()?;
         let pool = Journaled::new(alloc, max_size, queue_mode, journal, min_idle)?;
+        let pool = pool.bounded(max_waiting);
         let (locked, opening) = Locked::new(alloc, pool, blanks);
         let shared = Shared {
             environment,

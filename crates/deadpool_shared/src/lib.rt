@@ -6,7 +6,9 @@
 
 mod asking;
 mod build;
-mod get;
+mod drain;
+mod ended;
+mod ends;
 mod ledgers;
 mod locked;
 mod object;
@@ -15,13 +17,17 @@ mod seat;
 mod shared;
 mod shares;
 mod steps;
+mod timeouts;
 
+pub use asking::Getting;
 pub use build::Build;
 pub use deadpool_chronicle::Caller;
 pub use deadpool_history::Line;
-pub use deadpool_journal::{Entry, Journal};
-pub use get::{Get, GetRef};
+pub use deadpool_journal::{Entry, Journal, Report, Tally};
+pub use drain::Drain;
+pub use ended::DrainError;
 pub use ledgers::{Blanks, History, Ledgers};
 pub use object::Object;
-pub use pool::{Pool, WeakPool};
+pub use pool::{Get, GetRef, Pool, WeakPool};
 pub use seat::Seat;
+pub use timeouts::{HasTimeouts, LentTimeouts, OwnTimeouts};

@@ -1,33 +1,39 @@
 //! What the lock of a pool keeps.
-ghost use Rattle.std.specs.Prelude.{◌≡◌, not, is_some, nat_lt, [], ◌∷◌, None, IfOk, IfSome};
+ghost use Rattle.std.specs.Prelude.{◌≡◌, ◌⊎◌, ◌||◌, not, is_some, nat_lt, [], ◌∷◌, None, IfOk, IfSome};
 ghost use Rattle.std.specs.Option.{option_or};
 ghost use mathlib.Core.List.{IsPrefix};
 ghost use Rattle.deadpool_chronicle.specs.History.{calls_by};
 ghost use Rattle.deadpool_desk.specs.CoreSteps.{due_now};
 ghost use Rattle.deadpool_desk.specs.Replies.{Brings, IsOwnerReplyTo, IsReplyTo, Leaves, left_by, needed};
-ghost use Rattle.deadpool_desk.specs.declared.step.Holding.{Holding};
+ghost use Rattle.deadpool_desk.specs.declared.owner_step.OwnerReply.TheVariants as reply;
+ghost use Rattle.deadpool_desk.specs.declared.owner_step.OwnerStep.TheVariants as step;
 ghost use Rattle.deadpool_history.specs.History.{HasCalled, IsBeginning, IsLegal, IsRetain};
+ghost use Rattle.deadpool_history.specs.History.{IsTallyOf, LeavesIdle};
 ghost use Rattle.deadpool_history.specs.declared.line.Line.TheVariants as line;
 ghost use Rattle.deadpool_journal.specs.ByNumber.{number_in, numbered};
 ghost use Rattle.deadpool_journal.specs.Copies.{HasSteps};
 ghost use Rattle.deadpool_journal.specs.Journaling.{opening};
 ghost use Rattle.deadpool_journal.specs.LogState.{no_entries};
 ghost use Rattle.deadpool_journal.specs.Steps.{MakesNoted, MakesForOwnerNoted, RetainsNoted};
+ghost use Rattle.deadpool_journal.specs.Tally.{AreBalanced};
 ghost use Rattle.deadpool_journal.specs.declared.entry.Entry.TheVariants as entry;
 ghost use Rattle.deadpool_shared.specs.Calling.{CallsOrRefuses};
 ghost use Rattle.deadpool_shared.specs.Counts.{AreIn, IsKnown, IsNewCaller, IsNewHolder};
 ghost use Rattle.deadpool_shared.specs.Counts.{counts, counts_of, counted, shifted};
-ghost use Rattle.deadpool_shared.specs.Locked.{MakesLocked, TellsLocked, IsCopy};
+ghost use Rattle.deadpool_shared.specs.Locked.{IsCopy, MakesLocked, TellsEnd, TellsLocked, is_end_due};
 
+mod draining;
+
+use crate::ends::Ends;
 use crate::ledgers::{Blanks, History, Ledgers};
 use crate::shares::{Books, Shares};
 use crate::steps::{left_by, may_wait, needed, ticket_after, ticket_of};
 use deadpool_chronicle::{Beginning, Caller};
 use deadpool_history::{Line, Recorded};
-use deadpool_journal::{Journal, Journaled};
+use deadpool_journal::{Journal, Journaled, Tally};
 use deadpool_lock::{Wakers, Wakes};
 use deadpool_managed::{
-    Desk, OwnerDesk, OwnerReply, OwnerStep, Reply, RetainResult, Retainer, Slot, Step,
+    Desk, OwnerDesk, OwnerReply, OwnerStep, Reply, RetainResult, Retainer, Slot, Status, Step,
 };
 use futures::task::Waker;
 use std::alloc::{AllocError, Global};
@@ -40,6 +46,8 @@ pub struct Locked<T, L: Ledgers> {
     first: Caller<Line, History<L>>,
     books: Books<L>,
     wakers: Wakers,
+    // Those that wait for the end of the pool.
+    ends: Ends,
     ghost counted: { counted recorded.pool ≡ books.totals },
 }
 
@@ -57,7 +65,7 @@ impl<T: Drop, L: Ledgers> Locked<T, L> {
         requires opens { blanks ≡ L.names }
         ensures pool { result.0.recorded.pool ≡ pool }
         ensures log { result.0.recorded.log
-            ≡ (0, line.Opening pool.limit pool.mode pool.min_idle) ∷ [] }
+            ≡ (0, line.Opening pool.limit pool.mode pool.min_idle pool.max_waiting) ∷ [] }
         ensures opening { result.1.log ≡ result.0.recorded.log }
         ensures left { result.0.books.left ≡ u64.MAX }
         ensures wakers { result.0.wakers ≡ [] }
@@ -70,6 +78,7 @@ impl<T: Drop, L: Ledgers> Locked<T, L> {
             first,
             books: Books::new(ledgers),
             wakers: Wakers::new(alloc),
+            ends: Ends::new(alloc),
         };
         (locked, opening)
     }
@@ -195,9 +204,24 @@ impl<T: Drop, L: Ledgers> Locked<T, L> {
             self.old.recorded.pool retainer.old result self.new.recorded.pool retainer.new }
         ensures wakers { self.new.wakers ≡ self.old.wakers }
         ensures call { HasCalled (IsRetain result) caller.old caller.new }
+        ensures idle { LeavesIdle result caller.new.seen }
     {
         let Locked { recorded, .. } = self;
         recorded.retain(caller, retainer)
+    }
+
+    /// How often each thing has happened since the pool was opened, and how the pool stands now.
+    pub fn tally(&mut self, caller: &mut Caller<Line, History<L>>) -> (Tally, Status)
+        ensures call { HasCalled (λ e. e ≡ entry.Owner step.Status (reply.Stands result.1))
+            caller.old caller.new }
+        ensures counted { IsTallyOf caller.new.seen result.0 }
+        ensures balances { AreBalanced result.1.size result.0 }
+    {
+        let Locked { recorded, .. } = self;
+        match recorded.make_for_owner(caller, &OwnerStep::Status) {
+            OwnerReply::Stands(status) => (recorded.tally(), status),
+            _ => unreachable!(),
+        }
     }
 
     /// It is no step.
@@ -237,22 +261,30 @@ impl<T: Drop, L: Ledgers> Locked<T, L> {
 // Neither is a step.
 impl<T: Drop, L: Ledgers> Wakes for Locked<T, L> {
     fn is_wake_due(&self) -> bool
-        ensures { result ≡ is_some (due_now self.now.recorded.pool.core) }
+        ensures { result ≡ (is_some (due_now self.now.recorded.pool.core)
+            || is_end_due self.now.ends self.now.recorded.pool.core.desk) }
     {
-        self.recorded.is_wake_due()
+        self.recorded.is_wake_due() || (!self.ends.is_empty() && self.recorded.is_drained())
     }
 
     fn take_wake(&mut self) -> Option<Waker>
         ensures { TellsLocked self.old.recorded.pool self.old.wakers result
-            self.new.recorded.pool self.new.wakers }
+            self.new.recorded.pool self.new.wakers
+            ⊎ TellsEnd self.old.recorded.pool self.old.wakers self.new.recorded.pool self.new.wakers }
     {
         let Locked {
             recorded,
             wakers,
+            ends,
             ..
         } = self;
-        let ticket = recorded.take_wake()?;
-        wakers.take(ticket)
+        if let Some(ticket) = recorded.take_wake() {
+            return wakers.take(ticket);
+        }
+        if recorded.is_drained() {
+            return ends.take_wake();
+        }
+        None
     }
 }
 

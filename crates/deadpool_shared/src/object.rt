@@ -7,7 +7,7 @@ ghost use Rattle.deadpool_desk.specs.declared.step.Reply.{Reply};
 ghost use Rattle.deadpool_desk.specs.declared.step.Step.TheVariants as step;
 ghost use Rattle.deadpool_history.specs.History.{HasCalled};
 ghost use Rattle.deadpool_journal.specs.declared.entry.Entry.TheVariants as entry;
-ghost use Rattle.deadpool_shared.specs.Counts.{counts, counts_of};
+ghost use Rattle.deadpool_shared.specs.Counts.{counts_of};
 
 use crate::ledgers::{History, Ledgers};
 use crate::pool::Pool;
@@ -16,7 +16,7 @@ use crate::shared::Shared;
 use crate::shares::Shares;
 use deadpool_chronicle::Caller;
 use deadpool_history::Line;
-use deadpool_lock::{Home, Listener};
+use deadpool_lock::{Home, Registration};
 use deadpool_managed::{
     AsyncHook, Clock, Desk, Kept, Manager, Metrics, ObjectId, Reply, Slot, Step, SyncHook,
 };
@@ -25,7 +25,7 @@ use std::ops::{Deref, DerefMut};
 use std::sync::Wait;
 
 // What an object has that has not gone back. It cannot be dropped, since its shares cannot.
-pub(crate) struct OutStake<
+pub(crate) struct Checkout<
     M: Manager,
     F: SyncHook<M>,
     A: AsyncHook<M>,
@@ -38,7 +38,7 @@ pub(crate) struct OutStake<
     ghost is_out: { shares.has ≡ counts_of Holding.Object },
 }
 
-impl<M: Manager, F: SyncHook<M>, A: AsyncHook<M>, C: Clock, R: Wait + Drop, L: Ledgers> OutStake<
+impl<M: Manager, F: SyncHook<M>, A: AsyncHook<M>, C: Clock, R: Wait + Drop, L: Ledgers> Checkout<
     M,
     F,
     A,
@@ -51,7 +51,7 @@ impl<M: Manager, F: SyncHook<M>, A: AsyncHook<M>, C: Clock, R: Wait + Drop, L: L
         ensures home { result.home ≡ home }
         ensures shares { result.shares ≡ shares }
     {
-        OutStake { home, shares }
+        Checkout { home, shares }
     }
 }
 
@@ -65,7 +65,7 @@ pub struct Object<
     R: Wait + Drop,
     L: Ledgers,
 > {
-    pub(crate) out: OutStake<M, F, A, C, R, L>,
+    pub(crate) out: Checkout<M, F, A, C, R, L>,
     pub(crate) slot: Slot<Kept<M::Type>>,
 }
 
@@ -95,9 +95,9 @@ impl<M: Manager, F: SyncHook<M>, A: AsyncHook<M>, C: Clock, R: Wait + Drop, L: L
             this.out.shares.caller result.1 }
     {
         let Self { out, slot } = this;
-        let OutStake { home, shares } = out;
-        let mut listener = Listener::new();
-        let mut seat = Seat::new(home.shared(), Some(shares), &mut listener);
+        let Checkout { home, shares } = out;
+        let mut registration = Registration::new();
+        let mut seat = Seat::new(home.shared(), Some(shares), &mut registration);
         let mut value = slot.value.value;
         let mut hand = None;
         let reply = seat.make(&Step::Take, &mut hand);
@@ -118,9 +118,9 @@ impl<M: Manager, F: SyncHook<M>, A: AsyncHook<M>, C: Clock, R: Wait + Drop, L: L
             this.out.shares.caller result }
     {
         let Self { out, slot } = this;
-        let OutStake { home, shares } = out;
-        let mut listener = Listener::new();
-        let mut seat = Seat::new(home.shared(), Some(shares), &mut listener);
+        let Checkout { home, shares } = out;
+        let mut registration = Registration::new();
+        let mut seat = Seat::new(home.shared(), Some(shares), &mut registration);
         let mut hand = Some(slot);
         let reply = seat.make(&Step::Back, &mut hand);
         let Some(caller) = seat.leave() else {
@@ -154,7 +154,7 @@ impl<M: Manager, F: SyncHook<M>, A: AsyncHook<M>, C: Clock, R: Wait + Drop, L: L
     /// One more handle of its pool, if the pool has a handle left. `AllocError` says that there was no memory for it,
     /// and none is counted then.
     pub fn pool(this: &Self) -> Result<Option<Pool<M, F, A, C, R, L>>, AllocError>
-        ensures { IfOk result (λ pool. IfSome pool (λ some. some.handle ≡ this.now.out.home)) }
+        ensures { IfOk result (λ pool. IfSome pool (λ some. some ≡ this.now.out.home)) }
     {
         Pool::upgrade(&this.out.home)
     }

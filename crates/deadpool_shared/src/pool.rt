@@ -1,38 +1,60 @@
 //! The handles of a pool.
-ghost use Rattle.std.specs.Prelude.{◌≡◌, ◌⊎◌, Some, None, IfOk, IfSome, IsSome};
+ghost use Rattle.std.specs.Prelude.{◌≡◌, Some, None, IfOk, IfSome};
 ghost use mathlib.Core.List.{IsPrefix};
 ghost use Rattle.deadpool_chronicle.specs.History.{calls_by};
 ghost use Rattle.deadpool_desk.specs.declared.owner_step.OwnerReply.TheVariants as reply;
 ghost use Rattle.deadpool_desk.specs.declared.owner_step.OwnerStep.TheVariants as step;
 ghost use Rattle.deadpool_history.specs.History.{HasCalled, IsBeginning, IsLegal, IsRetain};
+ghost use Rattle.deadpool_history.specs.History.{IsTallyOf, LeavesIdle};
 ghost use Rattle.deadpool_journal.specs.Copies.{HasSteps};
+ghost use Rattle.deadpool_journal.specs.Tally.{AreBalanced};
 ghost use Rattle.deadpool_journal.specs.declared.entry.Entry.TheVariants as entry;
-ghost use Rattle.deadpool_managed.specs.declared.work.Phase.TheVariants.{Unpolled};
+ghost use Rattle.deadpool_lock.specs.Asked.{BorrowingAsks, OwnAsks};
 ghost use Rattle.deadpool_builder.specs.Building.{newly};
 ghost use Rattle.deadpool_shared.specs.Calling.{IsResize};
 ghost use Rattle.deadpool_shared.specs.Counts.{IsNewCaller};
+ghost use Rattle.deadpool_shared.specs.Gets.{getting};
 
-use crate::get::{Get, GetRef};
+use crate::asking::Getting;
 use crate::ledgers::{History, Ledgers};
 use crate::object::Object;
 use crate::shared::Shared;
+use crate::timeouts::{LentTimeouts, OwnTimeouts};
 use deadpool_builder::PoolBuilder;
 use deadpool_chronicle::Caller;
 use deadpool_history::Line;
-use deadpool_journal::Journal;
-use deadpool_lock::{Handle, Home};
+use deadpool_journal::{Journal, Tally};
+use deadpool_lock::{Borrowed, Handle, Home, Owned};
 use deadpool_managed::{
     AsyncHook, Clock, Kept, Manager, Metrics, OwnerReply, OwnerStep, RetainResult, Retainer,
     Status, SyncHook, Timeouts,
 };
 use std::alloc::{AllocError, Global};
-use std::marker::PhantomData;
+use std::marker::{Model, PhantomData};
 use std::sync::Wait;
+
+/// A get, as a future for one object. It counts as a handle of its pool. When it is dropped it gives back what it
+/// holds, and then its handle.
+///
+/// Nothing happens before its first poll. It ends with `OutOfMemory` if there was no memory for its handle, or for its
+/// entry in the queue, and with `NumbersExhausted` if the pool has handed out all shares or all object numbers. After
+/// its end it stays pending.
+pub type Get<M, F, A, C, R, L, W> = Owned<Getting<M, F, A, C, R, L, W, OwnTimeouts>>;
+
+/// A get that borrows a handle of its pool, as a future for one object. It is no handle of its own, and takes the lock
+/// twice with the return of its object, where a `Get` takes it four times. When it is dropped it gives back what it
+/// holds.
+///
+/// Nothing happens before its first poll. It ends as a `Get` does, and after its end it stays pending.
+pub type GetRef<'a, M, F, A, C, R, L, W> = Borrowed<
+    'a,
+    Getting<M, F, A, C, R, L, W, LentTimeouts<'a>>,
+>;
 
 /// A handle of a pool, which the pool counts: the last one, gets included, takes the idle objects with it. They are
 /// dropped with the lock taken, so such a drop must not use the pool. Objects that are out stay.
 ///
-/// What a get gives is a `W`, which is made from the object.
+/// What a get gives is a `W`, which is made from the object. Contracts see what the handles share.
 #[derive(Drop)]
 pub struct Pool<
     M: Manager,
@@ -47,7 +69,16 @@ pub struct Pool<
     of: PhantomData<W>,
 }
 
-/// A handle of a pool that is not counted.
+impl<M: Manager, F: SyncHook<M>, A: AsyncHook<M>, C: Clock, R: Wait + Drop, L: Ledgers, W> Model
+    for Pool<M, F, A, C, R, L, W> {
+    ghost use Rattle.deadpool_shared.specs.declared.shared.Shared.{Shared as AllShare};
+
+    ghost Value = { AllShare M F A C R L M.Type M.Error M.Creating M.Recycling A.State C.Alarm };
+
+    ghost view = { λ p. p.handle };
+}
+
+/// A handle of a pool that is not counted. Contracts see what the handles share.
 #[derive(Drop)]
 pub struct WeakPool<
     M: Manager,
@@ -60,6 +91,15 @@ pub struct WeakPool<
 > {
     home: Home<Shared<M, F, A, C, R, L>>,
     of: PhantomData<W>,
+}
+
+impl<M: Manager, F: SyncHook<M>, A: AsyncHook<M>, C: Clock, R: Wait + Drop, L: Ledgers, W> Model
+    for WeakPool<M, F, A, C, R, L, W> {
+    ghost use Rattle.deadpool_shared.specs.declared.shared.Shared.{Shared as AllShare};
+
+    ghost Value = { AllShare M F A C R L M.Type M.Error M.Creating M.Recycling A.State C.Alarm };
+
+    ghost view = { λ w. w.home };
 }
 
 // Asks a predicate about the idle objects, and has the manager told of those that it rejects.
@@ -104,7 +144,7 @@ impl<M: Manager, F: SyncHook<M>, A: AsyncHook<M>, C: Clock, R: Wait + Drop, L: L
 
     // The first handle of what is shared.
     pub(crate) fn open(alloc: Global, shared: Shared<M, F, A, C, R, L>) -> Result<Self, AllocError>
-        ensures { IfOk result (λ pool. pool.handle ≡ shared) }
+        ensures { IfOk result (λ pool. pool ≡ shared) }
     {
         Ok(Pool {
             handle: Handle::new(alloc, shared)?,
@@ -112,9 +152,16 @@ impl<M: Manager, F: SyncHook<M>, A: AsyncHook<M>, C: Clock, R: Wait + Drop, L: L
         })
     }
 
+    // What it shares with the others.
+    pub(crate) fn handle(&self) -> &Handle<Shared<M, F, A, C, R, L>>
+        ensures { result.now ≡ self.now }
+    {
+        &self.handle
+    }
+
     // One handle more, if one is left.
     pub(crate) fn upgrade(home: &Home<Shared<M, F, A, C, R, L>>) -> Result<Option<Self>, AllocError>
-        ensures { IfOk result (λ pool. IfSome pool (λ some. some.handle ≡ home.now)) }
+        ensures { IfOk result (λ pool. IfSome pool (λ some. some ≡ home.now)) }
     {
         let home = home.clone()?;
         if home.shared().make_for_owner(&OwnerStep::Upgrade) == OwnerReply::Done {
@@ -124,56 +171,6 @@ impl<M: Manager, F: SyncHook<M>, A: AsyncHook<M>, C: Clock, R: Wait + Drop, L: L
             }));
         }
         Ok(None)
-    }
-
-    /// A get with the timeouts of the pool. It is a handle of the pool from now on.
-    pub fn get(&self) -> Get<M, F, A, C, R, L, W>
-        ensures pool { IfSome result.handle (λ shared. shared ≡ self.now.handle) }
-        ensures home { IfSome result.asking.home (λ shared. shared ≡ self.now.handle) }
-        ensures begun { (IsSome result.handle × IsSome result.asking.home)
-            ⊎ IsSome result.asking.refusal }
-        ensures progress { result.asking.progress ≡ record { phase = Unpolled; slot = None } }
-        ensures timeouts { result.timeouts ≡ None }
-        ensures shares { result.asking.shares ≡ None }
-    {
-        Get::new(&self.handle, None)
-    }
-
-    /// A get with timeouts of its own. It is a handle of the pool from now on.
-    pub fn timeout_get(&self, timeouts: &Timeouts) -> Get<M, F, A, C, R, L, W>
-        ensures pool { IfSome result.handle (λ shared. shared ≡ self.now.handle) }
-        ensures home { IfSome result.asking.home (λ shared. shared ≡ self.now.handle) }
-        ensures begun { (IsSome result.handle × IsSome result.asking.home)
-            ⊎ IsSome result.asking.refusal }
-        ensures progress { result.asking.progress ≡ record { phase = Unpolled; slot = None } }
-        ensures timeouts { result.timeouts ≡ Some timeouts.now }
-        ensures shares { result.asking.shares ≡ None }
-    {
-        Get::new(&self.handle, Some(*timeouts))
-    }
-
-    /// A get with the timeouts of the pool, which borrows this handle and is none itself.
-    pub fn get_ref(&self) -> GetRef<'_, M, F, A, C, R, L, W>
-        ensures pool { result.handle.now ≡ self.now.handle }
-        ensures home { IfSome result.asking.home (λ shared. shared ≡ self.now.handle) }
-        ensures begun { IsSome result.asking.home ⊎ IsSome result.asking.refusal }
-        ensures progress { result.asking.progress ≡ record { phase = Unpolled; slot = None } }
-        ensures timeouts { result.timeouts.now ≡ self.now.handle.timeouts }
-        ensures shares { result.asking.shares ≡ None }
-    {
-        GetRef::new(&self.handle, &self.handle.shared().timeouts)
-    }
-
-    /// A get with timeouts of its own, which borrows this handle and is none itself.
-    pub fn timeout_get_ref<'a>(&'a self, timeouts: &'a Timeouts) -> GetRef<'a, M, F, A, C, R, L, W>
-        ensures pool { result.handle.now ≡ self.now.handle }
-        ensures home { IfSome result.asking.home (λ shared. shared ≡ self.now.handle) }
-        ensures begun { IsSome result.asking.home ⊎ IsSome result.asking.refusal }
-        ensures progress { result.asking.progress ≡ record { phase = Unpolled; slot = None } }
-        ensures timeouts { result.timeouts.now ≡ timeouts.now }
-        ensures shares { result.asking.shares ≡ None }
-    {
-        GetRef::new(&self.handle, timeouts)
     }
 
     /// Sets the greatest number of objects. While there are more, idle ones are dropped, the front one first, without a
@@ -227,7 +224,8 @@ impl<M: Manager, F: SyncHook<M>, A: AsyncHook<M>, C: Clock, R: Wait + Drop, L: L
         predicate: P,
     ) -> Result<RetainResult<M::Type>, AllocError>
         requires { P.IsAlwaysCallable predicate }
-        ensures { HasCalled (IsRetain result) caller.old caller.new }
+        ensures call { HasCalled (IsRetain result) caller.old caller.new }
+        ensures idle { LeavesIdle result caller.new.seen }
     {
         let mut retainer = ByPredicate {
             predicate,
@@ -250,7 +248,7 @@ impl<M: Manager, F: SyncHook<M>, A: AsyncHook<M>, C: Clock, R: Wait + Drop, L: L
         ensures two { two.new ≡ record two.old { seen = one.new.seen } }
         ensures seen_by_one { IsPrefix one.old.seen one.new.seen }
         ensures seen_by_two { IsPrefix two.old.seen one.new.seen }
-        ensures opened { IsPrefix self.now.handle.opening.log one.new.seen }
+        ensures opened { IsPrefix self.now.opening.log one.new.seen }
         ensures legal { IsLegal one.new.seen }
         ensures calls_of_one { calls_by one.old.number one.new.seen ≡ one.old.mine }
         ensures calls_of_two { calls_by two.old.number one.new.seen ≡ two.old.mine }
@@ -260,14 +258,14 @@ impl<M: Manager, F: SyncHook<M>, A: AsyncHook<M>, C: Clock, R: Wait + Drop, L: L
 
     /// The timeouts that the pool was built with.
     pub fn timeouts(&self) -> Timeouts
-        ensures { result ≡ self.now.handle.timeouts }
+        ensures { result ≡ self.now.timeouts }
     {
         self.handle.shared().timeouts
     }
 
     /// The manager that the pool was built with.
     pub fn manager(&self) -> &M
-        ensures { result.now ≡ self.now.handle.environment.manager }
+        ensures { result.now ≡ self.now.environment.manager }
     {
         &self.handle.shared().environment.manager
     }
@@ -310,6 +308,24 @@ impl<M: Manager, F: SyncHook<M>, A: AsyncHook<M>, C: Clock, R: Wait + Drop, L: L
         self.handle.shared().status_by(caller)
     }
 
+    /// How often each thing has happened since the pool was opened, and how the pool stands, all at one moment. The
+    /// books balance: each object that was created is in the pool, or is counted where it was given up.
+    pub fn tally(&self) -> (Tally, Status)
+        ensures { AreBalanced result.1.size result.0 }
+    {
+        self.handle.shared().tally()
+    }
+
+    /// `tally` by a caller that the history has it of. The tally is that of the history.
+    pub fn tally_by(&self, caller: &mut Caller<Line, History<L>>) -> (Tally, Status)
+        ensures call { HasCalled (λ e. e ≡ entry.Owner step.Status (reply.Stands result.1))
+            caller.old caller.new }
+        ensures counted { IsTallyOf caller.new.seen result.0 }
+        ensures balances { AreBalanced result.1.size result.0 }
+    {
+        self.handle.shared().tally_by(caller)
+    }
+
     /// A copy of the pool's journal: the state that the pool opened with, and its first steps since, each with the
     /// reply that it got. `AllocError` says that there was no memory for the copy.
     pub fn journal(&self) -> Result<Journal, AllocError>
@@ -332,7 +348,7 @@ impl<M: Manager, F: SyncHook<M>, A: AsyncHook<M>, C: Clock, R: Wait + Drop, L: L
 
     /// A handle that is not counted. `AllocError` says that there was no memory for it.
     pub fn weak(&self) -> Result<WeakPool<M, F, A, C, R, L, W>, AllocError>
-        ensures { IfOk result (λ weak. weak.home ≡ self.now.handle) }
+        ensures { IfOk result (λ weak. weak ≡ self.now) }
     {
         Ok(WeakPool {
             home: self.handle.uncounted()?,
@@ -342,12 +358,79 @@ impl<M: Manager, F: SyncHook<M>, A: AsyncHook<M>, C: Clock, R: Wait + Drop, L: L
 
     /// One handle more. `AllocError` says that there was no memory for it, and none is counted then.
     pub fn clone(&self) -> Result<Self, AllocError>
-        ensures { IfOk result (λ pool. pool.handle ≡ self.now.handle) }
+        ensures { IfOk result (λ pool. pool ≡ self.now) }
     {
         Ok(Pool {
             handle: self.handle.clone()?,
             of: PhantomData,
         })
+    }
+}
+
+impl<M: Manager, F: SyncHook<M>, A: AsyncHook<M>, C: Clock, R: Wait + Drop, L: Ledgers, W> Pool<
+    M,
+    F,
+    A,
+    C,
+    R,
+    L,
+    W,
+>
+where
+    W: From<Object<M, F, A, C, R, L>>,
+{
+    /// A get with the timeouts of the pool. It is a handle of the pool from now on.
+    pub fn get(&self) -> Get<M, F, A, C, R, L, W>
+        ensures { OwnAsks self.now self.now (getting None) result }
+    {
+        Owned::new(self.begin(), Getting::new(OwnTimeouts::new(None)))
+    }
+
+    /// A get with timeouts of its own. It is a handle of the pool from now on.
+    pub fn timeout_get(&self, timeouts: &Timeouts) -> Get<M, F, A, C, R, L, W>
+        ensures { OwnAsks self.now self.now (getting (Some timeouts.now)) result }
+    {
+        Owned::new(
+            self.begin(),
+            Getting::new(OwnTimeouts::new(Some(*timeouts))),
+        )
+    }
+
+    /// A get with the timeouts of the pool, which borrows this handle and is none itself.
+    pub fn get_ref(&self) -> GetRef<'_, M, F, A, C, R, L, W>
+        ensures { BorrowingAsks self.now self.now (getting self.now.timeouts) result }
+    {
+        self.timeout_get_ref(&self.handle.shared().timeouts)
+    }
+
+    /// A get with timeouts of its own, which borrows this handle and is none itself.
+    #[inline(always)]
+    pub fn timeout_get_ref<'a>(&'a self, timeouts: &'a Timeouts) -> GetRef<'a, M, F, A, C, R, L, W>
+        ensures { BorrowingAsks self.now self.now (getting timeouts.now) result }
+    {
+        Borrowed::new(
+            &self.handle,
+            self.handle.uncounted(),
+            Getting::new(LentTimeouts::new(timeouts)),
+        )
+    }
+
+    // What a new get has, if there is memory for it.
+    #[inline(always)]
+    fn begin(
+        &self,
+    ) -> Result<
+        (
+            Handle<Shared<M, F, A, C, R, L>>,
+            Home<Shared<M, F, A, C, R, L>>,
+        ),
+        AllocError,
+    >
+        ensures handle { IfOk result (λ begun. begun.0 ≡ self.now) }
+        ensures home { IfOk result (λ begun. begun.1 ≡ self.now) }
+    {
+        let home = self.handle.uncounted()?;
+        Ok((self.handle.clone()?, home))
     }
 }
 
@@ -363,7 +446,7 @@ impl<M: Manager, F: SyncHook<M>, A: AsyncHook<M>, C: Clock, R: Wait + Drop, L: L
     /// One handle more, if the pool has one left. `AllocError` says that there was no memory for it, and none is
     /// counted then.
     pub fn upgrade(&self) -> Result<Option<Pool<M, F, A, C, R, L, W>>, AllocError>
-        ensures { IfOk result (λ pool. IfSome pool (λ some. some.handle ≡ self.now.home)) }
+        ensures { IfOk result (λ pool. IfSome pool (λ some. some ≡ self.now)) }
     {
         Pool::upgrade(&self.home)
     }

@@ -12,7 +12,7 @@ use crate::shared::Shared;
 use crate::shares::Shares;
 use deadpool_chronicle::Caller;
 use deadpool_history::Line;
-use deadpool_lock::Listener;
+use deadpool_lock::Registration;
 use deadpool_managed::{AsyncHook, Clock, Desk, Kept, Manager, Reply, Slot, Step, SyncHook};
 use std::marker::Model;
 use std::sync::Wait;
@@ -35,7 +35,7 @@ pub struct Seat<
     shared: &'a Shared<M, F, A, C, R, L>,
     // None before a get enters that was handed out none.
     shares: Option<Shares<L>>,
-    listener: &'a mut Listener,
+    registration: &'a mut Registration,
 }
 
 impl<'a, M: Manager, F: SyncHook<M>, A: AsyncHook<M>, C: Clock, R: Wait + Drop, L: Ledgers> Model
@@ -63,7 +63,7 @@ impl<'a, M: Manager, F: SyncHook<M>, A: AsyncHook<M>, C: Clock, R: Wait + Drop, 
         let (reply, spare) = match &mut self.shares {
             Some(shares) => section
                 .kept()
-                .make(shares, step, hand, self.listener.waker()),
+                .make(shares, step, hand, self.registration.waker()),
             // (it holds nothing)
             None => match step {
                 Step::Enter { .. } => (Reply::Exhausted, None),
@@ -90,14 +90,14 @@ impl<'a, M: Manager, F: SyncHook<M>, A: AsyncHook<M>, C: Clock, R: Wait + Drop, 
     pub(crate) fn new(
         shared: &'a Shared<M, F, A, C, R, L>,
         shares: Option<Shares<L>>,
-        listener: &'a mut Listener,
+        registration: &'a mut Registration,
     ) -> Self
         ensures { result ≡ shares }
     {
         Seat {
             shared,
             shares,
-            listener,
+            registration,
         }
     }
 
@@ -116,7 +116,7 @@ impl<'a, M: Manager, F: SyncHook<M>, A: AsyncHook<M>, C: Clock, R: Wait + Drop, 
         let Seat {
             shared: _,
             shares,
-            listener: _,
+            registration: _,
         } = self;
         shares
     }

@@ -6,7 +6,9 @@ ghost use Rattle.deadpool_desk.specs.Replies.{IsOwnerReplyTo};
 ghost use Rattle.deadpool_desk.specs.declared.owner_step.OwnerReply.TheVariants as reply;
 ghost use Rattle.deadpool_desk.specs.declared.owner_step.OwnerStep.TheVariants as step;
 ghost use Rattle.deadpool_history.specs.History.{HasCalled, IsBeginning, IsLegal, IsRetain};
+ghost use Rattle.deadpool_history.specs.History.{IsTallyOf, LeavesIdle};
 ghost use Rattle.deadpool_journal.specs.Copies.{HasSteps};
+ghost use Rattle.deadpool_journal.specs.Tally.{AreBalanced};
 ghost use Rattle.deadpool_journal.specs.declared.entry.Entry.TheVariants as entry;
 ghost use Rattle.deadpool_shared.specs.Counts.{IsNewCaller};
 
@@ -14,7 +16,7 @@ use crate::ledgers::{History, Ledgers};
 use crate::locked::Locked;
 use deadpool_chronicle::{Beginning, Caller};
 use deadpool_history::Line;
-use deadpool_journal::Journal;
+use deadpool_journal::{Journal, Tally};
 use deadpool_lock::{Counted, StepLock};
 use deadpool_managed::{
     AsyncHook, Clock, Environment, Kept, Manager, OwnerReply, OwnerStep, RetainResult, Retainer,
@@ -125,6 +127,26 @@ impl<M: Manager, F: SyncHook<M>, A: AsyncHook<M>, C: Clock, R: Wait + Drop, L: L
         }
     }
 
+    /// How often each thing has happened since the pool was opened, and how it stands now, which the journal notes. It
+    /// makes nobody due.
+    pub fn tally_by(&self, caller: &mut Caller<Line, History<L>>) -> (Tally, Status)
+        ensures call { HasCalled (λ e. e ≡ entry.Owner step.Status (reply.Stands result.1))
+            caller.old caller.new }
+        ensures counted { IsTallyOf caller.new.seen result.0 }
+        ensures balances { AreBalanced result.1.size result.0 }
+    {
+        self.lock.look().tally(caller)
+    }
+
+    /// The same by a new caller.
+    pub fn tally(&self) -> (Tally, Status)
+        ensures { AreBalanced result.1.size result.0 }
+    {
+        let mut locked = self.lock.look();
+        let mut caller = locked.admit();
+        locked.tally(&mut caller)
+    }
+
     /// Whether the pool was closed. It is no step.
     pub fn is_closed(&self) -> bool {
         self.lock.look().is_closed()
@@ -157,6 +179,7 @@ impl<M: Manager, F: SyncHook<M>, A: AsyncHook<M>, C: Clock, R: Wait + Drop, L: L
         requires { K.can_call retainer.old }
         ensures can_call { K.can_call retainer.new }
         ensures call { HasCalled (IsRetain result) caller.old caller.new }
+        ensures idle { LeavesIdle result caller.new.seen }
     {
         let mut step = self.lock.begin();
         let retained = step.kept().retain(caller, retainer);

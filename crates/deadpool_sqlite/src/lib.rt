@@ -4,10 +4,12 @@
 
 mod get;
 mod manager;
+mod query;
 mod recycling;
 mod source;
 
 pub use get::{GetConnection, PooledConnection, SqlitePool, poll_connection};
 pub use manager::SqliteManager;
+pub use query::ping;
 pub use recycling::RecyclingMethod;
 pub use source::{AtPath, InMemory, Source};

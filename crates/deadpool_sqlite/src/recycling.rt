@@ -1,5 +1,5 @@
 //! What is done to a connection before it is handed out again.
-ghost use Rattle.std.specs.Prelude.{◌≡◌, ◌≤◌, true, false, [], codes, Ok, IfErr, OnOk, IsTrue};
+ghost use Rattle.std.specs.Prelude.{◌≡◌, ◌≤◌, false, [], codes, Ok, IfErr, OnOk, IsTrue};
 ghost use Rattle.sqlite.specs.View.{doubt};
 ghost use Rattle.sqlite.specs.Held.{state};
 ghost use Rattle.sqlite.specs.State.{HasCleanDisk, KeepsCommit, Executes, QueriesRow};

@@ -1,28 +1,41 @@
 -- What a get gives that was begun at a pool goes back to that pool.
-use Rattle.std.specs.Prelude.{◌≡◌, Option, Some, None, Result, Ok, Err, IfOk, IfSome}
-use Rattle.deadpool_lock.specs.Requests.{BorrowingGives}
+use Rattle.std.proofs.Common.{◌≡◌, inl, inr, sym, Result, Ok, Err, IfOk}
+use Rattle.deadpool_lock.specs.Asked.{Asked, BorrowingAsks, Gives}
+use Rattle.deadpool_lock.specs.declared.registration.Registration.{Registration}
 use Rattle.deadpool_shared.specs.Gets.{GivesReady}
 
-module _ {O W E H : Type 0} where
-  pub goes_back :
-      (comes_from : O → W → Type 0) (is_ready : O → Type 0) (home_of : O → H) (home : Option H) (pool : H)
-      (ended : Result W E)
-      → IfSome home (λ shared. shared ≡ pool)
-      → GivesReady comes_from (λ o. is_ready o × (home ≡ Some (home_of o))) ended
-      → GivesReady comes_from (λ o. is_ready o × (home_of o ≡ pool)) ended
-  goes_back comes_from is_ready home_of home pool (Err cause) of given = tt
-  goes_back comes_from is_ready home_of home pool (Ok w) of (o, ((ready, at), comes)) =
-      (o, ((ready, rw (at) at of), comes))
+module _ {S K Q O : Type 0} (gives : Q → K → O → Type 0) (refuses : Q → O → Type 0) (P : O → Type 0) where
+  -- what a future gives that borrows a handle
+  pub gives_as_asked :
+      (shared : S) (kept : K) (asked : Q) (future : Asked S K Q) (x : O)
+      → BorrowingAsks shared kept asked future
+      → (gives asked kept x → P x) → (refuses asked x → P x)
+      → Gives gives refuses future.stage future.request x → P x
+  gives_as_asked shared kept asked future x (inl asks) by_gives by_refuses given =
+      by_gives (rw (asks.1, asks.2) at given)
+  gives_as_asked shared kept asked future x (inr refused) by_gives by_refuses given =
+      by_refuses (rw (refused.1, refused.2) at given)
 
-module _ {O Q R E H : Type 0} where
-  -- the same of a request
-  pub request_goes_back :
-      (request : Option Q) (refusal : Option R) (ended : Result O E) (place : Q → H) (home_of : O → H) (pool : H)
-      (cause : E)
-      → IfSome request (λ asked. place asked ≡ pool)
-      → BorrowingGives (λ asked x. IfOk x (λ o. home_of o ≡ place asked)) (λ _ x. x ≡ Err cause) request refusal ended
-      → IfOk ended (λ o. home_of o ≡ pool)
-  request_goes_back request (Some refused) ended place home_of pool cause of given = rw (given) tt
-  request_goes_back (Some asked) None (Err e) place home_of pool cause of given = tt
-  request_goes_back (Some asked) None (Ok o) place home_of pool cause of given = rw (given) of
-  request_goes_back None None ended place home_of pool cause of given = elim given [ ]
+  -- the same of one whose registration was exchanged since it began
+  pub gives_as_begun :
+      (shared : S) (kept : K) (asked : Q) (begun future : Asked S K Q) (registration : Registration) (x : O)
+      → BorrowingAsks shared kept asked begun → future ≡ record begun { registration = registration }
+      → (gives asked kept x → P x) → (refuses asked x → P x)
+      → Gives gives refuses future.stage future.request x → P x
+  gives_as_begun shared kept asked begun future registration x asks same by_gives by_refuses given =
+      gives_as_asked shared kept asked begun x asks by_gives by_refuses (rw (same) at given)
+
+module _ {O W E H : Type 0} (comes_from : O → W → Type 0) (is_ready : O → Type 0) (home_of : O → H) (pool : H) where
+  pub goes_back : (ended : Result W E) → GivesReady comes_from (λ o. is_ready o × (pool ≡ home_of o)) ended
+      → GivesReady comes_from (λ o. is_ready o × (home_of o ≡ pool)) ended
+  goes_back (Err cause) given = tt
+  goes_back (Ok w) (o, ((ready, at), comes)) = (o, ((ready, sym at), comes))
+
+  -- one that was refused gives nothing
+  pub refused_gives_nothing : (ended : Result W E) (cause : E) → ended ≡ Err cause
+      → GivesReady comes_from (λ o. is_ready o × (home_of o ≡ pool)) ended
+  refused_gives_nothing ended cause is = rw (is) tt
+
+pub nothing_goes_back : {O E : Type 0} (P : O → Type 0) (ended : Result O E) (cause : E) → ended ≡ Err cause
+    → IfOk ended P
+nothing_goes_back P ended cause is = rw (is) tt

@@ -1,1 +1,2 @@
+-- What a wait for one future answers.
 pub mod Answered

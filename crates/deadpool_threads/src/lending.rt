@@ -1,5 +1,5 @@
 //! A pool that is built for one user.
-ghost use Rattle.std.specs.Prelude.{◌≡◌, ◌↔◌, true, Err, IfOk};
+ghost use Rattle.std.specs.Prelude.{◌≡◌, ◌↔◌, true, Err};
 ghost use Rattle.deadpool_parts.specs.declared.errors.BuildError.TheVariants.{NoRuntimeSpecified};
 ghost use Rattle.deadpool_builder.specs.Building.{lacks_any_runtime};
 
@@ -12,7 +12,7 @@ use std::marker::Brand;
 use std::sync::Wait;
 
 /// Builds a pool with ledgers of its own, and lends it to its user.
-pub fn lend<M, F, A, C, R, U>(
+pub fn with_pool<M, F, A, C, R, U>(
     builder: PoolBuilder<M, F, A, C>,
     rt: R,
     user: U,
@@ -29,11 +29,11 @@ where
     ensures refused { (result ≡ Err NoRuntimeSpecified)
         ↔ (lacks_any_runtime builder.runtime builder.timeouts ≡ true) }
 {
-    lend_by::<M, F, A, C, R, U, Brand>(builder, rt, user, Blanks::new())
+    with_pool_by::<M, F, A, C, R, U, Brand>(builder, rt, user, Blanks::new())
 }
 
 // The same with these ledgers.
-fn lend_by<M, F, A, C, R, U, L>(
+fn with_pool_by<M, F, A, C, R, U, L>(
     builder: PoolBuilder<M, F, A, C>,
     rt: R,
     user: U,

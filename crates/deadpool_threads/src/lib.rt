@@ -2,18 +2,28 @@
 //! thread waits for an object by what it keeps.
 #![tactic(auto)]
 
+mod blocking;
+mod blocking_loop;
+mod draining;
+mod handed;
 mod host;
+mod keeper;
+mod keeping;
 mod lending;
 mod plain;
+mod sweeper;
 mod threads;
+mod trying;
 mod user;
-mod waiter;
-mod waiting;
 
+pub use blocking::Blocking;
+pub use blocking_loop::BlockingLoop;
+pub use handed::{BlockingUser, Handed};
 pub use host::Host;
-pub use lending::lend;
+pub use keeper::{Keeper, Shift};
+pub use keeping::with_keeper;
+pub use lending::with_pool;
 pub use plain::{Plain, PlainManager, PlainPool};
-pub use threads::lend_among;
+pub use sweeper::Sweeper;
+pub use threads::with_threads;
 pub use user::PoolUser;
-pub use waiter::Waiter;
-pub use waiting::Waiting;

@@ -10,8 +10,8 @@ use deadpool_parts::NoTime;
 use deadpool_shared::Pool;
 use futures::task::{Context, Poll};
 
-/// A pool without hooks and timeouts.
-pub type PlainPool<M, R, L> = Pool<M, NoHook, NoHook, NoTime, R, L>;
+/// A pool without hooks. By default its clock stands still, so that it has no timeouts.
+pub type PlainPool<M, R, L, C = NoTime> = Pool<M, NoHook, NoHook, C, R, L>;
 
 /// Makes the objects of a pool and recycles those that came back, each in one call.
 ///

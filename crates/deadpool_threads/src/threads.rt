@@ -1,5 +1,5 @@
 //! A pool that several threads use.
-ghost use Rattle.std.specs.Prelude.{◌≡◌, ◌↔◌, true, vec_len, All, Err, IfOk, IfErr};
+ghost use Rattle.std.specs.Prelude.{◌≡◌, ◌↔◌, true, vec_len, Err, IfOk, IfErr};
 ghost use Rattle.deadpool_parts.specs.declared.errors.BuildError.TheVariants.{NoRuntimeSpecified, OutOfMemory};
 ghost use Rattle.deadpool_builder.specs.Building.{lacks_any_runtime};
 
@@ -15,7 +15,7 @@ use std::thread;
 /// Builds a pool with ledgers of its own, and starts a thread for each of these workers, which uses it. Once all have
 /// returned, it is lent to the last user, on this thread. `OutOfMemory` also says that a thread was not started; those
 /// before it are joined first.
-pub fn lend_among<M, F, A, C, R, W, U>(
+pub fn with_threads<M, F, A, C, R, W, U>(
     builder: PoolBuilder<M, F, A, C>,
     rt: R,
     workers: Vec<W>,
@@ -40,11 +40,11 @@ where
         ↔ (lacks_any_runtime builder.runtime builder.timeouts ≡ true) }
     ensures each { IfOk result (λ outputs. vec_len outputs.0 ≡ vec_len workers) }
 {
-    lend_among_by::<M, F, A, C, R, W, U, Brand>(builder, rt, workers, last, Blanks::new())
+    with_threads_by::<M, F, A, C, R, W, U, Brand>(builder, rt, workers, last, Blanks::new())
 }
 
 // The same with these ledgers.
-fn lend_among_by<M, F, A, C, R, W, U, L>(
+fn with_threads_by<M, F, A, C, R, W, U, L>(
     builder: PoolBuilder<M, F, A, C>,
     rt: R,
     workers: Vec<W>,
@@ -79,7 +79,7 @@ where
 }
 
 // What the workers return, each of which uses the pool in a thread of its own.
-fn in_threads<M, F, A, C, R, W, L>(
+pub(crate) fn in_threads<M, F, A, C, R, W, L>(
     rt: &R,
     workers: Vec<W>,
     pool: &Pool<M, F, A, C, R, L>,

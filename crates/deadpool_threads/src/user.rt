@@ -7,7 +7,7 @@ use std::sync::Wait;
 
 /// What is done with a pool that is lent, whatever ledgers it counts by.
 ///
-/// It starts no thread that uses the pool: `lend_among` does.
+/// It starts no thread that uses the pool: `with_threads` does.
 pub trait PoolUser<M: Manager, F: SyncHook<M>, A: AsyncHook<M>, C: Clock, R: Wait + Drop>: Drop {
     /// What comes of it.
     type Output;

@@ -1,5 +1,4 @@
 //! A clock of real time, and the thread that wakes by it.
-ghost use Rattle.futures.specs.Task.{Keeps};
 
 use crate::alarms::Place;
 use crate::lock::{AlarmLock, Round};

@@ -1,32 +1,19 @@
 -- What the steps of a gate do to the queue that its waiters are.
-use Rattle.deadpool_unmanaged.proofs.Words.{◌≡◌, ℕ, ◌+◌, ◌<◌, ◌≤◌, Bool, not, List, [], ◌∷◌, ◌++◌, length, min, cond}
-use Rattle.deadpool_unmanaged.proofs.Words.{take, drop, refl, ap, ◌∙◌, arith, true, false, Option, None, Some, IsSome}
-use Rattle.deadpool_unmanaged.proofs.Words.{zero, suc, ◌-◌, length-append, slice_get, Waiter, Line, arrived}
-use Rattle.deadpool_unmanaged.proofs.Words.{without_waiter, granted_tickets, waiting_tickets, untold_tickets}
-use Rattle.deadpool_unmanaged.proofs.Words.{grant_count, IsApart, joined, without, served, still_untold}
-use Rattle.deadpool_unmanaged.proofs.Words.{grant_count-length, granted_tickets-arrived, waiting_tickets-arrived}
-use Rattle.deadpool_unmanaged.proofs.Words.{untold_tickets-arrived, granted_tickets-without_waiter}
-use Rattle.deadpool_unmanaged.proofs.Words.{waiting_tickets-without_waiter, untold_tickets-without_waiter}
-use Rattle.deadpool_unmanaged.proofs.Words.{length-both_tickets, queue_of, state_of, IsFull, free_objects, free_room}
+use Rattle.deadpool_unmanaged.proofs.Words.{◌≡◌, ℕ, ◌+◌, ◌-◌, ◌≤◌, Bool, not, List, [], ◌∷◌, ◌++◌, length, refl, ap}
+use Rattle.deadpool_unmanaged.proofs.Words.{◌∙◌, arith, true, false, Option, None, Some, IsSome, zero, suc, slice_get}
+use Rattle.deadpool_unmanaged.proofs.Words.{Waiter, Line, arrived, without_waiter, granted_tickets, waiting_tickets}
+use Rattle.deadpool_unmanaged.proofs.Words.{unnotified_tickets, IsApart, served}
+use Rattle.deadpool_unmanaged.proofs.Words.{still_unnotified, unnotified_tickets-arrived}
+use Rattle.deadpool_unmanaged.proofs.Words.{unnotified_tickets-without_waiter, queue_of, queue-without, queue-joined}
+use Rattle.deadpool_unmanaged.proofs.Words.{queue-length, free_of, NobodyWaits, state_of, IsFull, free_objects}
 use Rattle.deadpool_unmanaged.proofs.Words.{settled, last_idle, without_get, without_add, with_get, with_add, subst}
-use Rattle.deadpool_unmanaged.proofs.Words.{sym, State, Inside}
+use Rattle.deadpool_unmanaged.proofs.Words.{free_room, sym, State, Inside}
 use Rattle.std.specs.Option.{option_to_list}
-use Rattle.deadpool_unmanaged.proofs.Queues.{served-settled}
 use Rattle.deadpool_unmanaged.proofs.Kept.{settled-gets, settled-adds}
-
--- the queue when a waiter leaves
-pub queue-without : (t : ℕ) (ws : List Waiter) → IsApart ws → queue_of (without_waiter t ws) ≡ without t (queue_of ws)
-queue-without t ws apart =
-    rw (granted_tickets-without_waiter t ws apart, waiting_tickets-without_waiter t ws apart) refl
-
--- and when one comes
-pub queue-joined : (t : ℕ) (ws : List Waiter) → queue_of (ws ++ arrived t ∷ []) ≡ joined t (queue_of ws)
-queue-joined t ws = rw (granted_tickets-arrived t ws, waiting_tickets-arrived t ws) refl
 
 -- a line that is full is a queue that is
 pub queue-full : (room : ℕ) (ws : List Waiter) → room ≤ length ws → IsFull room (queue_of ws)
-queue-full room ws full = let all = length-append (granted_tickets ws) (waiting_tickets ws) in
-    omega (arith, full, all, length-both_tickets ws)
+queue-full room ws full = omega (arith, full, queue-length ws)
 
 -- nothing stands past the end
 pub past_end : {T : Type 0} (xs : List T) (n : ℕ) → slice_get xs n ≡ None → length xs ≤ n
@@ -54,25 +41,6 @@ pub joined_idle : {T : Type 0} (idle after : List T) (hand : Option T) (value : 
     → after ≡ idle ++ option_to_list hand → after ≡ idle ++ value ∷ []
 joined_idle idle after hand value has joins = joins ∙ ap (λ o. idle ++ option_to_list o) has
 
--- what is free goes to those that wait
-pub queue-served : (c : Bool) (room n : ℕ) (ws after : List Waiter) → n ≡ grant_count c room ws
-    → granted_tickets after ≡ granted_tickets ws ++ take n (waiting_tickets ws)
-    → waiting_tickets after ≡ drop n (waiting_tickets ws)
-    → queue_of after ≡ served (not c) room (queue_of ws)
-queue-served c room n ws after count granted waiting =
-    let as_many : n ≡ cond (not c) (min (length (waiting_tickets ws)) room) 0 = count ∙ grant_count-length c room ws in
-    rw (granted, waiting, as_many) refl
-
--- with nobody waiting nobody is served
-pub queue-quiet : (c : Bool) (room : ℕ) (ws : List Waiter) → length (waiting_tickets ws) ≡ 0
-    → queue_of ws ≡ served (not c) room (queue_of ws)
-queue-quiet c room ws none =
-    served-settled (not c) room (queue_of ws) (λ is_open free. nobody_waits (waiting_tickets ws) none)
-  where
-    nobody_waits : (xs : List ℕ) → length xs ≡ 0 → xs ≡ []
-    nobody_waits [] none = refl
-    nobody_waits (x ∷ xs) none = cc
-
 module _ {T : Type 0} (core : Inside T) (gate : Line) where
   abbrev with_gets : Inside T
   with_gets = record core { gets = gate }
@@ -93,21 +61,21 @@ module _ {T : Type 0} (core : Inside T) (gate : Line) where
         gone,
         closed,
         queue-without t core.gets.waiters apart,
-        untold_tickets-without_waiter t core.gets.waiters apart,
+        unnotified_tickets-without_waiter t core.gets.waiters apart,
       ) refl
 
   pub gets-joined : (t : ℕ) → gate.waiters ≡ core.gets.waiters ++ arrived t ∷ [] → gate.is_closed ≡ core.gets.is_closed
       → state_of with_gets ≡ with_get t (state_of core)
   gets-joined t longer closed =
-      rw (longer, closed, queue-joined t core.gets.waiters, untold_tickets-arrived t core.gets.waiters) refl
+      rw (longer, closed, queue-joined t core.gets.waiters, unnotified_tickets-arrived t core.gets.waiters) refl
 
   pub gets-told : (named : Option ℕ) → granted_tickets gate.waiters ≡ granted_tickets core.gets.waiters
       → waiting_tickets gate.waiters ≡ waiting_tickets core.gets.waiters
-      → untold_tickets gate.waiters ≡ still_untold named (untold_tickets core.gets.waiters)
+      → unnotified_tickets gate.waiters ≡ still_unnotified named (unnotified_tickets core.gets.waiters)
       → gate.is_closed ≡ core.gets.is_closed
       → state_of with_gets ≡ record (state_of core)
-      { untold_gets = still_untold named (untold_tickets core.gets.waiters) }
-  gets-told named granted waiting untold closed = rw (granted, waiting, untold, closed) refl
+      { unnotified_gets = still_unnotified named (unnotified_tickets core.gets.waiters) }
+  gets-told named granted waiting unnotified closed = rw (granted, waiting, unnotified, closed) refl
 
   -- the same of the adds
   pub adds-same : gate.waiters ≡ core.adds.waiters → state_of with_adds ≡ state_of core
@@ -116,39 +84,43 @@ module _ {T : Type 0} (core : Inside T) (gate : Line) where
   pub adds-without : (t : ℕ) → IsApart core.adds.waiters → gate.waiters ≡ without_waiter t core.adds.waiters
       → state_of with_adds ≡ without_add t (state_of core)
   adds-without t apart gone =
-      rw (gone, queue-without t core.adds.waiters apart, untold_tickets-without_waiter t core.adds.waiters apart) refl
+      rw (gone, queue-without t core.adds.waiters apart, unnotified_tickets-without_waiter t core.adds.waiters apart)
+      refl
 
   pub adds-joined : (t : ℕ) → gate.waiters ≡ core.adds.waiters ++ arrived t ∷ []
       → state_of with_adds ≡ with_add t (state_of core)
-  adds-joined t longer = rw (longer, queue-joined t core.adds.waiters, untold_tickets-arrived t core.adds.waiters) refl
+  adds-joined t longer = rw (longer, queue-joined t core.adds.waiters, unnotified_tickets-arrived t core.adds.waiters)
+      refl
 
   pub adds-told : (named : Option ℕ) → granted_tickets gate.waiters ≡ granted_tickets core.adds.waiters
       → waiting_tickets gate.waiters ≡ waiting_tickets core.adds.waiters
-      → untold_tickets gate.waiters ≡ still_untold named (untold_tickets core.adds.waiters)
+      → unnotified_tickets gate.waiters ≡ still_unnotified named (unnotified_tickets core.adds.waiters)
       → state_of with_adds ≡ record (state_of core)
-      { untold_adds = still_untold named (untold_tickets core.adds.waiters) }
-  adds-told named granted waiting untold = rw (granted, waiting, untold) refl
+      { unnotified_adds = still_unnotified named (unnotified_tickets core.adds.waiters) }
+  adds-told named granted waiting unnotified = rw (granted, waiting, unnotified) refl
 
   -- one line is settled, where nobody in the other waits for what is free
   pub gets-settled : (after : Line) (total : ℕ) (d : State T) → total ≡ length core.idle.items → state_of with_gets ≡ d
-      → queue_of after.waiters ≡ served (not gate.is_closed) (total - length (granted_tickets gate.waiters))
-      (queue_of gate.waiters)
-      → untold_tickets after.waiters ≡ untold_tickets gate.waiters → after.is_closed ≡ gate.is_closed
-      → (d.is_open ≡ true → 0 < free_room d → d.adds.waiting ≡ []) → state_of (record core { gets = after }) ≡ settled d
-  gets-settled after total d all is queue untold closed room =
-      let quiet = subst (λ e. e.is_open ≡ true → 0 < free_room e → e.adds.waiting ≡ []) (sym is) room in
+      → queue_of after.waiters
+      ≡ served (not gate.is_closed) (free_of total 0 (queue_of gate.waiters)) (queue_of gate.waiters)
+      → unnotified_tickets after.waiters ≡ unnotified_tickets gate.waiters → after.is_closed ≡ gate.is_closed
+      → NobodyWaits d.is_open (free_room d) d.adds → state_of (record core { gets = after }) ≡ settled d
+  gets-settled after total d all is queue unnotified closed room =
+      let quiet = subst (λ e. NobodyWaits e.is_open (free_room e) e.adds) (sym is) room in
+      let whole : total - 0 ≡ length core.idle.items = omega (arith, all) in
       subst (λ e. state_of (record core { gets = after }) ≡ settled e) is
-      (rw (queue, untold, closed, all) (settled-gets (state_of with_gets) quiet))
+      (rw (queue, unnotified, closed, whole) (settled-gets (state_of with_gets) quiet))
 
   pub adds-settled : (after : Line) (total : ℕ) (d : State T)
       → total ≡ core.limit - (length core.idle.items + core.outside) → state_of with_adds ≡ d
       → gate.is_closed ≡ core.gets.is_closed
-      → queue_of after.waiters ≡ served (not gate.is_closed) (total - length (granted_tickets gate.waiters))
-      (queue_of gate.waiters)
-      → untold_tickets after.waiters ≡ untold_tickets gate.waiters
-      → (d.is_open ≡ true → 0 < free_objects d → d.gets.waiting ≡ [])
+      → queue_of after.waiters
+      ≡ served (not gate.is_closed) (free_of total 0 (queue_of gate.waiters)) (queue_of gate.waiters)
+      → unnotified_tickets after.waiters ≡ unnotified_tickets gate.waiters
+      → NobodyWaits d.is_open (free_objects d) d.gets
       → state_of (record core { adds = after }) ≡ settled d
-  adds-settled after total d all is closed queue untold objects =
-      let quiet = subst (λ e. e.is_open ≡ true → 0 < free_objects e → e.gets.waiting ≡ []) (sym is) objects in
+  adds-settled after total d all is closed queue unnotified objects =
+      let quiet = subst (λ e. NobodyWaits e.is_open (free_objects e) e.gets) (sym is) objects in
+      let whole : total - 0 ≡ core.limit - (length core.idle.items + core.outside) = omega (arith, all) in
       subst (λ e. state_of (record core { adds = after }) ≡ settled e) is
-      (rw (queue, untold, closed, all) (settled-adds (state_of with_adds) quiet))
+      (rw (queue, unnotified, closed, whole) (settled-adds (state_of with_adds) quiet))

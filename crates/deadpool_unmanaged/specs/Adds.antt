@@ -1,5 +1,5 @@
 -- An add as a state that is polled: what one poll makes of it and of the pool, and what its cancelling does.
-use Rattle.std.specs.Prelude.{◌≡◌, ℕ, true, Option, Some, None, Result, Ok, Err}
+use Rattle.std.specs.Prelude.{◌≡◌, ℕ, ⊤, true, Option, Some, None, Result, Ok, Err}
 use Rattle.futures.specs.declared.task.Poll.{Poll}
 use Rattle.futures.specs.declared.task.Poll.TheVariants.{Ready, Pending}
 use Rattle.deadpool_unmanaged.specs.State.{State}
@@ -8,7 +8,7 @@ use Rattle.deadpool_unmanaged.specs.Replies.{Leaves}
 use Rattle.deadpool_unmanaged.specs.declared.add.AddStage.{AddStage}
 use Rattle.deadpool_unmanaged.specs.declared.add.AddStage.TheVariants.{Unpolled, Queued, Finished}
 use Rattle.deadpool_unmanaged.specs.declared.error.PoolError.{PoolError}
-use Rattle.deadpool_unmanaged.specs.declared.error.PoolError.TheVariants.{Timeout, Closed, OutOfMemory}
+use Rattle.deadpool_unmanaged.specs.declared.error.PoolError.TheVariants.{Timeout, Closed, Crowded, OutOfMemory}
 use Rattle.deadpool_unmanaged.specs.declared.step.Reply.{Reply}
 use Rattle.deadpool_unmanaged.specs.declared.step.Reply.TheVariants as reply
 use Rattle.deadpool_unmanaged.specs.declared.step.Step.{Step}
@@ -21,10 +21,20 @@ module _ {T : Type 0} where
   held_by (Queued ticket value) = Some value
   held_by Finished = None
 
+  abbrev pub IsUnpolled : AddStage T → Type 0
+  IsUnpolled (Unpolled value) = ⊤
+  IsUnpolled _ = ⊥
+
   -- the ticket of an add in the queue
   abbrev pub ticket_of : AddStage T → Option ℕ
   ticket_of (Queued ticket value) = Some ticket
   ticket_of _ = None
+
+  -- the step that a poll makes, and the object for it
+  abbrev pub begun : AddStage T → Option (Step × T)
+  begun (Unpolled value) = Some (AddEnter true, value)
+  begun (Queued ticket value) = Some (AddAsk ticket, value)
+  begun Finished = None
 
   -- the stage of an add whose step was answered so, with what is left in the hand then, and what its poll comes to
   abbrev pub stage_after : Reply → Option T → AddStage T
@@ -35,6 +45,7 @@ module _ {T : Type 0} where
   turn_after _ None = Ready (Ok tt)
   turn_after (reply.Waiting ticket) (Some value) = Pending
   turn_after reply.Full (Some value) = Ready (Err (value, Timeout))
+  turn_after reply.Crowded (Some value) = Ready (Err (value, Crowded))
   turn_after reply.OutOfMemory (Some value) = Ready (Err (value, OutOfMemory))
   turn_after _ (Some value) = Ready (Err (value, Closed))
 

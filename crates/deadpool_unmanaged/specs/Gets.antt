@@ -1,5 +1,5 @@
 -- A get as a state that is polled: what one poll makes of it and of the pool, and what its cancelling does.
-use Rattle.std.specs.Prelude.{◌≡◌, ℕ, true, false, not, ◌⊎◌, Option, Some, None, Result, Ok, Err}
+use Rattle.std.specs.Prelude.{◌≡◌, ℕ, true, false, not, ◌⊎◌, if◌then◌else◌, Option, Some, None, Result, Ok, Err}
 use Rattle.futures.specs.declared.task.Poll.{Poll}
 use Rattle.futures.specs.declared.task.Poll.TheVariants.{Ready, Pending}
 use Rattle.deadpool_parts.specs.Moments.{deadline_after, is_reached, cannot_wait}
@@ -9,7 +9,7 @@ use Rattle.deadpool_unmanaged.specs.State.{State}
 use Rattle.deadpool_unmanaged.specs.StateSteps.{Does}
 use Rattle.deadpool_unmanaged.specs.declared.error.PoolError.{PoolError}
 use Rattle.deadpool_unmanaged.specs.declared.error.PoolError.TheVariants.{Timeout, Closed, NoRuntimeSpecified}
-use Rattle.deadpool_unmanaged.specs.declared.error.PoolError.TheVariants.{OutOfMemory}
+use Rattle.deadpool_unmanaged.specs.declared.error.PoolError.TheVariants.{Crowded, OutOfMemory}
 use Rattle.deadpool_unmanaged.specs.declared.get.GetStage.{GetStage}
 use Rattle.deadpool_unmanaged.specs.declared.get.GetStage.TheVariants.{Unpolled, Queued, Finished}
 use Rattle.deadpool_unmanaged.specs.declared.step.Reply.{Reply}
@@ -31,12 +31,22 @@ abbrev pub stage_after : Option Moment → Reply → GetStage
 stage_after deadline (reply.Waiting ticket) = Queued ticket deadline
 stage_after deadline _ = Finished
 
+-- The step that a poll makes, with the deadline of its wait. Or it makes none, since it is refused, or has ended.
+abbrev pub begun : Option Runtime → Moment → GetStage → Result (Step × Option Moment) (Option PoolError)
+begun runtime now (Unpolled wait) =
+    if cannot_wait runtime wait
+    then Err (Some NoRuntimeSpecified)
+    else Ok (GetEnter (not (is_reached (deadline_after now wait) now)), deadline_after now wait)
+begun runtime now (Queued ticket deadline) = Ok (GetAsk ticket (is_reached deadline now), deadline)
+begun runtime now Finished = Err None
+
 module _ {T : Type 0} where
   -- what its poll comes to, with what is in the hand then
   abbrev pub turn_after : Reply → Option T → Poll (Result T PoolError)
   turn_after (reply.Waiting ticket) hand = Pending
   turn_after reply.Full hand = Ready (Err Timeout)
   turn_after reply.Expired hand = Ready (Err Timeout)
+  turn_after reply.Crowded hand = Ready (Err Crowded)
   turn_after reply.OutOfMemory hand = Ready (Err OutOfMemory)
   turn_after _ (Some value) = Ready (Ok value)
   turn_after _ None = Ready (Err Closed)

@@ -6,8 +6,6 @@ pub mod State
 pub mod StateSteps
 pub mod Replies
 pub mod Kept
--- A line as a queue of tickets.
-pub mod Lines
 -- What a pool counts.
 pub mod Counts
 -- A get and an add that are polled over it, and when a poll joins a queue.

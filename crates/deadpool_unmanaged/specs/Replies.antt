@@ -2,7 +2,8 @@
 use Rattle.std.specs.Prelude.{◌≡◌, ⊤, Option, None, IsSome}
 use Rattle.deadpool_unmanaged.specs.declared.step.Reply.{Reply}
 use Rattle.deadpool_unmanaged.specs.declared.step.Reply.TheVariants.{Object, Stored, Closed, Full, Waiting, OutOfMemory}
-use Rattle.deadpool_unmanaged.specs.declared.step.Reply.TheVariants.{Expired, Done, Kept, Dropped, Taken, Unknown}
+use Rattle.deadpool_unmanaged.specs.declared.step.Reply.TheVariants.{Crowded, Expired, Done, Kept, Dropped, Taken}
+use Rattle.deadpool_unmanaged.specs.declared.step.Reply.TheVariants.{Unknown}
 use Rattle.deadpool_unmanaged.specs.declared.step.Step.{Step}
 use Rattle.deadpool_unmanaged.specs.declared.step.Step.TheVariants.{GetEnter, GetAsk, GetCancel, AddEnter, AddAsk}
 use Rattle.deadpool_unmanaged.specs.declared.step.Step.TheVariants.{AddCancel, Back, Take}
@@ -11,6 +12,7 @@ abbrev pub IsReplyTo : Step → Reply → Type 0
 IsReplyTo (GetEnter wait) Object = ⊤
 IsReplyTo (GetEnter wait) Closed = ⊤
 IsReplyTo (GetEnter wait) Full = ⊤
+IsReplyTo (GetEnter wait) Crowded = ⊤
 IsReplyTo (GetEnter wait) (Waiting ticket) = ⊤
 IsReplyTo (GetEnter wait) OutOfMemory = ⊤
 IsReplyTo (GetAsk ticket expired) Object = ⊤
@@ -23,6 +25,7 @@ IsReplyTo (GetCancel ticket) Unknown = ⊤
 IsReplyTo (AddEnter wait) Stored = ⊤
 IsReplyTo (AddEnter wait) Closed = ⊤
 IsReplyTo (AddEnter wait) Full = ⊤
+IsReplyTo (AddEnter wait) Crowded = ⊤
 IsReplyTo (AddEnter wait) (Waiting ticket) = ⊤
 IsReplyTo (AddEnter wait) OutOfMemory = ⊤
 IsReplyTo (AddAsk ticket) Stored = ⊤

@@ -1,6 +1,7 @@
 -- The state of an unmanaged pool without names: tickets in its queues, and a count of the objects that are out.
 use Rattle.std.specs.Prelude.{ℕ, ◌+◌, ◌-◌, ◌≤◌, Bool, true, ◌||◌, ◌&&◌, ◌==◌, List, [], length, take, slice_get, Option}
-use Rattle.std.specs.Prelude.{is_some}
+use Rattle.std.specs.Prelude.{is_some, nat_lt, unwrap_or}
+use Rattle.deadpool_gate.specs.Numbers.{largest_usize}
 use Rattle.deadpool_gate.specs.Waking.{next_due}
 use Rattle.deadpool_parts.specs.declared.status.Status.{Status}
 use Rattle.deadpool_gate.specs.Queue.{Queue, nobody, members, served}
@@ -9,6 +10,8 @@ pub record State (T : Type 0) : Type 0 where
   pub limit : ℕ
   pub is_open : Bool
   pub handles : ℕ
+  -- how many gets may wait, and how many adds
+  pub max_waiting : ℕ
   -- the last is the next to go out
   pub idle : List T
   -- how many objects are out
@@ -17,8 +20,8 @@ pub record State (T : Type 0) : Type 0 where
   pub gets : Queue
   pub adds : Queue
   -- of these, in order of arrival, those that were not told that their wait has ended
-  pub untold_gets : List ℕ
-  pub untold_adds : List ℕ
+  pub unnotified_gets : List ℕ
+  pub unnotified_adds : List ℕ
 
 -- a core: its pool; of each queue how many it can list before it has to find memory, and the number on its next ticket
 pub record CoreState (T : Type 0) : Type 0 where
@@ -33,19 +36,24 @@ abbrev pub IsFull : ℕ → Queue → Type 0
 IsFull room q = room ≤ length (members q)
 
 module _ {T : Type 0} where
-  -- an open pool with these objects, one handle, and nobody in its queues
+  -- an open pool with these objects, one handle, nobody in its queues, and no bound on those that wait
   abbrev pub opened : ℕ → List T → State T
   opened limit idle = record {
     limit = limit;
     is_open = true;
     handles = 1;
+    max_waiting = largest_usize;
     idle = idle;
     outside = 0;
     gets = nobody;
     adds = nobody;
-    untold_gets = [];
-    untold_adds = [];
+    unnotified_gets = [];
+    unnotified_adds = [];
   }
+
+  -- with a bound on those that wait, or with none
+  abbrev pub bounded : Option ℕ → State T → State T
+  bounded most d = record d { max_waiting = unwrap_or most largest_usize }
 
   -- the object that goes out next, and the others
   abbrev pub last_idle : List T → Option T
@@ -79,10 +87,10 @@ module _ {T : Type 0} where
 
   -- the get, or the add, that is to be told next
   abbrev pub due_get : State T → Option ℕ
-  due_get d = next_due d.is_open d.gets.granted d.untold_gets
+  due_get d = next_due d.is_open d.gets.granted d.unnotified_gets
 
   abbrev pub due_add : State T → Option ℕ
-  due_add d = next_due d.is_open d.adds.granted d.untold_adds
+  due_add d = next_due d.is_open d.adds.granted d.unnotified_adds
 
   -- somebody is to be told
   abbrev pub has_due : State T → Bool
@@ -90,7 +98,7 @@ module _ {T : Type 0} where
 
   -- one that enters now and wants to wait joins the queue
   abbrev pub get_would_queue : State T → Bool
-  get_would_queue d = d.is_open && (free_objects d == 0)
+  get_would_queue d = d.is_open && (free_objects d == 0) && nat_lt (length d.gets.waiting) d.max_waiting
 
   abbrev pub add_would_queue : State T → Bool
-  add_would_queue d = d.is_open && (free_room d == 0)
+  add_would_queue d = d.is_open && (free_room d == 0) && nat_lt (length d.adds.waiting) d.max_waiting

@@ -1,18 +1,19 @@
 -- The steps of a pool without names: when each reply comes, and the state after it. Those of a get, an add or an object
 -- are one table.
-use Rattle.std.specs.Prelude.{◌≡◌, ℕ, ⊤, ◌+◌, ◌-◌, ◌<◌, min, Bool, true, false, ◌&&◌, ◌==◌, nat_lt, if◌then◌else◌, []}
-use Rattle.std.specs.Prelude.{◌∷◌, ◌++◌, Option, Some, None}
+use Rattle.std.specs.Prelude.{◌≡◌, ℕ, ⊤, ◌+◌, ◌-◌, ◌<◌, ◌≤◌, min, length, Bool, true, false, ◌&&◌, ◌==◌, nat_lt}
+use Rattle.std.specs.Prelude.{if◌then◌else◌, [], ◌∷◌, ◌++◌, Option, Some, None}
 use Rattle.std.specs.Option.{option_or}
 use Rattle.deadpool_gate.specs.Numbers.{has_number, without_number, most_handles}
 use Rattle.deadpool_gate.specs.Queue.{is_listed, joined, without}
-use Rattle.deadpool_gate.specs.Waking.{still_untold}
+use Rattle.deadpool_gate.specs.Waking.{still_unnotified}
 use Rattle.deadpool_parts.specs.declared.replies.HandleReply.{HandleReply}
 use Rattle.deadpool_parts.specs.declared.replies.HandleReply.TheVariants as handle
 use Rattle.deadpool_unmanaged.specs.State.{State, CoreState, IsFull, free_objects, free_room, settled, due_get, due_add}
 use Rattle.deadpool_unmanaged.specs.State.{last_idle, other_idle}
 use Rattle.deadpool_unmanaged.specs.declared.step.Reply.{Reply}
 use Rattle.deadpool_unmanaged.specs.declared.step.Reply.TheVariants.{Object, Stored, Closed, Full, Waiting, OutOfMemory}
-use Rattle.deadpool_unmanaged.specs.declared.step.Reply.TheVariants.{Expired, Done, Kept, Dropped, Taken, Unknown}
+use Rattle.deadpool_unmanaged.specs.declared.step.Reply.TheVariants.{Crowded, Expired, Done, Kept, Dropped, Taken}
+use Rattle.deadpool_unmanaged.specs.declared.step.Reply.TheVariants.{Unknown}
 use Rattle.deadpool_unmanaged.specs.declared.step.Step.{Step}
 use Rattle.deadpool_unmanaged.specs.declared.step.Step.TheVariants.{GetEnter, GetAsk, GetCancel, AddEnter, AddAsk}
 use Rattle.deadpool_unmanaged.specs.declared.step.Step.TheVariants.{AddCancel, Back, Take}
@@ -27,17 +28,23 @@ module _ {T : Type 0} where
 
   -- a get, or an add, leaves its queue
   abbrev pub without_get : ℕ → State T → State T
-  without_get ticket d = record d { gets = without ticket d.gets; untold_gets = without_number ticket d.untold_gets }
+  without_get ticket d = record d {
+    gets = without ticket d.gets;
+    unnotified_gets = without_number ticket d.unnotified_gets;
+  }
 
   abbrev pub without_add : ℕ → State T → State T
-  without_add ticket d = record d { adds = without ticket d.adds; untold_adds = without_number ticket d.untold_adds }
+  without_add ticket d = record d {
+    adds = without ticket d.adds;
+    unnotified_adds = without_number ticket d.unnotified_adds;
+  }
 
   -- or joins it, and was told nothing yet
   abbrev pub with_get : ℕ → State T → State T
-  with_get ticket d = record d { gets = joined ticket d.gets; untold_gets = d.untold_gets ++ ticket ∷ [] }
+  with_get ticket d = record d { gets = joined ticket d.gets; unnotified_gets = d.unnotified_gets ++ ticket ∷ [] }
 
   abbrev pub with_add : ℕ → State T → State T
-  with_add ticket d = record d { adds = joined ticket d.adds; untold_adds = d.untold_adds ++ ticket ∷ [] }
+  with_add ticket d = record d { adds = joined ticket d.adds; unnotified_adds = d.unnotified_adds ++ ticket ∷ [] }
 
   -- a step with its reply, and the object that is taken or given, if there is one
   abbrev pub Does : State T → Step → Option T → Reply → State T → Type 0
@@ -46,10 +53,14 @@ module _ {T : Type 0} where
   Does d (GetEnter wait) (Some value) Object d' =
       (d.is_open ≡ true) × (0 < free_objects d) × (last_idle d.idle ≡ Some value) × (d' ≡ settled (handed d))
   Does d (GetEnter wait) None Full d' = (d.is_open ≡ true) × (free_objects d ≡ 0) × (wait ≡ false) × (d' ≡ d)
+  Does d (GetEnter wait) None Crowded d' =
+      (d.is_open ≡ true) × (free_objects d ≡ 0) × (wait ≡ true) × (d.max_waiting ≤ length d.gets.waiting) × (d' ≡ d)
   Does d (GetEnter wait) None (Waiting ticket) d' =
-      (d.is_open ≡ true) × (free_objects d ≡ 0) × (wait ≡ true) × (is_listed ticket d.gets ≡ false)
+      (d.is_open ≡ true) × (free_objects d ≡ 0) × (wait ≡ true) × (length d.gets.waiting < d.max_waiting)
+      × (is_listed ticket d.gets ≡ false)
       × (d' ≡ with_get ticket d)
-  Does d (GetEnter wait) None OutOfMemory d' = (d.is_open ≡ true) × (free_objects d ≡ 0) × (wait ≡ true) × (d' ≡ d)
+  Does d (GetEnter wait) None OutOfMemory d' =
+      (d.is_open ≡ true) × (free_objects d ≡ 0) × (wait ≡ true) × (length d.gets.waiting < d.max_waiting) × (d' ≡ d)
   -- A get in the queue. In an open pool one that was granted an object finds none only if nothing is idle.
   Does d (GetAsk ticket expired) None Unknown d' = (is_listed ticket d.gets ≡ false) × (d' ≡ d)
   Does d (GetAsk ticket expired) None Closed d' =
@@ -74,10 +85,14 @@ module _ {T : Type 0} where
   Does d (AddEnter wait) (Some value) Stored d' =
       (d.is_open ≡ true) × (0 < free_room d) × (d' ≡ settled (stored value d))
   Does d (AddEnter wait) (Some value) Full d' = (d.is_open ≡ true) × (free_room d ≡ 0) × (wait ≡ false) × (d' ≡ d)
+  Does d (AddEnter wait) (Some value) Crowded d' =
+      (d.is_open ≡ true) × (free_room d ≡ 0) × (wait ≡ true) × (d.max_waiting ≤ length d.adds.waiting) × (d' ≡ d)
   Does d (AddEnter wait) (Some value) (Waiting ticket) d' =
-      (d.is_open ≡ true) × (free_room d ≡ 0) × (wait ≡ true) × (is_listed ticket d.adds ≡ false)
+      (d.is_open ≡ true) × (free_room d ≡ 0) × (wait ≡ true) × (length d.adds.waiting < d.max_waiting)
+      × (is_listed ticket d.adds ≡ false)
       × (d' ≡ with_add ticket d)
-  Does d (AddEnter wait) (Some value) OutOfMemory d' = (d.is_open ≡ true) × (free_room d ≡ 0) × (wait ≡ true) × (d' ≡ d)
+  Does d (AddEnter wait) (Some value) OutOfMemory d' =
+      (d.is_open ≡ true) × (free_room d ≡ 0) × (wait ≡ true) × (length d.adds.waiting < d.max_waiting) × (d' ≡ d)
   -- an add in the queue
   Does d (AddAsk ticket) (Some value) Unknown d' = (is_listed ticket d.adds ≡ false) × (d' ≡ d)
   Does d (AddAsk ticket) (Some value) Closed d' =
@@ -150,7 +165,9 @@ module _ {T : Type 0} where
 
   -- the get, or the add, that is to be told next is named, and counts as told; or nobody is
   abbrev pub TakesGetWake : State T → Option ℕ → State T → Type 0
-  TakesGetWake d named d' = (named ≡ due_get d) × (d' ≡ record d { untold_gets = still_untold named d.untold_gets })
+  TakesGetWake d named d' = (named ≡ due_get d) × (d'
+      ≡ record d { unnotified_gets = still_unnotified named d.unnotified_gets })
 
   abbrev pub TakesAddWake : State T → Option ℕ → State T → Type 0
-  TakesAddWake d named d' = (named ≡ due_add d) × (d' ≡ record d { untold_adds = still_untold named d.untold_adds })
+  TakesAddWake d named d' = (named ≡ due_add d) × (d'
+      ≡ record d { unnotified_adds = still_unnotified named d.unnotified_adds })

@@ -1,7 +1,8 @@
 //! An add, as a state that its owner polls.
 ghost use Rattle.std.specs.Prelude.{◌≡◌, IfSome, option_map};
-ghost use Rattle.deadpool_unmanaged.specs.Adds.{PollsAdd, CancelsAdd, held_by, ticket_of, stage_after, turn_after};
-ghost use Rattle.deadpool_unmanaged.specs.Adds.{IsWithoutMemory};
+ghost use Rattle.deadpool_unmanaged.specs.Adds.{PollsAdd, CancelsAdd, begun, held_by, ticket_of, stage_after};
+ghost use Rattle.deadpool_unmanaged.specs.Adds.{turn_after};
+ghost use Rattle.deadpool_unmanaged.specs.Adds.{IsUnpolled, IsWithoutMemory};
 ghost use Rattle.deadpool_unmanaged.specs.Queueing.{add_joins};
 ghost use Rattle.deadpool_unmanaged.specs.State.{IsFull};
 
@@ -76,6 +77,18 @@ impl<T: Drop> AddState<T> {
         }
     }
 
+    /// Takes the object of an add that was not polled yet, and ends it.
+    pub fn withdraw(&mut self) -> T
+        requires { IsUnpolled self.old }
+        ensures value { self.old ≡ AddStage.Unpolled result }
+        ensures ended { self.new ≡ AddStage.Finished }
+    {
+        let AddStage::Unpolled(value) = mem::replace(&mut self.stage, AddStage::Finished) else {
+            unreachable!();
+        };
+        value
+    }
+
     /// The ticket, while the add is in the queue.
     pub fn ticket(&self) -> Option<Ticket>
         ensures { result ≡ ticket_of self.now }
@@ -105,23 +118,33 @@ impl<T: Drop> AddState<T> {
         ensures number { ticket_of self.old ≡ None
             → IfSome (ticket_of self.new) (λ ticket. ticket ≡ core.old.next_add) }
     {
-        match mem::replace(&mut self.stage, AddStage::Finished) {
-            AddStage::Unpolled(value) => {
+        match self.begin() {
+            Some((step, value)) => {
                 let mut hand = Some(value);
-                let reply = core.make(&Step::AddEnter { wait: true }, &mut hand);
-                self.after(reply, hand)
+                let reply = core.make(&step, &mut hand);
+                self.end(reply, hand)
             }
-            AddStage::Queued(ticket, value) => {
-                let mut hand = Some(value);
-                let reply = core.make(&Step::AddAsk { ticket }, &mut hand);
-                self.after(reply, hand)
-            }
-            AddStage::Finished => Poll::Pending,
+            None => Poll::Pending,
         }
     }
 
-    // What the reply to its step says, with what is left in the hand then. The object that is stored is not.
-    fn after(&mut self, reply: Reply, hand: Option<T>) -> Poll<Result<(), (T, PoolError)>>
+    /// Begins a poll: the step that it is to make, and the object for it, unless it has ended. `end` is to follow; the
+    /// add counts as ended until then.
+    #[inline(always)]
+    pub fn begin(&mut self) -> Option<(Step, T)>
+        ensures step { result ≡ begun self.old }
+        ensures ended { self.new ≡ AddStage.Finished }
+    {
+        match mem::replace(&mut self.stage, AddStage::Finished) {
+            AddStage::Unpolled(value) => Some((Step::AddEnter { wait: true }, value)),
+            AddStage::Queued(ticket, value) => Some((Step::AddAsk { ticket }, value)),
+            AddStage::Finished => None,
+        }
+    }
+
+    /// Ends a poll whose step was made: what the reply says, with what is left in the hand then. The object that is
+    /// stored is not.
+    pub fn end(&mut self, reply: Reply, hand: Option<T>) -> Poll<Result<(), (T, PoolError)>>
         requires { self.old ≡ AddStage.Finished }
         ensures stage { self.new ≡ stage_after reply hand }
         ensures turn { result ≡ turn_after reply hand }
@@ -135,6 +158,7 @@ impl<T: Drop> AddState<T> {
                 Poll::Pending
             }
             Reply::Full => Poll::Ready(Err((value, PoolError::Timeout))),
+            Reply::Crowded => Poll::Ready(Err((value, PoolError::Crowded))),
             Reply::OutOfMemory => Poll::Ready(Err((value, PoolError::OutOfMemory))),
             _ => Poll::Ready(Err((value, PoolError::Closed))),
         }

@@ -1,35 +1,37 @@
 //! Configurations in JSON.
 //!
 //! A configuration is an object with `max_size` and, if wanted, `timeout`: null, or a duration as the managed pool's
-//! timeouts are. Keys of other names are ignored.
+//! timeouts are; and `max_waiting`, null or a whole number. Keys of other names are ignored.
 ghost use Rattle.std.specs.Prelude.{◌≡◌, None, IfOk, IsOkUnless};
 ghost use Rattle.serde_json.specs.View.{view};
 ghost use Rattle.deadpool_parts.specs.Result.{result_map};
 ghost use Rattle.deadpool_unmanaged.specs.Config.{ReadsWritten, settings_of, read_config, written_config};
 
 use crate::config::PoolConfig;
-use deadpool_parts::config_json::{max_size_of, timeout_at, written_timeout};
+use deadpool_parts::config_json::{max_size_of, max_waiting_of, timeout_at, written_timeout};
 use deadpool_parts::errors::ConfigError;
 use serde_json::{Value, json};
 use std::alloc::{AllocError, Global};
 
 impl PoolConfig {
-    /// The configuration that a value is, or the first fault in it: in `max_size`, then in `timeout`. There is no
-    /// runtime in it.
+    /// The configuration that a value is, or the first fault in it: in `max_size`, then in `timeout`, and last in
+    /// `max_waiting`. There is no runtime in it.
     pub fn from_json(value: &Value) -> Result<Self, ConfigError>
         ensures read { result_map settings_of result ≡ read_config (view value.now) }
         ensures runtime { IfOk result (λ config. config.runtime ≡ None) }
     {
         let max_size = max_size_of(value)?;
         let timeout = timeout_at(value, "timeout")?;
+        let max_waiting = max_waiting_of(value)?;
         Ok(PoolConfig {
             max_size,
             timeout,
+            max_waiting,
             runtime: None,
         })
     }
 
-    /// The size and the timeout, null for one that is not set.
+    /// The size and the timeout, null for one that is not set, and the bound on those that wait, if there is one.
     #[tactic(auto, using(crate::proofs::ConfigReadsBack::reads_written))]
     pub fn to_json(&self, alloc: Global) -> Result<Value, ConfigError>
         ensures written { IfOk result (λ v. view v ≡ written_config (settings_of self.now)) }
@@ -49,5 +51,12 @@ fn written_config(alloc: Global, config: PoolConfig) -> Result<Value, AllocError
 {
     let timeout = written_timeout(alloc, config.timeout)?;
     let max_size = config.max_size;
-    json!(in alloc; {"max_size": max_size, "timeout": timeout})
+    match config.max_waiting {
+        None => json!(in alloc; {"max_size": max_size, "timeout": timeout}),
+        Some(max_waiting) => json!(in alloc; {
+            "max_size": max_size,
+            "max_waiting": max_waiting,
+            "timeout": timeout
+        }),
+    }
 }

@@ -11,6 +11,8 @@ pub enum PoolError {
     Closed,
     /// A get was to wait for a while, and no runtime is there to tell when that is over.
     NoRuntimeSpecified,
+    /// Nothing was free, and as many waited for it as may.
+    Crowded,
     /// The entry in the queue found no memory.
     OutOfMemory,
 }
@@ -28,6 +30,7 @@ impl fmt::Display for PoolError {
             }
             PoolError::Closed => f.write_str("Pool has been closed"),
             PoolError::NoRuntimeSpecified => f.write_str("No runtime specified"),
+            PoolError::Crowded => f.write_str("Too many wait already"),
             PoolError::OutOfMemory => f.write_str("Out of memory"),
         }
     }

@@ -1,6 +1,7 @@
 //! A get, as a state that its owner polls.
 ghost use Rattle.std.specs.Prelude.{◌≡◌, IfSome};
-ghost use Rattle.deadpool_unmanaged.specs.Gets.{PollsGet, CancelsGet, ticket_of, deadline_of, stage_after, turn_after};
+ghost use Rattle.deadpool_unmanaged.specs.Gets.{PollsGet, CancelsGet, begun, ticket_of, deadline_of, stage_after};
+ghost use Rattle.deadpool_unmanaged.specs.Gets.{turn_after};
 ghost use Rattle.deadpool_unmanaged.specs.Queueing.{get_joins};
 ghost use Rattle.deadpool_unmanaged.specs.State.{IsFull};
 
@@ -124,29 +125,47 @@ impl GetState {
         ensures number { ticket_of self.old ≡ None
             → IfSome (ticket_of self.new) (λ ticket. ticket ≡ core.old.next_get) }
     {
-        match mem::replace(&mut self.stage, GetStage::Finished) {
-            GetStage::Unpolled(wait) => {
-                if cannot_wait(runtime, wait) {
-                    return Poll::Ready(Err(PoolError::NoRuntimeSpecified));
-                }
-                let deadline = deadline_after(now, wait);
-                let wait = !is_reached(deadline, now);
+        match self.begin(runtime, now) {
+            Ok((step, deadline)) => {
                 let mut hand = None;
-                let reply = core.make(&Step::GetEnter { wait }, &mut hand);
-                self.after(deadline, reply, hand)
+                let reply = core.make(&step, &mut hand);
+                self.end(deadline, reply, hand)
             }
-            GetStage::Queued(ticket, deadline) => {
-                let expired = is_reached(deadline, now);
-                let mut hand = None;
-                let reply = core.make(&Step::GetAsk { ticket, expired }, &mut hand);
-                self.after(deadline, reply, hand)
-            }
-            GetStage::Finished => Poll::Pending,
+            Err(Some(cause)) => Poll::Ready(Err(cause)),
+            Err(None) => Poll::Pending,
         }
     }
 
-    // What the reply to its step says, with what is in the hand then.
-    fn after<T: Drop>(
+    /// Begins a poll: the step that it is to make, with the deadline of its wait. Or it makes none: it is refused, or
+    /// has ended. `end` is to follow on the step; the get counts as ended until then.
+    #[inline(always)]
+    pub fn begin(
+        &mut self,
+        runtime: Option<Runtime>,
+        now: Moment,
+    ) -> Result<(Step, Option<Moment>), Option<PoolError>>
+        ensures step { result ≡ begun runtime now self.old }
+        ensures ended { self.new ≡ GetStage.Finished }
+    {
+        match mem::replace(&mut self.stage, GetStage::Finished) {
+            GetStage::Unpolled(wait) => {
+                if cannot_wait(runtime, wait) {
+                    return Err(Some(PoolError::NoRuntimeSpecified));
+                }
+                let deadline = deadline_after(now, wait);
+                let wait = !is_reached(deadline, now);
+                Ok((Step::GetEnter { wait }, deadline))
+            }
+            GetStage::Queued(ticket, deadline) => {
+                let expired = is_reached(deadline, now);
+                Ok((Step::GetAsk { ticket, expired }, deadline))
+            }
+            GetStage::Finished => Err(None),
+        }
+    }
+
+    /// Ends a poll whose step was made: what the reply says, with what is in the hand then.
+    pub fn end<T: Drop>(
         &mut self,
         deadline: Option<Moment>,
         reply: Reply,
@@ -162,6 +181,7 @@ impl GetState {
                 Poll::Pending
             }
             Reply::Full | Reply::Expired => Poll::Ready(Err(PoolError::Timeout)),
+            Reply::Crowded => Poll::Ready(Err(PoolError::Crowded)),
             Reply::OutOfMemory => Poll::Ready(Err(PoolError::OutOfMemory)),
             _ => Poll::Ready(hand.ok_or(PoolError::Closed)),
         }

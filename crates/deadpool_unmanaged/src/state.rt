@@ -1,25 +1,22 @@
 //! The core of an unmanaged pool: a line for objects, a line for room, and the idle objects; and each step that a get,
 //! an add or an object makes.
 //!
-//! `line` settles one of the two lines. `counted` has what a core says of itself, and `owner` the steps of the pool's
-//! owner.
+//! `counted` has what a core says of itself, and `owner` the steps of the pool's owner.
 ghost use Rattle.std.specs.Prelude.{◌≡◌, ◌-◌, ◌<◌, ◌≤◌, not, [], ◌++◌, None, length, vec_capacity, IfOk, IsSome};
 ghost use Rattle.std.specs.Option.{option_to_list};
-ghost use Rattle.deadpool_gate.specs.Gate.{granted_tickets, untold_tickets};
+ghost use Rattle.deadpool_gate.specs.Gate.{unnotified_tickets};
 ghost use Rattle.deadpool_gate.specs.Queue.{served};
+ghost use Rattle.deadpool_gate.specs.Served.{free_of, queue_of};
 ghost use Rattle.deadpool_unmanaged.specs.Kept.{IsKept};
-ghost use Rattle.deadpool_unmanaged.specs.Lines.{queue_of};
-ghost use Rattle.deadpool_unmanaged.specs.State.{has_due, last_idle, opened, other_idle};
+ghost use Rattle.deadpool_unmanaged.specs.State.{bounded, has_due, last_idle, opened, other_idle};
 ghost use Rattle.deadpool_unmanaged.specs.Replies.{Brings, IsReplyTo, Leaves};
 ghost use Rattle.deadpool_unmanaged.specs.StateSteps.{Makes, Steps, TakesGetWake, TakesAddWake};
 
 mod counted;
-mod line;
 mod owner;
 
 use crate::{Reply, Step};
 use deadpool_gate::gate::{Ask, Entry, Gate, Ticket, Withdrawn};
-use line::settle;
 use std::alloc::{AllocError, Global};
 use std::marker::Model;
 
@@ -41,6 +38,8 @@ pub struct Core<T> {
     // How many objects are out.
     outside: usize,
     handles: u64,
+    // How many gets may wait, and how many adds. So many as the greatest number never do.
+    max_waiting: usize,
 }
 
 impl<T> Model for Core<T> {
@@ -48,11 +47,11 @@ impl<T> Model for Core<T> {
 
     ghost Value = { CoreState T };
 
-    ghost use Rattle.deadpool_unmanaged.specs.CoreFields.{core_of, IsSound};
+    ghost use Rattle.deadpool_unmanaged.specs.CoreFields.{core_of, CoreInvariant};
 
     ghost view = { core_of };
 
-    ghost invariant = { IsSound };
+    ghost invariant = { CoreInvariant };
 }
 
 // The next object goes out.
@@ -75,16 +74,16 @@ fn store<T: Drop>(idle: &mut Vec<T>, gets: &mut Gate, hand: &mut Option<T>)
     ensures room { vec_capacity idle.old ≤ vec_capacity idle.new }
     ensures hand { hand.new ≡ None }
     ensures gets { queue_of gets.new.waiters ≡ served (not gets.old.is_closed)
-        (length idle.new.items - length (granted_tickets gets.old.waiters))
+        (free_of (length idle.new.items) 0 (queue_of gets.old.waiters))
         (queue_of gets.old.waiters) }
-    ensures untold { untold_tickets gets.new.waiters ≡ untold_tickets gets.old.waiters }
+    ensures unnotified { unnotified_tickets gets.new.waiters ≡ unnotified_tickets gets.old.waiters }
     ensures closed { gets.new.is_closed ≡ gets.old.is_closed }
 {
     let Some(value) = hand.take() else {
         unreachable!();
     };
     match idle.push(value) {
-        Ok(()) => settle(gets, idle.len()),
+        Ok(()) => gets.settle_within(idle.len(), 0),
         Err(_) => unreachable!(),
     }
 }
@@ -120,6 +119,19 @@ impl<T: Drop> Core<T> {
             limit,
             outside: 0,
             handles: 1,
+            max_waiting: usize::MAX,
+        }
+    }
+
+    /// The pool with a bound on the gets that wait, and on the adds, or with none, before any waits.
+    pub fn bounded(self, max_waiting: Option<usize>) -> Self
+        requires gets { self.pool.gets.waiting ≡ [] }
+        requires adds { self.pool.adds.waiting ≡ [] }
+        ensures { result ≡ record self { pool = bounded max_waiting self.pool } }
+    {
+        Core {
+            max_waiting: max_waiting.unwrap_or(usize::MAX),
+            ..self
         }
     }
 
@@ -182,7 +194,8 @@ impl<T: Drop> Core<T> {
         ensures hand { Leaves result hand.old hand.new }
     {
         let objects = self.free_objects();
-        match self.gets.enter(objects, wait) {
+        let may_join = self.get_may_join(wait);
+        match self.gets.enter(objects, may_join) {
             Entry::Granted => match take_last(&mut self.idle) {
                 Some(value) => {
                     *hand = Some(value);
@@ -192,6 +205,7 @@ impl<T: Drop> Core<T> {
                 None => unreachable!(),
             },
             Entry::Closed => Reply::Closed,
+            Entry::Full if wait => Reply::Crowded,
             Entry::Full => Reply::Full,
             Entry::Waiting(ticket) => Reply::Waiting(ticket),
             Entry::OutOfMemory => Reply::OutOfMemory,
@@ -233,7 +247,7 @@ impl<T: Drop> Core<T> {
         if let Withdrawn::Unknown = self.gets.withdraw(ticket) {
             return Reply::Unknown;
         }
-        settle(&mut self.gets, self.idle.len());
+        self.gets.settle_within(self.idle.len(), 0);
         Reply::Done
     }
 
@@ -245,12 +259,14 @@ impl<T: Drop> Core<T> {
         ensures hand { Leaves result hand.old hand.new }
     {
         let room = self.free_room();
-        match self.adds.enter(room, wait) {
+        let may_join = self.add_may_join(wait);
+        match self.adds.enter(room, may_join) {
             Entry::Granted => {
                 store(&mut self.idle, &mut self.gets, hand);
                 Reply::Stored
             }
             Entry::Closed => Reply::Closed,
+            Entry::Full if wait => Reply::Crowded,
             Entry::Full => Reply::Full,
             Entry::Waiting(ticket) => Reply::Waiting(ticket),
             Entry::OutOfMemory => Reply::OutOfMemory,
@@ -281,7 +297,8 @@ impl<T: Drop> Core<T> {
         if let Withdrawn::Unknown = self.adds.withdraw(ticket) {
             return Reply::Unknown;
         }
-        settle(&mut self.adds, self.limit - self.idle.len() - self.outside);
+        self.adds
+            .settle_within(self.limit - self.idle.len() - self.outside, 0);
         Reply::Done
     }
 
@@ -297,7 +314,8 @@ impl<T: Drop> Core<T> {
         }
         self.outside -= 1;
         if self.gets.is_closed() || self.handles == 0 {
-            settle(&mut self.adds, self.limit - self.idle.len() - self.outside);
+            self.adds
+                .settle_within(self.limit - self.idle.len() - self.outside, 0);
             return Reply::Dropped;
         }
         store(&mut self.idle, &mut self.gets, hand);
@@ -313,7 +331,8 @@ impl<T: Drop> Core<T> {
             return Reply::Unknown;
         }
         self.outside -= 1;
-        settle(&mut self.adds, self.limit - self.idle.len() - self.outside);
+        self.adds
+            .settle_within(self.limit - self.idle.len() - self.outside, 0);
         Reply::Taken
     }
 }

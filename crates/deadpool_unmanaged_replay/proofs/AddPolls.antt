@@ -2,8 +2,11 @@
 use Rattle.deadpool_unmanaged_replay.proofs.Basics.{◌≡◌, ℕ, List, Bool, true, false, set, map, refl, sym, ap, ◌∙◌}
 use Rattle.deadpool_unmanaged_replay.proofs.Basics.{subst, arith, Option, Some, eq-eqb, nat_lt, Result, slice_get}
 use Rattle.deadpool_unmanaged_replay.proofs.Basics.{lt-ltb, le-ltb, Poll, has_number, Moment, Runtime, owner, is_listed}
-use Rattle.deadpool_unmanaged_replay.proofs.Basics.{joined, granted-renamed}
-use Rattle.deadpool_unmanaged_replay.proofs.Words.{PollsAdd, held_by, image, party_of, has_add, IsCounted, IsWell}
+use Rattle.deadpool_unmanaged_replay.proofs.Basics.{joined, granted-renamed, nat_le, le-leb, lt-leb, length-map, ◌≤◌}
+use Rattle.deadpool_unmanaged_replay.proofs.Basics.{◌<◌, length}
+use Rattle.deadpool_unmanaged_replay.proofs.Words.{Crowded}
+use Rattle.deadpool_unmanaged_replay.proofs.Words.{PollsAdd, held_by, image, party_of}
+use Rattle.deadpool_unmanaged_replay.proofs.Words.{has_add, TrialInvariant, RunInvariant}
 use Rattle.deadpool_unmanaged_replay.proofs.Words.{NobodyWaits, Pool, new_add, queued_add, finished, free_room, State}
 use Rattle.deadpool_unmanaged_replay.proofs.Words.{Does, AddEnter, AddAsk, LeavesHand, without_add, with_add, stored}
 use Rattle.deadpool_unmanaged_replay.proofs.Words.{ended, store, enter_add, inquire_add, added, given, reply_to}
@@ -18,8 +21,8 @@ use Rattle.deadpool_unmanaged_replay.proofs.{Visitors.image-without_add, Visitor
 use Rattle.deadpool_unmanaged_replay.proofs.{Visitors.image-joined_add}
 
 module _ {V : Type 0} (runtime : Option Runtime) (most next : ℕ) (d : State (Item V))
-    (visitors : List (Option (Visitor V))) (out : List (Item V)) (k : IsCounted d visitors out)
-    (well : IsWell (image runtime most next d visitors out)) (n : ℕ) (now : Moment) where
+    (visitors : List (Option (Visitor V))) (out : List (Item V)) (k : TrialInvariant d visitors out)
+    (well : RunInvariant (image runtime most next d visitors out)) (n : ℕ) (now : Moment) where
   abbrev before : Pool V
   before = pool runtime most next d visitors out k well n now
 
@@ -44,7 +47,7 @@ module _ {V : Type 0} (runtime : Option Runtime) (most next : ℕ) (d : State (I
         (λ u. refl)
         ∙ ap (λ (q : Pool V). record q { parties = set (map party_of visitors) n (Some finished) }) (sym gone)
 
-    new_counted : IsCounted d (set visitors n over) out
+    new_counted : TrialInvariant d (set visitors n over) out
     new_counted = counted-set runtime most next d visitors out k n new_visitor over here (λ u. refl) (λ u. refl)
         (λ u. refl) (λ u. refl)
 
@@ -64,6 +67,17 @@ module _ {V : Type 0} (runtime : Option Runtime) (most next : ℕ) (d : State (I
     none_free : room_left d ≡ 0 → nat_lt 0 (free_room before) ≡ false
     none_free none = le-ltb 0 (free_room before) (omega (arith, none, room-image runtime most next d visitors out k))
 
+    -- it is crowded if the core is
+    crowded_as : d.max_waiting ≤ length d.adds.waiting
+        → nat_le d.max_waiting (length before.adds.waiting) ≡ true
+    crowded_as most = le-leb d.max_waiting (length before.adds.waiting)
+        (omega (arith, length-map d.adds.waiting (owner has_add visitors), most))
+
+    roomy_as : length d.adds.waiting < d.max_waiting
+        → nat_le d.max_waiting (length before.adds.waiting) ≡ false
+    roomy_as fewer = lt-leb d.max_waiting (length before.adds.waiting)
+        (omega (arith, length-map d.adds.waiting (owner has_add visitors), fewer))
+
     entered_so : (answer : CoreReply) (hand : Option (Item V)) (d' : State (Item V))
         → Does d (AddEnter true) (Some item) answer d' → LeavesHand answer (Some item) hand
         → AddPolled (reply_to (added (Some item) (turn_after answer hand))) d'
@@ -71,7 +85,9 @@ module _ {V : Type 0} (runtime : Option Runtime) (most next : ℕ) (d : State (I
     entered_so CoreReply.Closed hand d' e left = rw left (new_refused true Closed d' e.1 (rw e.0 refl))
     entered_so CoreReply.Full hand d' e left = absurd (let differ = e.2 in cc)
     entered_so CoreReply.OutOfMemory hand d' e left =
-        rw left (new_refused false OutOfMemory d' e.3 (rw (e.0, none_free e.1) refl))
+        rw left (new_refused false OutOfMemory d' e.4 (rw (e.0, none_free e.1, roomy_as e.3) refl))
+    entered_so CoreReply.Crowded hand d' e left =
+        rw left (new_refused true Crowded d' e.4 (rw (e.0, none_free e.1, crowded_as e.3) refl))
     entered_so CoreReply.Stored hand d' e left =
         let free : nat_lt 0 (free_room before) ≡ true =
         lt-ltb 0 (free_room before) (omega (arith, e.1, room-image runtime most next d visitors out k)) in
@@ -85,7 +101,7 @@ module _ {V : Type 0} (runtime : Option Runtime) (most next : ℕ) (d : State (I
         (record { gets = new_counted.gets; adds = new_counted.adds; outside = new_counted.outside }) true makes d' e.2)
     entered_so (CoreReply.Waiting ticket) hand d' e left =
         let waits : Option (Visitor V) = Some (Visitor.Add (AddStage.Queued ticket item)) in
-        let after = image-joined_add runtime most next d visitors out k n new_visitor waits here ticket e.3 (λ u. refl)
+        let after = image-joined_add runtime most next d visitors out k n new_visitor waits here ticket e.4 (λ u. refl)
         (λ u. refl) (λ u. refl) (λ u. refl) in
         let joins : enter_add true n item before
         ≡ (
@@ -95,7 +111,7 @@ module _ {V : Type 0} (runtime : Option Runtime) (most next : ℕ) (d : State (I
             adds = joined n before.adds;
           },
         ) =
-        rw (e.0, none_free e.1) refl in
+        rw (e.0, none_free e.1, roomy_as e.3) refl in
         let makes = by_visitor runtime most next d visitors out k well n now new_visitor (new_add item) here refl true
         ∙ joins ∙ ap (λ (q : Pool V). (Reply.Pending, q)) (sym after) in
         let free = room-image runtime most next d visitors out k in
@@ -103,8 +119,8 @@ module _ {V : Type 0} (runtime : Option Runtime) (most next : ℕ) (d : State (I
         rw left
         (by_resting (Move.Poll n now) before well Reply.Pending runtime most next (with_add ticket d)
         (set visitors n waits) out
-        (counted-joined_add runtime most next d visitors out k n new_visitor waits here ticket e.3 (λ u. refl)
-        (λ u. refl) (λ u. refl) (λ u. refl)) true makes d' e.4
+        (counted-joined_add runtime most next d visitors out k n new_visitor waits here ticket e.4 (λ u. refl)
+        (λ u. refl) (λ u. refl) (λ u. refl)) true makes d' e.5
         (subst NobodyWaits (sym after)
         (record { objects = nobody.objects; room = λ is some. absurd (omega (arith, some, free, e.1)) })))
     entered_so _ hand d' e left = absurd e
@@ -125,7 +141,7 @@ module _ {V : Type 0} (runtime : Option Runtime) (most next : ℕ) (d : State (I
           image-without_add runtime most next d visitors out k n queued_visitor over here t mine.1 (λ u. refl)
           (λ u. refl) (λ u. refl) (λ u. refl)
 
-      queued_counted : IsCounted (without_add t d) (set visitors n over) out
+      queued_counted : TrialInvariant (without_add t d) (set visitors n over) out
       queued_counted = counted-without_add runtime most next d visitors out k n queued_visitor over here t mine.1
           (λ u. refl) (λ u. refl) (λ u. refl) (λ u. refl)
 

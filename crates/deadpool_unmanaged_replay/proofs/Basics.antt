@@ -4,7 +4,9 @@ pub use Rattle.std.proofs.Common.{Some, eq-eqb, nat_lt, Result, ◌+◌, ◌-◌
 pub use Rattle.std.proofs.Common.{not, inl, inr, ◌≤◌, if◌then◌else◌, None, length-append, length-take, ◌≢◌, ◌++◌, ◌⊎◌}
 pub use Rattle.std.proofs.Common.{eqb, ◌&&◌, cond, min, append-nil, vec_len, rules, append_assoc, vec_capacity}
 pub use Rattle.std.proofs.Math.Bool.{and-true, and-false, or-true, or-false}
-pub use Rattle.std.proofs.lemmas.Bool.{lt-ltb, le-ltb, cases_Bool, not-true, cond_both, ltb-true, cases_lt}
+pub use Rattle.std.proofs.lemmas.Bool.{lt-ltb, le-ltb, le-leb, lt-leb, cases_Bool, not-true, cond_both, ltb-true}
+pub use Rattle.std.proofs.lemmas.Bool.{cases_lt}
+pub use Rattle.std.proofs.Common.{nat_le}
 pub use Rattle.std.proofs.lemmas.Bool.Decides.{eqb_tells, nat_tests}
 pub use Rattle.std.proofs.lemmas.List.{length-map, map-append, take-map, drop-map, map-set}
 pub use Rattle.std.proofs.lemmas.Option.{slice_get_within, slice_get-map, slice_get_read, slice_get_past}
@@ -30,7 +32,5 @@ pub use Rattle.deadpool_parts.proofs.NumberedCounts.{count-cons, count-cons_opti
 pub use Rattle.deadpool_parts.proofs.NumberedCounts.{count-set_held, count-without, count-found, count-push_held}
 pub use Rattle.deadpool_parts.specs.{Moments.deadline_after, Moments.is_reached, Moments.cannot_wait}
 pub use Rattle.deadpool_parts.specs.{declared.moment.Moment.Moment, declared.moment.Runtime.Runtime}
-pub use Rattle.deadpool_parts.specs.{declared.replies.HandleReply.HandleReply}
-pub use Rattle.deadpool_parts.specs.{declared.replies.StepReply.TheVariants.Done}
-pub use Rattle.deadpool_parts.specs.{declared.replies.StepReply.TheVariants.Unknown, declared.status.Status.Status}
+pub use Rattle.deadpool_parts.specs.{declared.replies.HandleReply.HandleReply, declared.status.Status.Status}
 pub use Rattle.deadpool_parts.specs.Runs.{all_states, Each, Neighbours, Later}

@@ -1,6 +1,7 @@
 -- A step of the core is a move of its pool, whether the pool settles then or stays as it is.
 use Rattle.deadpool_unmanaged_replay.proofs.Basics.{◌≡◌, ℕ, List, Bool, sym, ap, ◌∙◌, subst, Option, Runtime}
-use Rattle.deadpool_unmanaged_replay.proofs.Words.{image, IsCounted, IsWell, NobodyWaits, Gives, unsettled, moved, Pool}
+use Rattle.deadpool_unmanaged_replay.proofs.Words.{image, TrialInvariant, RunInvariant, NobodyWaits}
+use Rattle.deadpool_unmanaged_replay.proofs.Words.{Gives, unsettled, moved, Pool}
 use Rattle.deadpool_unmanaged_replay.proofs.Words.{settle, State, settled, Item, Move, Reply, Visitor}
 use Rattle.deadpool_unmanaged_replay.proofs.{Lawful.moved_lawful, Settling.settle-none, Settling.settles}
 use Rattle.deadpool_unmanaged_replay.proofs.{Settling.counted-settled, Well.moved_well}
@@ -9,14 +10,14 @@ use Rattle.deadpool_unmanaged_replay.proofs.{Settling.counted-settled, Well.move
 pub record Follows {V : Type 0} (m : Move V) (p : Pool V) (answer : Reply V) (d : State (Item V))
     (visitors : List (Option (Visitor V))) (out : List (Item V)) (q : Pool V) : Type 0 where
   pub gives : Gives m p answer q
-  pub counted : IsCounted d visitors out
-  pub well : IsWell q
+  pub counted : TrialInvariant d visitors out
+  pub well : RunInvariant q
   pub limit : q.limit ≡ p.limit
 
-module _ {V : Type 0} (m : Move V) (p : Pool V) (well : IsWell p) (answer : Reply V) where
+module _ {V : Type 0} (m : Move V) (p : Pool V) (well : RunInvariant p) (answer : Reply V) where
   -- what is answered so is well
   follows : (found : Bool) (d : State (Item V)) (visitors : List (Option (Visitor V))) (out : List (Item V))
-      (q : Pool V) → moved found m p ≡ (answer, q) → IsCounted d visitors out
+      (q : Pool V) → moved found m p ≡ (answer, q) → TrialInvariant d visitors out
       → Follows m p answer d visitors out q
   follows found d visitors out q is counted =
       let led = moved_well found m p well in
@@ -25,12 +26,12 @@ module _ {V : Type 0} (m : Move V) (p : Pool V) (well : IsWell p) (answer : Repl
       record {
         gives = (found, is);
         counted = counted;
-        well = subst IsWell after led.0;
+        well = subst RunInvariant after led.0;
         limit = sym (ap (λ (r : Pool V). r.limit) after) ∙ limit.1;
       }
 
   module _ (runtime : Option Runtime) (most next : ℕ) (e : State (Item V)) (visitors : List (Option (Visitor V)))
-      (out : List (Item V)) (counted : IsCounted e visitors out)
+      (out : List (Item V)) (counted : TrialInvariant e visitors out)
       (found : Bool) (makes : unsettled found m p ≡ (answer, image runtime most next e visitors out)) where
     img : State (Item V) → Pool V
     img d = image runtime most next d visitors out

@@ -4,9 +4,12 @@ use Rattle.deadpool_unmanaged_replay.proofs.Basics.{set, map, refl, sym, ap, ◌
 use Rattle.deadpool_unmanaged_replay.proofs.Basics.{None, eq-eqb, nat_lt, Result, slice_get, Duration, cases_Bool}
 use Rattle.deadpool_unmanaged_replay.proofs.Basics.{lt-ltb, le-ltb, not-true, Poll, deadline_after, is_reached}
 use Rattle.deadpool_unmanaged_replay.proofs.Basics.{cannot_wait, has_number, Moment, Runtime, owner, Queue, is_listed}
-use Rattle.deadpool_unmanaged_replay.proofs.Basics.{joined, set-same, renamed-set, granted-renamed}
+use Rattle.deadpool_unmanaged_replay.proofs.Basics.{joined, set-same, renamed-set, granted-renamed, nat_le, le-leb}
+use Rattle.deadpool_unmanaged_replay.proofs.Basics.{lt-leb, length-map, ◌≤◌}
+use Rattle.deadpool_unmanaged_replay.proofs.Words.{Crowded}
 use Rattle.deadpool_unmanaged_replay.proofs.Words.{PollsGet, stage_after, turn_after, image, party_of, has_get, has_add}
-use Rattle.deadpool_unmanaged_replay.proofs.Words.{IsCounted, IsWell, NobodyWaits, unsettled, by_party, Pool, Party}
+use Rattle.deadpool_unmanaged_replay.proofs.Words.{TrialInvariant, RunInvariant, NobodyWaits, unsettled}
+use Rattle.deadpool_unmanaged_replay.proofs.Words.{by_party, Pool, Party}
 use Rattle.deadpool_unmanaged_replay.proofs.Words.{new_get, queued_get, finished, free_objects, State, Does, GetEnter}
 use Rattle.deadpool_unmanaged_replay.proofs.Words.{GetAsk, without_get, with_get, handed, ended, hand_out, with_item}
 use Rattle.deadpool_unmanaged_replay.proofs.Words.{poll, enter_get, inquire_get, got, given, reply_to, PoolError}
@@ -21,8 +24,8 @@ use Rattle.deadpool_unmanaged_replay.proofs.{Visitors.image-without_get, Visitor
 use Rattle.deadpool_unmanaged_replay.proofs.{Visitors.image-joined_get}
 
 module _ {V : Type 0} (runtime : Option Runtime) (most next : ℕ) (d : State (Item V))
-    (visitors : List (Option (Visitor V))) (out : List (Item V)) (k : IsCounted d visitors out)
-    (well : IsWell (image runtime most next d visitors out)) (n : ℕ) (now : Moment) where
+    (visitors : List (Option (Visitor V))) (out : List (Item V)) (k : TrialInvariant d visitors out)
+    (well : RunInvariant (image runtime most next d visitors out)) (n : ℕ) (now : Moment) where
   abbrev pub pool : Pool V
   pool = image runtime most next d visitors out
 
@@ -68,7 +71,7 @@ module _ {V : Type 0} (runtime : Option Runtime) (most next : ℕ) (d : State (I
         (λ u. refl)
         ∙ ap (λ (q : Pool V). record q { parties = set (map party_of visitors) n (Some finished) }) (sym gone)
 
-    new_counted : IsCounted d (set visitors n over) out
+    new_counted : TrialInvariant d (set visitors n over) out
     new_counted = counted-set runtime most next d visitors out k n new_visitor over here (λ u. refl) (λ u. refl)
         (λ u. refl) (λ u. refl)
 
@@ -86,6 +89,17 @@ module _ {V : Type 0} (runtime : Option Runtime) (most next : ℕ) (d : State (I
     none_free : objects_left d ≡ 0 → nat_lt 0 (free_objects pool) ≡ false
     none_free none = le-ltb 0 (free_objects pool) (omega (arith, none, objects-image runtime most next d visitors out))
 
+    -- it is crowded if the core is
+    crowded_as : d.max_waiting ≤ length d.gets.waiting
+        → nat_le d.max_waiting (length pool.gets.waiting) ≡ true
+    crowded_as most = le-leb d.max_waiting (length pool.gets.waiting)
+        (omega (arith, length-map d.gets.waiting (owner has_get visitors), most))
+
+    roomy_as : length d.gets.waiting < d.max_waiting
+        → nat_le d.max_waiting (length pool.gets.waiting) ≡ false
+    roomy_as fewer = lt-leb d.max_waiting (length pool.gets.waiting)
+        (omega (arith, length-map d.gets.waiting (owner has_get visitors), fewer))
+
     entered_so : (answer : CoreReply) (hand : Option (Item V)) (d' : State (Item V)) → cannot_wait runtime wait ≡ false
         → Does d (GetEnter (not (is_reached (deadline_after now wait) now))) hand answer d'
         → Polled (reply_to (got (turn_after answer hand))) d'
@@ -100,7 +114,10 @@ module _ {V : Type 0} (runtime : Option Runtime) (most next : ℕ) (d : State (I
         not_false false is = cc
     entered_so CoreReply.OutOfMemory None d' has e =
         let early = not-true (is_reached (deadline_after now wait) now) e.2 in
-        new_fails false OutOfMemory d' e.3 (rw (has, e.0, none_free e.1, early) refl)
+        new_fails false OutOfMemory d' e.4 (rw (has, e.0, none_free e.1, early, roomy_as e.3) refl)
+    entered_so CoreReply.Crowded None d' has e =
+        let early = not-true (is_reached (deadline_after now wait) now) e.2 in
+        new_fails true Crowded d' e.4 (rw (has, e.0, none_free e.1, early, crowded_as e.3) refl)
     entered_so CoreReply.Object (Some item) d' has e =
         let free : nat_lt 0 (free_objects pool) ≡ true =
         lt-ltb 0 (free_objects pool) (omega (arith, e.1, objects-image runtime most next d visitors out)) in
@@ -113,7 +130,7 @@ module _ {V : Type 0} (runtime : Option Runtime) (most next : ℕ) (d : State (I
     entered_so (CoreReply.Waiting ticket) None d' has e =
         let waits : Option (Visitor V) = Some (Visitor.Get (Queued ticket (deadline_after now wait))) in
         let early = not-true (is_reached (deadline_after now wait) now) e.2 in
-        let after = image-joined_get runtime most next d visitors out k n new_visitor waits here ticket e.3 (λ u. refl)
+        let after = image-joined_get runtime most next d visitors out k n new_visitor waits here ticket e.4 (λ u. refl)
         (λ u. refl) (λ u. refl) (λ u. refl) in
         let joins : enter_get true n wait now pool
         ≡ (
@@ -123,15 +140,15 @@ module _ {V : Type 0} (runtime : Option Runtime) (most next : ℕ) (d : State (I
             gets = joined n pool.gets;
           },
         ) =
-        rw (has, e.0, none_free e.1, early) refl in
+        rw (has, e.0, none_free e.1, early, roomy_as e.3) refl in
         let makes = by_visitor new_visitor (new_get wait) here refl true ∙ joins
         ∙ ap (λ (q : Pool V). (Reply.Pending, q)) (sym after) in
         let free = objects-image runtime most next d visitors out in
         let nobody = well.lawful.nobody_waits in
         by_resting (Move.Poll n now) pool well Reply.Pending runtime most next (with_get ticket d)
         (set visitors n waits) out
-        (counted-joined_get runtime most next d visitors out k n new_visitor waits here ticket e.3 (λ u. refl)
-        (λ u. refl) (λ u. refl) (λ u. refl)) true makes d' e.4
+        (counted-joined_get runtime most next d visitors out k n new_visitor waits here ticket e.4 (λ u. refl)
+        (λ u. refl) (λ u. refl) (λ u. refl)) true makes d' e.5
         (subst NobodyWaits (sym after)
         (record { objects = λ is some. absurd (omega (arith, some, free, e.1)); room = nobody.room }))
     entered_so _ None d' has e = absurd e
@@ -160,7 +177,7 @@ module _ {V : Type 0} (runtime : Option Runtime) (most next : ℕ) (d : State (I
     queued_ended = image-without_get runtime most next d visitors out k n queued_visitor over here t mine.1 (λ u. refl)
         (λ u. refl) (λ u. refl) (λ u. refl)
 
-    queued_counted : IsCounted (without_get t d) (set visitors n over) out
+    queued_counted : TrialInvariant (without_get t d) (set visitors n over) out
     queued_counted = counted-without_get runtime most next d visitors out k n queued_visitor over here t mine.1
         (λ u. refl) (λ u. refl) (λ u. refl) (λ u. refl)
 

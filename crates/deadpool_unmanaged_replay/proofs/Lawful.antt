@@ -1,18 +1,19 @@
 -- Each move keeps what is true of every state, and the limit.
 use Rattle.deadpool_unmanaged_replay.proofs.Basics.{◌≡◌, ℕ, ◌+◌, ◌-◌, ◌≤◌, nat_lt, if◌then◌else◌, ◌==◌, List, [], ◌∷◌}
 use Rattle.deadpool_unmanaged_replay.proofs.Basics.{Bool, true, false, not, length, refl, ◌∙◌, arith, inl, inr, Option}
-use Rattle.deadpool_unmanaged_replay.proofs.Basics.{Some, None, length-append, length-take, cases_Bool, cond_both}
+use Rattle.deadpool_unmanaged_replay.proofs.Basics.{nat_le, Some, None, length-append, length-take, cases_Bool}
+use Rattle.deadpool_unmanaged_replay.proofs.Basics.{cond_both}
 use Rattle.deadpool_unmanaged_replay.proofs.Basics.{ltb-true, slice_get_within, Duration, slice_get, deadline_after}
 use Rattle.deadpool_unmanaged_replay.proofs.Basics.{is_reached, cannot_wait, Runtime, has_number, largest_usize}
 use Rattle.deadpool_unmanaged_replay.proofs.Basics.{most_handles, Moment, without_number-shorter, without_number-fewer}
-use Rattle.deadpool_unmanaged_replay.proofs.Words.{HasRoom, IsLawful, IsWithinLimit, unsettled, moved, by_party}
+use Rattle.deadpool_unmanaged_replay.proofs.Words.{HasRoom, PoolInvariant, IsWithinLimit, unsettled, moved, by_party}
 use Rattle.deadpool_unmanaged_replay.proofs.Words.{by_newcomer, by_number, started, Pool, Party, new_get, queued_get}
 use Rattle.deadpool_unmanaged_replay.proofs.Words.{new_add, queued_add, finished, opened, size, free_objects, free_room}
 use Rattle.deadpool_unmanaged_replay.proofs.Words.{settle, status_of, last_idle, find_item, without_item, with_item}
 use Rattle.deadpool_unmanaged_replay.proofs.Words.{hand_out, store, ended, enter_get, inquire_get, enter_add}
 use Rattle.deadpool_unmanaged_replay.proofs.Words.{inquire_add, poll, cancelled, try_get, try_store, back, take_out}
-use Rattle.deadpool_unmanaged_replay.proofs.Words.{closed, cloned, handle_dropped, Item, Move, Reply, nobody_left}
-use Rattle.deadpool_unmanaged_replay.proofs.Words.{served_within, pool_handed as handed}
+use Rattle.deadpool_unmanaged_replay.proofs.Words.{closed, cloned, handle_dropped, Item, Move, Reply}
+use Rattle.deadpool_unmanaged_replay.proofs.Words.{nobody_waits-served, served_within, pool_handed as handed}
 
 module _ {V : Type 0} where
   -- one more object in a list by number
@@ -76,7 +77,8 @@ module _ {V : Type 0} where
       (λ _. cond_both (not p.is_open) _ _ P (λ _. ends)
       (λ _. cond_both (nat_lt 0 (free_objects p)) _ _ P (λ _. hand_out_keeps p (ended n p) ends)
       (λ _. cond_both (is_reached (deadline_after now wait) now) _ _ P (λ _. ends)
-      (λ _. cond_both found _ _ P (λ _. record { room = room; limit = refl }) (λ _. ends)))))
+      (λ _. cond_both (nat_le p.max_waiting (length p.gets.waiting)) _ _ P (λ _. ends)
+      (λ _. cond_both found _ _ P (λ _. record { room = room; limit = refl }) (λ _. ends))))))
 
   inquire_get_keeps : (n : ℕ) (deadline : Option Moment) (now : Moment) (p : Pool V) → HasRoom p
       → Keeps p (inquire_get n deadline now p).1
@@ -96,7 +98,8 @@ module _ {V : Type 0} where
       cond_both (not p.is_open) _ _ P (λ _. ends)
       (λ _. cond_both (nat_lt 0 (free_room p)) _ _ P
       (λ free. store_keeps item p (ended n p) refl (omega (arith, fewer, ltb-true 0 (free_room p) free)))
-      (λ _. cond_both found _ _ P (λ _. record { room = room; limit = refl }) (λ _. ends)))
+      (λ _. cond_both (nat_le p.max_waiting (length p.adds.waiting)) _ _ P (λ _. ends)
+      (λ _. cond_both found _ _ P (λ _. record { room = room; limit = refl }) (λ _. ends))))
 
   inquire_add_keeps : (n : ℕ) (item : Item V) (p : Pool V) → HasRoom p → Keeps p (inquire_add n item p).1
   inquire_add_keeps n item p room =
@@ -223,27 +226,28 @@ module _ {V : Type 0} where
       ) P (λ _. same_keeps p room) (λ _. record { room = room; limit = refl })
 
   -- the settling grants what is free, and nobody waits then
-  settle_lawful : (p : Pool V) → HasRoom p → IsLawful (settle p)
+  settle_lawful : (p : Pool V) → HasRoom p → PoolInvariant (settle p)
   settle_lawful p room =
       let within = served_within p.is_open (p.limit - size p) p.adds (omega (arith, room)) in
       record {
         nobody_waits = record {
-          objects = λ is some. nobody_left p.is_open (length p.idle) p.gets is some;
-          room = λ is some. nobody_left p.is_open (p.limit - size p) p.adds is some;
+          objects = nobody_waits-served p.is_open (length p.idle) p.gets _ refl;
+          room = nobody_waits-served p.is_open (p.limit - size p) p.adds _ refl;
         };
         room = omega (arith, within, room);
       }
 
   -- so each move leads from what is lawful to what is, and keeps the limit
-  pub moved_lawful : (found : Bool) (m : Move V) (p : Pool V) → IsLawful p
-      → IsLawful (moved found m p).1 × ((moved found m p).1.limit ≡ p.limit)
+  pub moved_lawful : (found : Bool) (m : Move V) (p : Pool V) → PoolInvariant p
+      → PoolInvariant (moved found m p).1 × ((moved found m p).1.limit ≡ p.limit)
   moved_lawful found m p lawful =
       let kept = unsettled_keeps found m p lawful.room in
       (settle_lawful (unsettled found m p).1 kept.room, kept.limit)
 
-  pub opened_lawful : (limit : ℕ) (runtime : Option Runtime) (most : ℕ) → IsLawful (opened {V = V} limit runtime most)
+  pub opened_lawful : (limit : ℕ) (runtime : Option Runtime) (most : ℕ)
+      → PoolInvariant (opened {V = V} limit runtime most)
   opened_lawful limit runtime most =
       record { nobody_waits = record { objects = λ is some. refl; room = λ is some. refl }; room = omega arith }
 
-  pub within_limit : (p : Pool V) → IsLawful p → IsWithinLimit p
+  pub within_limit : (p : Pool V) → PoolInvariant p → IsWithinLimit p
   within_limit p lawful = omega (arith, lawful.room)

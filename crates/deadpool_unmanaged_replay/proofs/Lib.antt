@@ -1,3 +1,4 @@
+-- The lemmas on a trial of an unmanaged pool: each move is one of the list machine, and its laws stay.
 pub mod AddPolls
 pub mod Basics
 pub mod Copies

@@ -6,7 +6,7 @@ use Rattle.deadpool_unmanaged_replay.proofs.Basics.{without_number, KeepsOrder, 
 use Rattle.deadpool_unmanaged_replay.proofs.Basics.{has_number-append, has_number-without, IsOnce-without, IsOnce-push}
 use Rattle.deadpool_unmanaged_replay.proofs.Basics.{order_same, order_without, order_joined, get-set_same}
 use Rattle.deadpool_unmanaged_replay.proofs.Basics.{get-set_other, get-append, get-pushed}
-use Rattle.deadpool_unmanaged_replay.proofs.Words.{Party, IsLined, members-without, members-joined}
+use Rattle.deadpool_unmanaged_replay.proofs.Words.{Party, HasQueued, members-without, members-joined}
 
 module _ {V : Type 0} (asks : Option (Option (Party V)) → Bool) where
   -- but for n the same ask as before
@@ -56,7 +56,8 @@ module _ {V : Type 0} (asks : Option (Option (Party V)) → Bool) where
       by_cases (Some y) e = ap asks (get-append xs (x ∷ []) m y e ∙ sym e)
 
   -- who is left when n leaves
-  left_marks : (q : Queue) (xs ys : List (Option (Party V))) (n : ℕ) → IsLined asks q xs → asks (slice_get ys n) ≡ false
+  left_marks : (q : Queue) (xs ys : List (Option (Party V))) (n : ℕ) → HasQueued asks q xs → asks (slice_get ys n)
+      ≡ false
       → Others n xs ys
       → (m : ℕ) → has_number m (without_number n (members q)) ≡ asks (slice_get ys m)
   left_marks q xs ys n lined gone others m =
@@ -68,7 +69,7 @@ module _ {V : Type 0} (asks : Option (Option (Party V)) → Bool) where
       ])
 
   -- and when n joins
-  joined_marks : (q : Queue) (xs ys : List (Option (Party V))) (n : ℕ) → IsLined asks q xs
+  joined_marks : (q : Queue) (xs ys : List (Option (Party V))) (n : ℕ) → HasQueued asks q xs
       → has_number n (members q) ≡ false → asks (slice_get ys n) ≡ true → Others n xs ys
       → (m : ℕ) → has_number m (members q ++ n ∷ []) ≡ asks (slice_get ys m)
   joined_marks q xs ys n lined fresh there others m =
@@ -81,8 +82,8 @@ module _ {V : Type 0} (asks : Option (Option (Party V)) → Bool) where
       ])
 
   -- the step keeps what is true of the queue, and its order
-  pub moves_lined : (named : Option ℕ) (q r : Queue) (xs ys : List (Option (Party V))) → IsLined asks q xs
-      → QueueMoves named q xs r ys → IsLined asks r ys × KeepsOrder (members q) (members r)
+  pub moves_lined : (named : Option ℕ) (q r : Queue) (xs ys : List (Option (Party V))) → HasQueued asks q xs
+      → QueueMoves named q xs r ys → HasQueued asks r ys × KeepsOrder (members q) (members r)
   moves_lined named q r xs ys lined (inl same) =
       rw same.0 (record { once = lined.once; marks = λ m. lined.marks m ∙ sym (same.1 m) }, order_same (members q))
   moves_lined named q r xs ys lined (inr (inl (n, (is, names, gone, others)))) =

@@ -4,7 +4,8 @@ use Rattle.deadpool_unmanaged_replay.proofs.Basics.{◌&&◌, nat_lt, length, re
 use Rattle.deadpool_unmanaged_replay.proofs.Basics.{None, if◌then◌else◌, cases_Bool, lt-ltb, le-ltb, nat_tests}
 use Rattle.deadpool_unmanaged_replay.proofs.Basics.{length-map, largest_usize, most_handles, Status, Runtime, owner}
 use Rattle.deadpool_unmanaged_replay.proofs.Basics.{HandleReply}
-use Rattle.deadpool_unmanaged_replay.proofs.Words.{image, has_get, IsCounted, IsWell, unsettled, Pool, free_objects}
+use Rattle.deadpool_unmanaged_replay.proofs.Words.{image, has_get, TrialInvariant, RunInvariant}
+use Rattle.deadpool_unmanaged_replay.proofs.Words.{unsettled, Pool, free_objects}
 use Rattle.deadpool_unmanaged_replay.proofs.Words.{free_room, status_of as pool_status, State, settled, Does, GetEnter}
 use Rattle.deadpool_unmanaged_replay.proofs.Words.{AddEnter, Back, Take, LeavesHand, Clones, DropsHandle, Upgrades}
 use Rattle.deadpool_unmanaged_replay.proofs.Words.{handed, stored, closed_pool, one_handle_more, find_item, with_item}
@@ -23,8 +24,8 @@ is_zero : (n : ℕ) → n ≡ 0 → eqb n 0 ≡ true
 is_zero n none = grind (arith, nat_tests)
 
 module _ {V : Type 0} (runtime : Option Runtime) (most next : ℕ) (d : State (Item V))
-    (visitors : List (Option (Visitor V))) (out : List (Item V)) (k : IsCounted d visitors out)
-    (well : IsWell (image runtime most next d visitors out)) where
+    (visitors : List (Option (Visitor V))) (out : List (Item V)) (k : TrialInvariant d visitors out)
+    (well : RunInvariant (image runtime most next d visitors out)) where
   abbrev pool : Pool V
   pool = image runtime most next d visitors out
 
@@ -56,6 +57,7 @@ module _ {V : Type 0} (runtime : Option Runtime) (most next : ℕ) (d : State (I
     get_refused CoreReply.Closed e = tt
     get_refused CoreReply.Full e = tt
     get_refused (CoreReply.Waiting ticket) e = absurd (let differ = e.2 in cc)
+    get_refused CoreReply.Crowded e = absurd (let differ = e.2 in cc)
     get_refused CoreReply.OutOfMemory e = absurd (let differ = e.2 in cc)
     get_refused _ e = absurd e
 
@@ -67,6 +69,7 @@ module _ {V : Type 0} (runtime : Option Runtime) (most next : ℕ) (d : State (I
         le-ltb 0 (free_objects pool) (omega (arith, e.1, objects-image runtime most next d visitors out)) in
         same Move.TryGet (Reply.Failed Timeout) d' e.3 (rw (some, e.0, none) refl)
     tried_get_refused (CoreReply.Waiting ticket) e = absurd (let differ = e.2 in cc)
+    tried_get_refused CoreReply.Crowded e = absurd (let differ = e.2 in cc)
     tried_get_refused CoreReply.OutOfMemory e = absurd (let differ = e.2 in cc)
     tried_get_refused _ e = absurd e
 
@@ -88,6 +91,7 @@ module _ {V : Type 0} (runtime : Option Runtime) (most next : ℕ) (d : State (I
       at_once CoreReply.Closed hand e left_is = rw left_is tt
       at_once CoreReply.Full hand e left_is = rw left_is tt
       at_once (CoreReply.Waiting ticket) hand e left_is = absurd (let differ = e.2 in cc)
+      at_once CoreReply.Crowded hand e left_is = absurd (let differ = e.2 in cc)
       at_once CoreReply.OutOfMemory hand e left_is = absurd (let differ = e.2 in cc)
       at_once _ hand e left_is = absurd e
 
@@ -107,6 +111,7 @@ module _ {V : Type 0} (runtime : Option Runtime) (most next : ℕ) (d : State (I
           (by_settling (Move.TryAdd v) pool well (Reply.Added next) runtime most (next + 1) (stored item d) visitors out
           (record { gets = k.gets; adds = k.adds; outside = k.outside }) true (rw (some, left, e.0, free) refl) d' e.2)
       tried_add (CoreReply.Waiting ticket) hand e left_is = absurd (let differ = e.2 in cc)
+      tried_add CoreReply.Crowded hand e left_is = absurd (let differ = e.2 in cc)
       tried_add CoreReply.OutOfMemory hand e left_is = absurd (let differ = e.2 in cc)
       tried_add _ hand e left_is = absurd e
 
@@ -120,7 +125,7 @@ module _ {V : Type 0} (runtime : Option Runtime) (most next : ℕ) (d : State (I
     abbrev gone : State (Item V)
     gone = record d { outside = d.outside - 1 }
 
-    counted-gone : IsCounted gone visitors (without_item number out)
+    counted-gone : TrialInvariant gone visitors (without_item number out)
     counted-gone = record { gets = k.gets; adds = k.adds; outside = omega (arith, less, k.outside) }
 
     back_kept : Does d Back (Some item) CoreReply.Kept d'

@@ -3,7 +3,8 @@ use Rattle.deadpool_unmanaged_replay.proofs.Basics.{◌≡◌, ◌≢◌, ℕ, �
 use Rattle.deadpool_unmanaged_replay.proofs.Basics.{nat_lt, length, set, map, refl, sym, ap, ◌∙◌, subst, arith, Option}
 use Rattle.deadpool_unmanaged_replay.proofs.Basics.{Some, None, eq-eqb, slice_get, Duration, nat_tests, map-append}
 use Rattle.deadpool_unmanaged_replay.proofs.Basics.{largest_usize, Runtime, NoTicket, owned-push, renamed-push}
-use Rattle.deadpool_unmanaged_replay.proofs.Words.{image, party_of, has_get, has_add, IsCounted, IsWell, NobodyWaits}
+use Rattle.deadpool_unmanaged_replay.proofs.Words.{image, party_of, has_get, has_add}
+use Rattle.deadpool_unmanaged_replay.proofs.Words.{TrialInvariant, RunInvariant, NobodyWaits}
 use Rattle.deadpool_unmanaged_replay.proofs.Words.{unsettled, by_party, Pool, State, without_get, without_add}
 use Rattle.deadpool_unmanaged_replay.proofs.Words.{cancelled, CancelsVisitor, CoreReply, Item, Move, Reply, Visitor}
 use Rattle.deadpool_unmanaged_replay.proofs.Words.{AddStage, GetStage}
@@ -26,8 +27,8 @@ pub differs : (n m : ℕ) → n ≢ m → eqb n m ≡ false
 differs n m h = grind (arith, nat_tests)
 
 module _ {V : Type 0} (runtime : Option Runtime) (most next : ℕ) (d : State (Item V))
-    (visitors : List (Option (Visitor V))) (out : List (Item V)) (k : IsCounted d visitors out)
-    (well : IsWell (image runtime most next d visitors out)) where
+    (visitors : List (Option (Visitor V))) (out : List (Item V)) (k : TrialInvariant d visitors out)
+    (well : RunInvariant (image runtime most next d visitors out)) where
   abbrev pool : Pool V
   pool = image runtime most next d visitors out
 
@@ -40,7 +41,7 @@ module _ {V : Type 0} (runtime : Option Runtime) (most next : ℕ) (d : State (I
   -- ---- a party starts
 
   module _ (new : Option (Visitor V)) (no_get : NoTicket has_get new) (no_add : NoTicket has_add new) where
-    counted-push : IsCounted d (visitors ++ new ∷ []) out
+    counted-push : TrialInvariant d (visitors ++ new ∷ []) out
     counted-push = record {
       gets = owned-push has_get d.gets visitors k.gets new no_get;
       adds = owned-push has_add d.adds visitors k.adds new no_add;

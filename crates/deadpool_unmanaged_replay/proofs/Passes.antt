@@ -1,13 +1,14 @@
 -- What steps of gets and adds keep of numbers, promises and queues.
 use Rattle.deadpool_unmanaged_replay.proofs.Basics.{◌≡◌, ◌≢◌, ℕ, ◌+◌, ◌-◌, ◌<◌, ◌≤◌, nat_lt, List, [], ◌∷◌, Bool, true}
 use Rattle.deadpool_unmanaged_replay.proofs.Basics.{false, not, length, set, refl, sym, ap, arith, ◌∙◌, inl, inr}
-use Rattle.deadpool_unmanaged_replay.proofs.Basics.{Option, Some, None, length-append, length-take, slice_get, Duration}
+use Rattle.deadpool_unmanaged_replay.proofs.Basics.{nat_le, Option, Some, None, length-append, length-take, slice_get}
+use Rattle.deadpool_unmanaged_replay.proofs.Basics.{Duration}
 use Rattle.deadpool_unmanaged_replay.proofs.Basics.{cond_both, ltb-true, deadline_after, is_reached, cannot_wait}
 use Rattle.deadpool_unmanaged_replay.proofs.Basics.{has_number, Moment, without_number-shorter, without_number-fewer}
 use Rattle.deadpool_unmanaged_replay.proofs.Basics.{get-set_same, get-set_other, count-cons_option, count-push}
 use Rattle.deadpool_unmanaged_replay.proofs.Basics.{count-with, count-set_held}
 use Rattle.deadpool_unmanaged_replay.proofs.Words.{Pool, Party, new_get, queued_get, new_add, queued_add, finished}
-use Rattle.deadpool_unmanaged_replay.proofs.Words.{free_objects, free_room, IsWell, CountsOn, KeepsPromises}
+use Rattle.deadpool_unmanaged_replay.proofs.Words.{free_objects, free_room, RunInvariant, CountsOn, KeepsPromises}
 use Rattle.deadpool_unmanaged_replay.proofs.Words.{IsEmptyIfClosed, brings, brought_by, asks_for_object, asks_for_room}
 use Rattle.deadpool_unmanaged_replay.proofs.Words.{copies, so_many, brought_in, last_idle, other_idle, left, hand_out}
 use Rattle.deadpool_unmanaged_replay.proofs.Words.{store, ended, enter_get, inquire_get, enter_add, inquire_add, poll}
@@ -47,7 +48,8 @@ module _ {V : Type 0} where
   pub set_stands : (xs : List (Option (Party V))) (n : ℕ) (x : Option (Party V)) → Stands (Some n) xs (set xs n x)
   set_stands xs n x m y other there = get-set_other xs n m x (λ e. other (ap Some (sym e))) ∙ there
 
-  pub same_passes : (named : Option ℕ) (leaving : List (Item V)) (p : Pool V) → IsWell p → Passes named leaving p p
+  pub same_passes : (named : Option ℕ) (leaving : List (Item V)) (p : Pool V) → RunInvariant p
+      → Passes named leaving p p
   same_passes named leaving p well = record {
     counts = none_drawn p p refl (λ n. omega arith);
     stays = λ n. omega arith;
@@ -58,7 +60,7 @@ module _ {V : Type 0} where
     adds = inl (refl, λ m. refl);
   }
 
-  module _ (n : ℕ) (party : Party V) (p : Pool V) (well : IsWell p)
+  module _ (n : ℕ) (party : Party V) (p : Pool V) (well : RunInvariant p)
       (here : slice_get p.parties n ≡ Some (Some party)) where
     -- the object that the add brought, if any
     abbrev its : List (Item V)
@@ -152,7 +154,7 @@ module _ {V : Type 0} where
             adds = pass.adds;
           }
 
-  module _ (found : Bool) (n : ℕ) (now : Moment) (p : Pool V) (well : IsWell p) where
+  module _ (found : Bool) (n : ℕ) (now : Moment) (p : Pool V) (well : RunInvariant p) where
     P : Party V → Reply V × Pool V → Type 0
     P party = λ x. Passes (Some n) (brought_in (Some (Some party))) p x.1
 
@@ -168,6 +170,7 @@ module _ {V : Type 0} where
         (λ free. hand_out_passes (Some n) [] p (ended n p) ends
         (λ is some. omega (arith, shorter, ltb-true 0 (free_objects p) free)))
         (λ _. cond_both (is_reached (deadline_after now wait) now) _ _ (P (new_get wait)) (λ _. ends)
+        (λ _. cond_both (nat_le p.max_waiting (length p.gets.waiting)) _ _ (P (new_get wait)) (λ _. ends)
         (λ _. cond_both found _ _ (P (new_get wait))
         (λ _.
         let after : Option (Party V) = Some (queued_get (deadline_after now wait)) in
@@ -194,7 +197,7 @@ module _ {V : Type 0} where
               ));
           adds = inl (refl, set_quiet asks_for_room p.parties n (Some (new_get wait)) after here refl);
         })
-        (λ _. ends)))))
+        (λ _. ends))))))
 
     inquire_get_passes : (deadline : Option Moment) → slice_get p.parties n ≡ Some (Some (queued_get deadline))
         → Passes (Some n) [] p (inquire_get n deadline now p).1
@@ -216,6 +219,7 @@ module _ {V : Type 0} where
         cond_both (not p.is_open) _ _ (P (new_add item)) (λ _. ends)
         (λ open_. cond_both (nat_lt 0 (free_room p)) _ _ (P (new_add item))
         (λ _. store_passes n (new_add item) p well here item refl open_)
+        (λ _. cond_both (nat_le p.max_waiting (length p.adds.waiting)) _ _ (P (new_add item)) (λ _. ends)
         (λ _. cond_both found _ _ (P (new_add item))
         (λ _.
         let after : Option (Party V) = Some (queued_add item) in
@@ -242,7 +246,7 @@ module _ {V : Type 0} where
                 ),
               ));
         })
-        (λ _. ends)))
+        (λ _. ends))))
 
     inquire_add_passes : (item : Item V) → slice_get p.parties n ≡ Some (Some (queued_add item))
         → Passes (Some n) (item ∷ []) p (inquire_add n item p).1

@@ -6,7 +6,8 @@ use Rattle.deadpool_unmanaged_replay.proofs.Basics.{cases_Bool, cond_both, ltb-t
 use Rattle.deadpool_unmanaged_replay.proofs.Basics.{most_handles, get-append, count-push, count-without, count-found}
 use Rattle.deadpool_unmanaged_replay.proofs.Basics.{count-push_held}
 use Rattle.deadpool_unmanaged_replay.proofs.Words.{Pool, Party, new_get, new_add, free_objects, free_room, status_of}
-use Rattle.deadpool_unmanaged_replay.proofs.Words.{IsWell, CountsOn, brings, asks_for_object, asks_for_room, copies}
+use Rattle.deadpool_unmanaged_replay.proofs.Words.{RunInvariant, CountsOn, brings}
+use Rattle.deadpool_unmanaged_replay.proofs.Words.{asks_for_object, asks_for_room, copies}
 use Rattle.deadpool_unmanaged_replay.proofs.Words.{brought_in, named, may_leave, find_item, without_item, store, poll}
 use Rattle.deadpool_unmanaged_replay.proofs.Words.{cancelled, try_get, try_store, back, take_out, closed, cloned}
 use Rattle.deadpool_unmanaged_replay.proofs.Words.{handle_dropped, item_number, Item, Reply, unsettled, by_newcomer}
@@ -52,7 +53,7 @@ module _ {V : Type 0} where
         omega (arith, here, none);
   }
 
-  module _ (p : Pool V) (well : IsWell p) where
+  module _ (p : Pool V) (well : RunInvariant p) where
     -- a move that names nobody, and may let these objects leave
     P : List (Item V) → Reply V × Pool V → Type 0
     P leaving = λ x. Passes None leaving p x.1

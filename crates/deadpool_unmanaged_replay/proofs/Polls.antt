@@ -1,13 +1,14 @@
 -- A poll by the visitor of a party.
 use Rattle.deadpool_unmanaged_replay.proofs.Basics.{◌≡◌, ℕ, List, set, sym, ◌∙◌, subst, Option, Some, None, slice_get}
 use Rattle.deadpool_unmanaged_replay.proofs.Basics.{Moment, Runtime, set-same}
-use Rattle.deadpool_unmanaged_replay.proofs.Words.{held_by, image, IsCounted, IsWell, State, PollsVisitor, got, added}
+use Rattle.deadpool_unmanaged_replay.proofs.Words.{held_by, image, TrialInvariant, RunInvariant}
+use Rattle.deadpool_unmanaged_replay.proofs.Words.{State, PollsVisitor, got, added}
 use Rattle.deadpool_unmanaged_replay.proofs.Words.{given, reply_to, Item, Visitor, Turn}
 use Rattle.deadpool_unmanaged_replay.proofs.{AddPolls.add_polled, GetPolls.Polled, GetPolls.get_polled}
 
 module _ {V : Type 0} (runtime : Option Runtime) (most next : ℕ) (d : State (Item V))
-    (visitors : List (Option (Visitor V))) (out : List (Item V)) (k : IsCounted d visitors out)
-    (well : IsWell (image runtime most next d visitors out)) (n : ℕ) (now : Moment) where
+    (visitors : List (Option (Visitor V))) (out : List (Item V)) (k : TrialInvariant d visitors out)
+    (well : RunInvariant (image runtime most next d visitors out)) (n : ℕ) (now : Moment) where
   -- what a party that is there comes to is what its poll in the pool comes to
   pub visitor_polled : (old after : Option (Visitor V)) (came_to : Option (Turn V)) (turn : Turn V)
       (d' : State (Item V)) → slice_get visitors n ≡ Some old → came_to ≡ Some turn

@@ -1,7 +1,8 @@
 -- Runs, move by move, and what each of their states has.
 use Rattle.deadpool_unmanaged_replay.proofs.Basics.{◌≡◌, List, [], ◌∷◌, Bool, refl, sym, ap, ◌∙◌, subst, all_states}
 use Rattle.deadpool_unmanaged_replay.proofs.Basics.{Each, Neighbours}
-use Rattle.deadpool_unmanaged_replay.proofs.Words.{IsLawful, moved, Gives, PoolRuns, NobodyWaits, IsWithinLimit, Pool}
+use Rattle.deadpool_unmanaged_replay.proofs.Words.{PoolInvariant, moved, Gives, PoolRuns}
+use Rattle.deadpool_unmanaged_replay.proofs.Words.{NobodyWaits, IsWithinLimit, Pool}
 use Rattle.deadpool_unmanaged_replay.proofs.Words.{Move, Reply}
 use Rattle.deadpool_unmanaged_replay.proofs.Lawful.{within_limit, moved_lawful}
 
@@ -57,12 +58,12 @@ module _ {V : Type 0} where
 
   -- in no state of a lawful run does anybody wait for what is free, and none has more objects than the limit
   pub runs_lawful : (moves : List (Move V)) (p after : Pool V) (passed : List (List (Pool V)))
-      (answers : List (Reply V)) → IsLawful p → PoolRuns p moves passed answers after
+      (answers : List (Reply V)) → PoolInvariant p → PoolRuns p moves passed answers after
       → Each NobodyWaits (all_states p passed) × Each IsWithinLimit (all_states p passed)
   runs_lawful moves p after passed answers lawful ran =
-      let have = runs_have IsLawful (λ x y. Unit {0})
+      let have = runs_have PoolInvariant (λ x y. Unit {0})
       (λ found m x good. ((moved_lawful found m x good).0, tt)) moves p after passed answers lawful ran in
       let each = have.0 in (
-        Each-more IsLawful NobodyWaits (λ x good. good.nobody_waits) (all_states p passed) each,
-        Each-more IsLawful IsWithinLimit (λ x good. within_limit x good) (all_states p passed) each,
+        Each-more PoolInvariant NobodyWaits (λ x good. good.nobody_waits) (all_states p passed) each,
+        Each-more PoolInvariant IsWithinLimit (λ x good. within_limit x good) (all_states p passed) each,
       )

@@ -2,11 +2,11 @@
 use Rattle.deadpool_unmanaged_replay.proofs.Basics.{◌≡◌, ℕ, List, Option, Some, refl, eq-eqb, slice_get, slice_get-map}
 use Rattle.deadpool_unmanaged_replay.proofs.Basics.{granted-renamed, Runtime}
 use Rattle.deadpool_unmanaged_replay.proofs.Words.{State, AddStage, GetStage, image, party_of, has_get, has_add}
-use Rattle.deadpool_unmanaged_replay.proofs.Words.{IsCounted, look_of, look_at_get, look_at_add, Item, Visitor}
+use Rattle.deadpool_unmanaged_replay.proofs.Words.{TrialInvariant, look_of, look_at_get, look_at_add, Item, Visitor}
 
 module _ {V : Type 0} (runtime : Option Runtime) (most next : ℕ) (d : State (Item V))
     (visitors : List (Option (Visitor V))) (out : List (Item V)) where
-  module _ (k : IsCounted d visitors out) (n : ℕ) where
+  module _ (k : TrialInvariant d visitors out) (n : ℕ) where
     -- of a get and of an add, by their stage
     pub look_of-get : (s : GetStage) → slice_get visitors n ≡ Some (Some (Visitor.Get s))
         → look_of n (image runtime most next d visitors out) ≡ look_at_get d.gets s

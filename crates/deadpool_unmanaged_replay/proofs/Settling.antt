@@ -1,11 +1,11 @@
 -- A core settles as its pool does, and a pool in which nobody waits stays as it is.
-use Rattle.deadpool_unmanaged_replay.proofs.Basics.{◌≡◌, ℕ, ◌<◌, List, [], Bool, true, cond, length, map, take, min}
-use Rattle.deadpool_unmanaged_replay.proofs.Basics.{refl, arith, inl, inr, Option, append-nil, cases_Bool, cases_lt}
+use Rattle.deadpool_unmanaged_replay.proofs.Basics.{◌≡◌, ℕ, List, Bool, cond, length, map, take, min}
+use Rattle.deadpool_unmanaged_replay.proofs.Basics.{refl, arith, Option}
 use Rattle.deadpool_unmanaged_replay.proofs.Basics.{take-map, drop-map, map-append, length-map, Runtime, owner, Queue}
 use Rattle.deadpool_unmanaged_replay.proofs.Basics.{renamed, served, owned-granting}
-use Rattle.deadpool_unmanaged_replay.proofs.Words.{image, has_get, has_add, IsCounted, NobodyWaits, Pool, settle}
+use Rattle.deadpool_unmanaged_replay.proofs.Words.{image, has_get, has_add, TrialInvariant, NobodyWaits, Pool, settle}
 use Rattle.deadpool_unmanaged_replay.proofs.Words.{free_objects, free_room, State, settled, Item, Visitor, objects_left}
-use Rattle.deadpool_unmanaged_replay.proofs.Words.{room_left}
+use Rattle.deadpool_unmanaged_replay.proofs.Words.{room_left, served-settled}
 
 -- the same are granted under other names
 pub renamed-served : (f : ℕ → ℕ) (is_open : Bool) (free : ℕ) (q : Queue)
@@ -15,31 +15,16 @@ renamed-served f is_open free q =
     let same : length (map f q.waiting) ≡ length q.waiting = length-map q.waiting f in
     rw (same, map-append f q.granted (take k q.waiting), ← take-map f k q.waiting, ← drop-map f k q.waiting) refl
 
--- nobody is granted anything if nobody waits or nothing is free
-pub served-none : (is_open : Bool) (free : ℕ) (q : Queue) → (is_open ≡ true → 0 < free → q.waiting ≡ [])
-    → served is_open free q ≡ q
-served-none is_open free q nobody =
-    let none : cond is_open (min (length q.waiting) free) 0 ≡ 0 =
-    elim (cases_Bool is_open) [
-      | inr shut ↦ rw shut refl
-      | inl is ↦
-          elim (cases_lt 0 free) [
-            | inl some ↦ rw (is, nobody is some) (omega arith)
-            | inr nothing ↦ rw is (omega (arith, nothing))
-          ]
-    ] in
-    rw (none, append-nil q.granted) refl
-
 module _ {V : Type 0} where
   pub settle-none : (p : Pool V) → NobodyWaits p → settle p ≡ p
   settle-none p nobody = rw (
-    served-none p.is_open (free_objects p) p.gets nobody.objects,
-    served-none p.is_open (free_room p) p.adds nobody.room,
+    ← served-settled p.is_open (free_objects p) p.gets nobody.objects,
+    ← served-settled p.is_open (free_room p) p.adds nobody.room,
   ) refl
 
   -- a settled core has the same tickets
   pub counted-settled : (d : State (Item V)) (visitors : List (Option (Visitor V))) (out : List (Item V))
-      → IsCounted d visitors out → IsCounted (settled d) visitors out
+      → TrialInvariant d visitors out → TrialInvariant (settled d) visitors out
   counted-settled d visitors out k =
       record {
         gets = owned-granting has_get d.gets visitors k.gets _;
@@ -48,7 +33,7 @@ module _ {V : Type 0} where
       }
 
   pub settles : (runtime : Option Runtime) (most next : ℕ) (d : State (Item V)) (visitors : List (Option (Visitor V)))
-      (out : List (Item V)) → IsCounted d visitors out
+      (out : List (Item V)) → TrialInvariant d visitors out
       → image runtime most next (settled d) visitors out ≡ settle (image runtime most next d visitors out)
   settles runtime most next d visitors out k =
       let p : Pool V = image runtime most next d visitors out in

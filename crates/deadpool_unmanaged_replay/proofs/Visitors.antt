@@ -4,7 +4,7 @@ use Rattle.deadpool_unmanaged_replay.proofs.Basics.{Some, slice_get, map-set, le
 use Rattle.deadpool_unmanaged_replay.proofs.Basics.{renamed, is_listed, joined, NoTicket, OneTicket, owned-set}
 use Rattle.deadpool_unmanaged_replay.proofs.Basics.{renamed-set, absent, owned-leaves, renamed-leaves, owned-joins}
 use Rattle.deadpool_unmanaged_replay.proofs.Basics.{renamed-joins}
-use Rattle.deadpool_unmanaged_replay.proofs.Words.{image, party_of, has_get, has_add, IsCounted, NobodyWaits, Pool}
+use Rattle.deadpool_unmanaged_replay.proofs.Words.{image, party_of, has_get, has_add, TrialInvariant, NobodyWaits, Pool}
 use Rattle.deadpool_unmanaged_replay.proofs.Words.{free_objects, free_room, State, last_idle, without_get, without_add}
 use Rattle.deadpool_unmanaged_replay.proofs.Words.{with_get, with_add, handed, stored, left, hand_out, store, with_item}
 use Rattle.deadpool_unmanaged_replay.proofs.Words.{Item, Visitor, objects_left, room_left, Reply}
@@ -20,7 +20,7 @@ module _ {V : Type 0} (runtime : Option Runtime) (most next : ℕ) where
   objects-image d visitors out = let gets = length-map d.gets.granted (owner has_get visitors) in omega (arith, gets)
 
   pub room-image : (d : State (Item V)) (visitors : List (Option (Visitor V))) (out : List (Item V))
-      → IsCounted d visitors out → free_room (image runtime most next d visitors out) ≡ room_left d
+      → TrialInvariant d visitors out → free_room (image runtime most next d visitors out) ≡ room_left d
   room-image d visitors out k = let adds = length-map d.adds.granted (owner has_add visitors) in
       omega (arith, adds, k.outside)
 
@@ -36,12 +36,12 @@ module _ {V : Type 0} (runtime : Option Runtime) (most next : ℕ) where
   stores d visitors out item q same = ap (store item) (sym same)
 
   pub counted-handed : (d : State (Item V)) (visitors : List (Option (Visitor V))) (out : List (Item V)) (item : Item V)
-      → IsCounted d visitors out → IsCounted (handed d) visitors (with_item item out)
+      → TrialInvariant d visitors out → TrialInvariant (handed d) visitors (with_item item out)
   counted-handed d visitors out item k =
       record { gets = k.gets; adds = k.adds; outside = omega (arith, k.outside, length-with_item item out) }
 
   module _ (d : State (Item V)) (visitors : List (Option (Visitor V))) (out : List (Item V))
-      (k : IsCounted d visitors out) (n : ℕ) (old new : Option (Visitor V))
+      (k : TrialInvariant d visitors out) (n : ℕ) (old new : Option (Visitor V))
       (here : slice_get visitors n ≡ Some old) where
     parties-set : map party_of (set visitors n new) ≡ set (map party_of visitors) n (party_of new)
     parties-set = map-set party_of visitors n new
@@ -51,7 +51,7 @@ module _ {V : Type 0} (runtime : Option Runtime) (most next : ℕ) where
 
     -- a visitor without a ticket changes, and gets none
     pub counted-set : NoTicket has_get old → NoTicket has_get new → NoTicket has_add old → NoTicket has_add new
-        → IsCounted d (set visitors n new) out
+        → TrialInvariant d (set visitors n new) out
     counted-set get_old get_new add_old add_new =
         record {
           gets = owned-set has_get d.gets visitors k.gets n old new here get_old get_new;
@@ -92,7 +92,7 @@ module _ {V : Type 0} (runtime : Option Runtime) (most next : ℕ) where
     -- a get leaves its queue
     pub counted-without_get : (t : ℕ) → owner has_get visitors t ≡ n → OneTicket has_get t old → NoTicket has_get new
         → NoTicket has_add old → NoTicket has_add new
-        → IsCounted (without_get t d) (set visitors n new) out
+        → TrialInvariant (without_get t d) (set visitors n new) out
     counted-without_get t mine one no_new add_old add_new =
         record {
           gets = owned-leaves has_get d.gets visitors k.gets n old new here t mine one no_new;
@@ -116,7 +116,7 @@ module _ {V : Type 0} (runtime : Option Runtime) (most next : ℕ) where
     -- an add leaves its queue
     pub counted-without_add : (t : ℕ) → owner has_add visitors t ≡ n → OneTicket has_add t old → NoTicket has_add new
         → NoTicket has_get old → NoTicket has_get new
-        → IsCounted (without_add t d) (set visitors n new) out
+        → TrialInvariant (without_add t d) (set visitors n new) out
     counted-without_add t mine one no_new get_old get_new =
         record {
           gets = owned-set has_get d.gets visitors k.gets n old new here get_old get_new;
@@ -140,7 +140,7 @@ module _ {V : Type 0} (runtime : Option Runtime) (most next : ℕ) where
     -- a get joins its queue
     pub counted-joined_get : (t : ℕ) → is_listed t d.gets ≡ false → NoTicket has_get old → OneTicket has_get t new
         → NoTicket has_add old → NoTicket has_add new
-        → IsCounted (with_get t d) (set visitors n new) out
+        → TrialInvariant (with_get t d) (set visitors n new) out
     counted-joined_get t fresh none one add_old add_new =
         record {
           gets = owned-joins has_get d.gets visitors k.gets n old new here t fresh none one;
@@ -165,7 +165,7 @@ module _ {V : Type 0} (runtime : Option Runtime) (most next : ℕ) where
     -- an add joins its queue
     pub counted-joined_add : (t : ℕ) → is_listed t d.adds ≡ false → NoTicket has_add old → OneTicket has_add t new
         → NoTicket has_get old → NoTicket has_get new
-        → IsCounted (with_add t d) (set visitors n new) out
+        → TrialInvariant (with_add t d) (set visitors n new) out
     counted-joined_add t fresh none one get_old get_new =
         record {
           gets = owned-set has_get d.gets visitors k.gets n old new here get_old get_new;

@@ -3,9 +3,10 @@ use Rattle.deadpool_unmanaged_replay.proofs.Basics.{◌≡◌, ℕ, ◌+◌, ◌
 use Rattle.deadpool_unmanaged_replay.proofs.Basics.{length, refl, sym, ap, ◌∙◌, subst, arith, inl, inr, Option, Some}
 use Rattle.deadpool_unmanaged_replay.proofs.Basics.{None, slice_get, cases_Bool, eqb_tells, has_number, all_states}
 use Rattle.deadpool_unmanaged_replay.proofs.Basics.{Neighbours, Later, Queue, members, served, IsOnce-append}
-use Rattle.deadpool_unmanaged_replay.proofs.Words.{unsettled, moved, Pool, Party, new_get, queued_get, new_add}
-use Rattle.deadpool_unmanaged_replay.proofs.Words.{queued_add, finished, IsWell, OpensWell, IsNumbered, CountsOn}
-use Rattle.deadpool_unmanaged_replay.proofs.Words.{IsLined, HasRoomForAll, IsListedOnce, Succeeds, EachState, EachStep}
+use Rattle.deadpool_unmanaged_replay.proofs.Words.{unsettled, moved, Pool, Party, bounded, new_get, queued_get}
+use Rattle.deadpool_unmanaged_replay.proofs.Words.{new_add, queued_add, finished, RunInvariant, OpensWell, IsNumbered}
+use Rattle.deadpool_unmanaged_replay.proofs.Words.{CountsOn, HasQueued, HasRoomForAll, IsListedOnce}
+use Rattle.deadpool_unmanaged_replay.proofs.Words.{Succeeds, EachState, EachStep}
 use Rattle.deadpool_unmanaged_replay.proofs.Words.{EachLater, EachMove, EndsWell, NoneReturns, copies, asks_for_object}
 use Rattle.deadpool_unmanaged_replay.proofs.Words.{asks_for_room, named, OthersStayInPool, OthersStayQueued}
 use Rattle.deadpool_unmanaged_replay.proofs.Words.{OthersStand, Move, Reply, served_within, members-served}
@@ -46,7 +47,7 @@ module _ {V : Type 0} where
 
   -- a queue that is served has the same members
   lined_served : (asks : Option (Option (Party V)) → Bool) (is_open : Bool) (free : ℕ) (q : Queue)
-      (parties : List (Option (Party V))) → IsLined asks q parties → IsLined asks (served is_open free q) parties
+      (parties : List (Option (Party V))) → HasQueued asks q parties → HasQueued asks (served is_open free q) parties
   lined_served asks is_open free q parties lined =
       let same = members-served is_open free q in
       record { once = rw same lined.once; marks = λ n. ap (has_number n) same ∙ lined.marks n }
@@ -62,8 +63,24 @@ module _ {V : Type 0} where
     adds = record { once = tt; marks = λ n. refl };
   }
 
-  pub moved_well : (found : Bool) (m : Move V) (p : Pool V) → IsWell p
-      → IsWell (moved found m p).1 × Succeeds p (moved found m p).1
+  -- and so it is with a bound on those that wait, of which no law speaks
+  pub bounded_well : (max_waiting : Option ℕ) (p : Pool V) → RunInvariant p → RunInvariant (bounded max_waiting p)
+  bounded_well max_waiting p well =
+      let nobody = well.lawful.nobody_waits in
+      record {
+        lawful = record {
+          nobody_waits = record { objects = nobody.objects; room = nobody.room };
+          room = well.lawful.room;
+        };
+        numbered = record { once = well.numbered.once; drawn = well.numbered.drawn };
+        promises = well.promises;
+        closed = well.closed;
+        gets = well.gets;
+        adds = well.adds;
+      }
+
+  pub moved_well : (found : Bool) (m : Move V) (p : Pool V) → RunInvariant p
+      → RunInvariant (moved found m p).1 × Succeeds p (moved found m p).1
   moved_well found m p well =
       let q = (unsettled found m p).1 in
       let pass = unsettled_passes p well found m in
@@ -91,7 +108,8 @@ module _ {V : Type 0} where
       )
 
   -- who leaves by a move is the party or the object that it may take, and every other party is as it was
-  pub moved_queued : (found : Bool) (m : Move V) (p : Pool V) → IsWell p → OthersStayQueued m p (moved found m p).1
+  pub moved_queued : (found : Bool) (m : Move V) (p : Pool V) → RunInvariant p
+      → OthersStayQueued m p (moved found m p).1
   moved_queued found m p well =
       let q = (unsettled found m p).1 in
       let pass = unsettled_passes p well found m in
@@ -104,25 +122,26 @@ module _ {V : Type 0} where
             (ap (has_number n) (sym adds) ∙ gone);
       }
 
-  pub moved_parties : (found : Bool) (m : Move V) (p : Pool V) → IsWell p → OthersStand m p (moved found m p).1
+  pub moved_parties : (found : Bool) (m : Move V) (p : Pool V) → RunInvariant p → OthersStand m p (moved found m p).1
   moved_parties found m p well = let pass = unsettled_passes p well found m in pass.parties
 
-  pub moved_objects : (found : Bool) (m : Move V) (p : Pool V) → IsWell p → OthersStayInPool m p (moved found m p).1
+  pub moved_objects : (found : Bool) (m : Move V) (p : Pool V) → RunInvariant p
+      → OthersStayInPool m p (moved found m p).1
   moved_objects found m p well = let pass = unsettled_passes p well found m in pass.stays
 
   -- what each move keeps
   pub each_move : (P : Move V → Pool V → Pool V → Type 0)
-      → ((found : Bool) (m : Move V) (p : Pool V) → IsWell p → P m p (moved found m p).1) → EachMove P
+      → ((found : Bool) (m : Move V) (p : Pool V) → RunInvariant p → P m p (moved found m p).1) → EachMove P
   each_move P keeps m p passed answer well (q, (one, (found, is))) =
       let after = ap (λ (x : Reply V × Pool V). x.1) is in
       let held : P m p q = subst (λ (r : Pool V). P m p r) after (keeps found m p well) in
       rw one (held, tt)
 
   -- what is true of every pool that is well is true of every state of a run
-  pub each_state : (P : Pool V → Type 0) → ((p : Pool V) → IsWell p → P p) → EachState P
+  pub each_state : (P : Pool V → Type 0) → ((p : Pool V) → RunInvariant p → P p) → EachState P
   each_state P implies moves p after passed answers well ran =
-      let have = runs_have IsWell Succeeds moved_well moves p after passed answers well ran in
-      Each-more IsWell P implies (all_states p passed) have.0
+      let have = runs_have RunInvariant Succeeds moved_well moves p after passed answers well ran in
+      Each-more RunInvariant P implies (all_states p passed) have.0
 
   Neighbours-more : (P more : Pool V → Pool V → Type 0) → ((p q : Pool V) → P p q → more p q) → (ps : List (Pool V))
       → Neighbours P ps → Neighbours more ps
@@ -147,7 +166,7 @@ module _ {V : Type 0} where
 
   pub each_step : (P : Pool V → Pool V → Type 0) → ((p q : Pool V) → Succeeds p q → P p q) → EachStep P
   each_step P implies moves p after passed answers well ran =
-      let have = runs_have IsWell Succeeds moved_well moves p after passed answers well ran in
+      let have = runs_have RunInvariant Succeeds moved_well moves p after passed answers well ran in
       Neighbours-more Succeeds P implies (all_states p passed) have.1
 
   -- more numbers are drawn, and of those that were no more objects are there
@@ -180,16 +199,16 @@ module _ {V : Type 0} where
   -- a number that is gone stays gone from each state to each later one
   pub none_returns : EachLater (NoneReturns {V = V})
   none_returns moves p after passed answers well ran =
-      let have = runs_have IsWell Succeeds moved_well moves p after passed answers well ran in
+      let have = runs_have RunInvariant Succeeds moved_well moves p after passed answers well ran in
       let steps = Neighbours-more Succeeds Leaves succeeds_leaves (all_states p passed) have.1 in
       Later-more Leaves NoneReturns (λ q r k n drawn none. let fewer = k.fewer n drawn in omega (arith, fewer, none))
       (all_states p passed) (Later-of Leaves leaves_on (all_states p passed) steps)
 
   pub ends_well : EndsWell V
   ends_well moves p after passed answers well ran = let have =
-      runs_have IsWell Succeeds moved_well moves p after passed answers well ran in have.2
+      runs_have RunInvariant Succeeds moved_well moves p after passed answers well ran in have.2
 
-  pub listed_once : (p : Pool V) → IsWell p → IsListedOnce p
+  pub listed_once : (p : Pool V) → RunInvariant p → IsListedOnce p
   listed_once p well =
       IsOnce-append (members p.gets) (members p.adds) well.gets.once well.adds.once
       (λ n h.
@@ -199,5 +218,5 @@ module _ {V : Type 0} where
         | inr apart ↦ apart
       ])
 
-  pub room_for_all : (p : Pool V) → IsWell p → HasRoomForAll p
+  pub room_for_all : (p : Pool V) → RunInvariant p → HasRoomForAll p
   room_for_all p well = let l = well.lawful in l.room

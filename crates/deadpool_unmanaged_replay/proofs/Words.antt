@@ -1,6 +1,6 @@
 -- The words of the pool that the proofs cite, passed on from one place.
-pub use Rattle.deadpool_unmanaged.proofs.Queues.{nobody_left, served_within, members-without, members-joined}
-pub use Rattle.deadpool_unmanaged.proofs.Queues.{members-served}
+pub use Rattle.deadpool_gate.proofs.Queues.{nobody_waits-served, served-settled, served_within, members-without}
+pub use Rattle.deadpool_gate.proofs.Queues.{members-joined, members-served}
 pub use Rattle.deadpool_unmanaged.specs.Adds.{PollsAdd, held_by, stage_after as add_stage_after}
 pub use Rattle.deadpool_unmanaged.specs.Adds.{turn_after as add_turn_after}
 pub use Rattle.deadpool_unmanaged.specs.Gets.{PollsGet, stage_after, turn_after}
@@ -14,17 +14,19 @@ pub use Rattle.deadpool_unmanaged.specs.declared.{get.GetStage.GetStage, get.Get
 pub use Rattle.deadpool_unmanaged.specs.declared.{get.GetStage.TheVariants.Queued, get.GetStage.TheVariants.Finished}
 pub use Rattle.deadpool_unmanaged.specs.declared.{step.Reply.Reply as CoreReply}
 pub use Rattle.deadpool_unmanaged.specs.declared.step.Step.TheVariants.{GetEnter, GetAsk, AddEnter, AddAsk, Back, Take}
-pub use Rattle.deadpool_unmanaged.specs.declared.error.PoolError.TheVariants.{Closed, OutOfMemory, Timeout}
+pub use Rattle.deadpool_unmanaged.specs.declared.error.PoolError.TheVariants.{Closed, Crowded, OutOfMemory, Timeout}
 pub use Rattle.deadpool_unmanaged.specs.declared.error.PoolError.TheVariants.{NoRuntimeSpecified}
-pub use Rattle.deadpool_unmanaged_replay.specs.{Laws.HasRoom, Laws.IsLawful, Look.look_of, declared.moves.Item.Item}
+pub use Rattle.deadpool_unmanaged_replay.specs.{Laws.HasRoom, Laws.PoolInvariant}
+pub use Rattle.deadpool_unmanaged_replay.specs.{Look.look_of, declared.moves.Item.Item}
 pub use Rattle.deadpool_unmanaged_replay.specs.{declared.moves.Move.Move, declared.moves.Reply.Reply}
 pub use Rattle.deadpool_unmanaged_replay.specs.{declared.trial.Turn.Turn, declared.trial.Visitor.Visitor}
-pub use Rattle.deadpool_unmanaged_replay.specs.Image.{image, party_of, has_add, IsCounted, has_get}
+pub use Rattle.deadpool_unmanaged_replay.specs.Image.{image, party_of, has_add, TrialInvariant, has_get}
 pub use Rattle.deadpool_unmanaged_replay.specs.Moves.{NobodyWaits, Gives, unsettled, moved, by_party, IsWithinLimit}
 pub use Rattle.deadpool_unmanaged_replay.specs.Moves.{by_newcomer, by_number, started, PoolRuns}
 pub use Rattle.deadpool_unmanaged_replay.specs.Pool.{Pool, new_add, queued_add, finished, free_room, settle, Party}
 pub use Rattle.deadpool_unmanaged_replay.specs.Pool.{new_get, queued_get, free_objects, opened, size, status_of}
-pub use Rattle.deadpool_unmanaged_replay.specs.RunLaws.{IsWell, so_many, IsLined, CountsOn, KeepsPromises}
+pub use Rattle.deadpool_unmanaged_replay.specs.Pool.{bounded}
+pub use Rattle.deadpool_unmanaged_replay.specs.RunLaws.{RunInvariant, so_many, HasQueued, CountsOn, KeepsPromises}
 pub use Rattle.deadpool_unmanaged_replay.specs.RunLaws.{IsEmptyIfClosed, brings, brought_by, asks_for_object}
 pub use Rattle.deadpool_unmanaged_replay.specs.RunLaws.{asks_for_room, copies, brought_in, named, may_leave, OpensWell}
 pub use Rattle.deadpool_unmanaged_replay.specs.RunLaws.{IsNumbered, HasRoomForAll, IsListedOnce, Succeeds, EachState}

@@ -1,6 +1,6 @@
 -- The pool in lists that a core, its parties and the objects out stand for.
 use Rattle.std.specs.Prelude.{◌≡◌, ℕ, Bool, false, ◌==◌, List, length, map, Option, Some, None}
-use Rattle.deadpool_gate.specs.Owners.{owner, IsOwned}
+use Rattle.deadpool_gate.specs.Owners.{owner, TicketsMatch}
 use Rattle.deadpool_gate.specs.Queue.{renamed}
 use Rattle.deadpool_parts.specs.declared.moment.Runtime.{Runtime}
 use Rattle.deadpool_unmanaged_replay.specs.Pool.{Pool, Party, new_get, queued_get, new_add, queued_add, finished}
@@ -49,16 +49,18 @@ module _ {V : Type 0} where
   has_add t _ = false
 
   -- the queues are those of the visitors, and as many objects are out as the core counts
-  pub record IsCounted (d : State (Item V)) (visitors : List (Option (Visitor V))) (out : List (Item V)) : Type 0 where
-    pub gets : IsOwned has_get d.gets visitors
-    pub adds : IsOwned has_add d.adds visitors
-    pub outside : d.outside ≡ length out
+  pub record TrialInvariant (d : State (Item V)) (visitors : List (Option (Visitor V))) (out : List (Item V)) : Type 0
+    where
+      pub gets : TicketsMatch has_get d.gets visitors
+      pub adds : TicketsMatch has_add d.adds visitors
+      pub outside : d.outside ≡ length out
 
   abbrev pub image : Option Runtime → ℕ → ℕ → State (Item V) → List (Option (Visitor V)) → List (Item V) → Pool V
   image runtime most next d visitors out = record {
     limit = d.limit;
     is_open = d.is_open;
     handles = d.handles;
+    max_waiting = d.max_waiting;
     runtime = runtime;
     next = next;
     most_parties = most;

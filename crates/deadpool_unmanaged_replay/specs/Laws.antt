@@ -7,6 +7,6 @@ use Rattle.deadpool_unmanaged_replay.specs.Pool.{Pool, size}
 abbrev pub HasRoom : {V : Type 0} → Pool V → Type 0
 HasRoom p = size p + length p.adds.granted ≤ p.limit
 
-pub record IsLawful {V : Type 0} (p : Pool V) : Type 0 where
+pub record PoolInvariant {V : Type 0} (p : Pool V) : Type 0 where
   pub nobody_waits : NobodyWaits p
   pub room : HasRoom p

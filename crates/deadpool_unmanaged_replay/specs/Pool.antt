@@ -1,6 +1,7 @@
 -- The state of an unmanaged pool, in lists. Every count is a length, but for the handles and the numbers that were
 -- drawn.
-use Rattle.std.specs.Prelude.{ℕ, ◌+◌, ◌-◌, Bool, true, List, [], length, Option}
+use Rattle.std.specs.Prelude.{ℕ, ◌+◌, ◌-◌, Bool, true, List, [], length, Option, unwrap_or}
+use Rattle.deadpool_gate.specs.Numbers.{largest_usize}
 use Rattle.std.specs.declared.time.Duration.{Duration}
 use Rattle.deadpool_parts.specs.declared.moment.Moment.{Moment}
 use Rattle.deadpool_parts.specs.declared.moment.Runtime.{Runtime}
@@ -24,6 +25,8 @@ pub record Pool (V : Type 0) : Type 0 where
   pub limit : ℕ
   pub is_open : Bool
   pub handles : ℕ
+  -- how many gets may wait, and how many adds
+  pub max_waiting : ℕ
   pub runtime : Option Runtime
   -- the number that the next object gets: so many were drawn
   pub next : ℕ
@@ -46,6 +49,7 @@ module _ {V : Type 0} where
         limit = limit;
         is_open = true;
         handles = 1;
+        max_waiting = largest_usize;
         runtime = runtime;
         next = 0;
         most_parties = most_parties;
@@ -55,6 +59,10 @@ module _ {V : Type 0} where
         gets = nobody;
         adds = nobody;
       }
+
+  -- with a bound on those that wait, or with none
+  abbrev pub bounded : Option ℕ → Pool V → Pool V
+  bounded most p = record p { max_waiting = unwrap_or most largest_usize }
 
   -- objects of the pool
   abbrev pub size : Pool V → ℕ

@@ -8,7 +8,7 @@ use Rattle.deadpool_gate.specs.Orders.{IsOnce, KeepsOrder}
 use Rattle.deadpool_parts.specs.Runs.{all_states, Each, Neighbours, Later}
 use Rattle.deadpool_parts.specs.declared.moment.Runtime.{Runtime}
 use Rattle.deadpool_gate.specs.Queue.{Queue, members}
-use Rattle.deadpool_unmanaged_replay.specs.Laws.{IsLawful}
+use Rattle.deadpool_unmanaged_replay.specs.Laws.{PoolInvariant}
 use Rattle.deadpool_unmanaged_replay.specs.Moves.{MakesMove, PoolRuns}
 use Rattle.deadpool_unmanaged_replay.specs.Pool.{Pool, Party, queued_get, new_add, queued_add, opened}
 use Rattle.deadpool_unmanaged_replay.specs.declared.moves.Item.{Item}
@@ -75,7 +75,7 @@ module _ {V : Type 0} where
   MarksQueued asks q parties = (n : ℕ) → has_number n (members q) ≡ asks (slice_get parties n)
 
   -- and nobody is there twice
-  pub record IsLined (asks : Option (Option (Party V)) → Bool) (q : Queue) (parties : List (Option (Party V))) :
+  pub record HasQueued (asks : Option (Option (Party V)) → Bool) (q : Queue) (parties : List (Option (Party V))) :
       Type 0 where
     pub once : IsOnce (members q)
     pub marks : MarksQueued asks q parties
@@ -106,13 +106,13 @@ module _ {V : Type 0} where
     pub adds : KeepsOrder (members p.adds) (members q.adds)
 
   -- what is true of every state of a run from a new pool
-  pub record IsWell (p : Pool V) : Type 0 where
-    pub lawful : IsLawful p
+  pub record RunInvariant (p : Pool V) : Type 0 where
+    pub lawful : PoolInvariant p
     pub numbered : IsNumbered p
     pub promises : KeepsPromises p
     pub closed : IsEmptyIfClosed p
-    pub gets : IsLined asks_for_object p.gets p.parties
-    pub adds : IsLined asks_for_room p.adds p.parties
+    pub gets : HasQueued asks_for_object p.gets p.parties
+    pub adds : HasQueued asks_for_room p.adds p.parties
 
   -- from one state to the next
   pub record Succeeds (p q : Pool V) : Type 0 where
@@ -173,29 +173,29 @@ module _ {V : Type 0} where
 
 -- a new pool is well
 abbrev pub OpensWell : Type 0 → Type 0
-OpensWell V = (limit : ℕ) (runtime : Option Runtime) (most : ℕ) → IsWell (opened {V = V} limit runtime most)
+OpensWell V = (limit : ℕ) (runtime : Option Runtime) (most : ℕ) → RunInvariant (opened {V = V} limit runtime most)
 
 -- P holds of every state of every run that begins well
 abbrev pub EachState : {V : Type 0} → (Pool V → Type 0) → Type 0
 EachState {V} P = (moves : List (Move V)) (p after : Pool V) (passed : List (List (Pool V))) (answers : List (Reply V))
-    → IsWell p → PoolRuns p moves passed answers after → Each P (all_states p passed)
+    → RunInvariant p → PoolRuns p moves passed answers after → Each P (all_states p passed)
 
 -- P holds of each two neighbours in every such run
 abbrev pub EachStep : {V : Type 0} → (Pool V → Pool V → Type 0) → Type 0
 EachStep {V} P = (moves : List (Move V)) (p after : Pool V) (passed : List (List (Pool V))) (answers : List (Reply V))
-    → IsWell p → PoolRuns p moves passed answers after → Neighbours P (all_states p passed)
+    → RunInvariant p → PoolRuns p moves passed answers after → Neighbours P (all_states p passed)
 
 -- P holds of each state of every such run and each later one
 abbrev pub EachLater : {V : Type 0} → (Pool V → Pool V → Type 0) → Type 0
 EachLater {V} P = (moves : List (Move V)) (p after : Pool V) (passed : List (List (Pool V))) (answers : List (Reply V))
-    → IsWell p → PoolRuns p moves passed answers after → Later P (all_states p passed)
+    → RunInvariant p → PoolRuns p moves passed answers after → Later P (all_states p passed)
 
 -- P holds of each move, a state that is well, and the one that the move leads to
 abbrev pub EachMove : {V : Type 0} → (Move V → Pool V → Pool V → Type 0) → Type 0
-EachMove {V} P = (m : Move V) (p : Pool V) (passed : List (Pool V)) (answer : Reply V) → IsWell p
+EachMove {V} P = (m : Move V) (p : Pool V) (passed : List (Pool V)) (answer : Reply V) → RunInvariant p
     → MakesMove p m passed answer → Neighbours (P m) (p ∷ passed)
 
 -- every such run ends well
 abbrev pub EndsWell : Type 0 → Type 0
 EndsWell V = (moves : List (Move V)) (p after : Pool V) (passed : List (List (Pool V))) (answers : List (Reply V))
-    → IsWell p → PoolRuns p moves passed answers after → IsWell after
+    → RunInvariant p → PoolRuns p moves passed answers after → RunInvariant after

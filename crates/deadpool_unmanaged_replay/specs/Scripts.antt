@@ -3,7 +3,8 @@ use Rattle.std.specs.Prelude.{[], ◌∷◌, Some, None, true, false, refl}
 use Rattle.deadpool_parts.specs.declared.moment.Runtime.TheVariants.{Clock}
 use Rattle.deadpool_unmanaged_replay.specs.Script.{Plays, ◌⇒◌, new_pool, get, poll, party, pending, added, failed}
 use Rattle.deadpool_unmanaged_replay.specs.Script.{refused, taken, ok, stands, object, plain}
-use Rattle.deadpool_unmanaged.specs.declared.error.PoolError.TheVariants.{Timeout, Closed, NoRuntimeSpecified}
+use Rattle.deadpool_unmanaged.specs.declared.error.PoolError.TheVariants.{Timeout, Closed, Crowded, NoRuntimeSpecified}
+use Rattle.deadpool_unmanaged_replay.specs.Pool.{bounded}
 use Rattle.deadpool_unmanaged_replay.specs.declared.moves.Move.TheVariants.{Add, TryGet, TryAdd, Cancel, Back, Take}
 use Rattle.deadpool_unmanaged_replay.specs.declared.moves.Move.TheVariants.{Close, Status, Clone, DropHandle, Upgrade}
 use Rattle.deadpool_unmanaged_replay.specs.declared.moves.Reply.TheVariants.{NoSuch, NoHandle, Cancelled, Kept, Dropped}
@@ -157,3 +158,56 @@ pub last-in-first-out : Plays (new_pool 2 None) (
     Back 0 ⇒ plain Kept ∷
     TryGet ⇒ object 0 1 ∷ [])
 last-in-first-out = refl
+
+-- One get may wait, and one add. The next is refused at once, and who does not wait is as ever.
+pub one-more-is-refused : Plays (bounded (Some 1) (new_pool 1 None)) (
+    get None ⇒ party 0 ∷
+    poll 0 0 ⇒ pending ∷
+    get None ⇒ party 1 ∷
+    poll 1 0 ⇒ failed Crowded ∷
+    TryGet ⇒ failed Timeout ∷
+    TryAdd 1 ⇒ added 0 ∷
+    get None ⇒ party 2 ∷
+    poll 2 0 ⇒ pending ∷
+    Add 2 ⇒ party 3 ∷
+    poll 3 0 ⇒ pending ∷
+    Add 3 ⇒ party 4 ∷
+    poll 4 0 ⇒ refused Crowded 3 ∷
+    TryAdd 4 ⇒ refused Timeout 4 ∷
+    poll 0 0 ⇒ object 0 1 ∷
+    Close ⇒ ok ∷
+    get None ⇒ party 5 ∷
+    poll 5 0 ⇒ failed Closed ∷ [])
+one-more-is-refused = refl
+
+-- The bound is of the gets and of the adds, each by itself. One that is cancelled makes room among its own.
+pub gets-and-adds-are-bounded-apart : Plays (bounded (Some 1) (new_pool 0 None)) (
+    get None ⇒ party 0 ∷
+    poll 0 0 ⇒ pending ∷
+    Add 1 ⇒ party 1 ∷
+    poll 1 0 ⇒ pending ∷
+    get None ⇒ party 2 ∷
+    poll 2 0 ⇒ failed Crowded ∷
+    Add 2 ⇒ party 3 ∷
+    poll 3 0 ⇒ refused Crowded 2 ∷
+    Cancel 0 ⇒ plain Cancelled ∷
+    Add 3 ⇒ party 4 ∷
+    poll 4 0 ⇒ refused Crowded 3 ∷
+    get None ⇒ party 5 ∷
+    poll 5 0 ⇒ pending ∷
+    Status ⇒ stands 0 0 0 1 ∷ [])
+gets-and-adds-are-bounded-apart = refl
+
+-- Where nobody may wait, one that finds what it asks for is served, and one that does not wait is refused as ever.
+pub nobody-may-wait : Plays (bounded (Some 0) (new_pool 1 None)) (
+    get None ⇒ party 0 ∷
+    poll 0 0 ⇒ failed Crowded ∷
+    get (Some 0) ⇒ party 1 ∷
+    poll 1 0 ⇒ failed Timeout ∷
+    Add 1 ⇒ party 2 ∷
+    poll 2 0 ⇒ added 0 ∷
+    Add 2 ⇒ party 3 ∷
+    poll 3 0 ⇒ refused Crowded 2 ∷
+    get None ⇒ party 4 ∷
+    poll 4 0 ⇒ object 0 1 ∷ [])
+nobody-may-wait = refl

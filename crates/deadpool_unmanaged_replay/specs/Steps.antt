@@ -1,6 +1,6 @@
 -- The steps of an unmanaged pool, before anybody is granted anything.
 use Rattle.std.specs.Prelude.{ℕ, ◌+◌, ◌-◌, min, Bool, false, not, ◌==◌, List, [], ◌∷◌, ◌++◌, Option, Some, None}
-use Rattle.std.specs.Prelude.{if◌then◌else◌, nat_lt, slice_set}
+use Rattle.std.specs.Prelude.{if◌then◌else◌, length, nat_le, nat_lt, slice_set}
 use Rattle.deadpool_parts.specs.Numbered.{with_numbered, find_numbered, without_numbered}
 use Rattle.std.specs.declared.time.Duration.{Duration}
 use Rattle.deadpool_parts.specs.Moments.{deadline_after, is_reached, cannot_wait}
@@ -11,7 +11,7 @@ use Rattle.deadpool_unmanaged.specs.State.{last_idle, other_idle}
 use Rattle.deadpool_unmanaged_replay.specs.Pool.{Pool, Party, new_get, queued_get, new_add, queued_add, finished}
 use Rattle.deadpool_unmanaged_replay.specs.Pool.{free_objects, free_room}
 use Rattle.deadpool_unmanaged.specs.declared.error.PoolError.TheVariants.{Timeout, Closed, NoRuntimeSpecified}
-use Rattle.deadpool_unmanaged.specs.declared.error.PoolError.TheVariants.{OutOfMemory}
+use Rattle.deadpool_unmanaged.specs.declared.error.PoolError.TheVariants.{Crowded, OutOfMemory}
 use Rattle.deadpool_unmanaged_replay.specs.declared.moves.Item.{Item}
 use Rattle.deadpool_unmanaged_replay.specs.declared.moves.Reply.{Reply}
 use Rattle.deadpool_unmanaged_replay.specs.declared.moves.Reply.TheVariants as reply
@@ -69,6 +69,7 @@ module _ {V : Type 0} where
       else if not p.is_open then (reply.Failed Closed, ended n p)
       else if nat_lt 0 (free_objects p) then hand_out (ended n p)
       else if is_reached deadline now then (reply.Failed Timeout, ended n p)
+      else if nat_le p.max_waiting (length p.gets.waiting) then (reply.Failed Crowded, ended n p)
       else if found then (reply.Pending, to n (queued_get deadline) (record p { gets = joined n p.gets }))
       else (reply.Failed OutOfMemory, ended n p)
 
@@ -85,6 +86,7 @@ module _ {V : Type 0} where
   enter_add found n item p =
       if not p.is_open then (reply.Refused Closed item.value, ended n p)
       else if nat_lt 0 (free_room p) then store item (ended n p)
+      else if nat_le p.max_waiting (length p.adds.waiting) then (reply.Refused Crowded item.value, ended n p)
       else if found then (reply.Pending, to n (queued_add item) (record p { adds = joined n p.adds }))
       else (reply.Refused OutOfMemory item.value, ended n p)
 

@@ -7,8 +7,8 @@ ghost use Rattle.deadpool_parts.specs.Runs.{all_states, Each};
 ghost use Rattle.deadpool_unmanaged.specs.StateSteps.{Does};
 ghost use Rattle.deadpool_unmanaged.specs.declared.step.Step.TheVariants.{Take};
 ghost use Rattle.deadpool_unmanaged_replay.specs.Moves.{Gives, PoolRuns, NobodyWaits, IsWithinLimit};
-ghost use Rattle.deadpool_unmanaged_replay.specs.Pool.{Pool, opened};
-ghost use Rattle.deadpool_unmanaged_replay.specs.RunLaws.{IsWell};
+ghost use Rattle.deadpool_unmanaged_replay.specs.Pool.{Pool, bounded, opened};
+ghost use Rattle.deadpool_unmanaged_replay.specs.RunLaws.{RunInvariant};
 ghost use Rattle.deadpool_unmanaged_replay.specs.Steps.{find_item};
 ghost use Rattle.deadpool_unmanaged_replay.specs.TrialFields.{PollsVisitor, PolledGet, PolledAdd, CancelsVisitor};
 ghost use Rattle.deadpool_unmanaged_replay.specs.TrialFields.{IsAtOnce, IsRefusal, IsKnown, given, refusal_of};
@@ -67,14 +67,14 @@ impl<T> Model for Trial<T> {
     ghost Value = { Pool T };
 
     ghost use Rattle.std.specs.Prelude.{◌≤◌, vec_len, vec_capacity};
-    ghost use Rattle.deadpool_unmanaged_replay.specs.Image.{image, IsCounted};
-    ghost use Rattle.deadpool_unmanaged_replay.specs.RunLaws.{IsWell};
+    ghost use Rattle.deadpool_unmanaged_replay.specs.Image.{image, TrialInvariant};
+    ghost use Rattle.deadpool_unmanaged_replay.specs.RunLaws.{RunInvariant};
 
     ghost view = { λ t. image t.runtime t.most_parties t.next t.core.pool t.visitors.items t.out.items };
 
     ghost invariant = { λ t. record {
-      counted : IsCounted t.core.pool t.visitors.items t.out.items;
-      well : IsWell (image t.runtime t.most_parties t.next t.core.pool t.visitors.items t.out.items);
+      counted : TrialInvariant t.core.pool t.visitors.items t.out.items;
+      well : RunInvariant (image t.runtime t.most_parties t.next t.core.pool t.visitors.items t.out.items);
       parties : vec_len t.visitors ≤ t.most_parties;
       places : t.most_parties ≤ vec_capacity t.visitors;
       out_room : t.core.pool.limit ≤ vec_capacity t.out;
@@ -102,9 +102,21 @@ impl<T: Drop> Trial<T> {
         })
     }
 
+    /// The pool with a bound on the gets that wait, and on the adds, or with none, before any waits.
+    pub fn bounded(self, max_waiting: Option<usize>) -> Self
+        requires gets { self.gets.waiting ≡ [] }
+        requires adds { self.adds.waiting ≡ [] }
+        ensures { result ≡ bounded max_waiting self }
+    {
+        Trial {
+            core: self.core.bounded(max_waiting),
+            ..self
+        }
+    }
+
     /// What is true of the pool of every trial. The call does nothing.
     pub fn laws(&self)
-        ensures { IsWell self.now }
+        ensures { RunInvariant self.now }
     {
         let _ = &self.core;
     }

@@ -1,5 +1,8 @@
 -- The unmanaged pool between threads and tasks: what a poll does under the pool's lock.
 pub mod Locked
+-- What a poll or a call is to its caller.
+pub mod Calling
+pub mod Asking
 -- What contracts of this crate cite of those below: states that are polled, and the steps of the pool.
 pub use Rattle.deadpool_unmanaged.specs.Gets
 pub use Rattle.deadpool_unmanaged.specs.Adds

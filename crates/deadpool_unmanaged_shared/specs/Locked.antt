@@ -4,7 +4,7 @@ use Rattle.std.specs.Option.{option_map_or}
 use Rattle.futures.specs.declared.task.Poll.{Poll}
 use Rattle.futures.specs.declared.task.Poll.TheVariants.{Ready}
 use Rattle.deadpool_lock.specs.Places.{waker_at}
-use Rattle.deadpool_gate.specs.Waking.{still_untold}
+use Rattle.deadpool_gate.specs.Waking.{still_unnotified}
 use Rattle.deadpool_parts.specs.declared.moment.Moment.{Moment}
 use Rattle.deadpool_parts.specs.declared.moment.Runtime.{Runtime}
 use Rattle.deadpool_unmanaged.specs.State.{State, due_get, due_add}
@@ -63,5 +63,5 @@ module _ {T : Type 0} where
   abbrev pub told : State T → State T
   told d =
       if is_some (due_get d)
-      then record d { untold_gets = still_untold (due_get d) d.untold_gets }
-      else record d { untold_adds = still_untold (due_add d) d.untold_adds }
+      then record d { unnotified_gets = still_unnotified (due_get d) d.unnotified_gets }
+      else record d { unnotified_adds = still_unnotified (due_add d) d.unnotified_adds }

@@ -1,209 +1,288 @@
 //! What the futures of a pool ask: an object, one that leaves for good, or room.
-ghost use Rattle.std.specs.Prelude.{◌≡◌, Some, Err, IfOk, IfErr};
-ghost use Rattle.deadpool_unmanaged.specs.Adds.{held_by};
+ghost use Rattle.std.specs.Prelude.{◌≡◌, Some, Err, IfOk, IfErr, IfSome};
+ghost use Rattle.deadpool_lock.specs.Asked.{IfRefused};
+ghost use Rattle.deadpool_unmanaged.specs.Adds.{held_by, IsUnpolled};
 ghost use Rattle.deadpool_unmanaged.specs.declared.error.PoolError.TheVariants.{OutOfMemory};
-ghost use Rattle.deadpool_unmanaged.specs.declared.get.GetStage.TheVariants as GetStage;
-ghost use Rattle.futures.specs.Task.{Keeps};
+ghost use Rattle.deadpool_unmanaged_shared.specs.Asking.{PollsAddFrom, PollsFrom, PollsToRemove};
+ghost use Rattle.deadpool_unmanaged_shared.specs.Asking.{adding, getting};
 
 use crate::object::Object;
 use crate::shared::Shared;
-use deadpool_lock::{Home, Listener, Request, wake_at};
-use deadpool_unmanaged::{AddState, Clock, GetState, PoolError};
+use deadpool_lock::{Home, Registration, Request, Stage, wake_at};
+use deadpool_unmanaged::{AddState, Clock, Core, GetState, PoolError};
+use deadpool_unmanaged_history::KeepsState;
 use futures::task::{Context, Poll};
+use std::marker::{Model, PhantomData};
 use std::sync::Wait;
 use std::time::Duration;
 
-/// A get that has not ended, with the pool's state for its object.
+/// What a get asks. Contracts see how far it is, and its caller.
 #[derive(Drop)]
-pub struct Getting<T: Drop, C: Clock, R: Wait + Drop> {
-    pub(crate) state: GetState,
-    pub(crate) home: Home<Shared<T, C, R>>,
+pub struct Getting<T: Drop, C: Clock, R: Wait + Drop, S: KeepsState<T> = Core<T>> {
+    state: GetState,
+    // From its first poll until its object has it.
+    caller: Option<S::Caller>,
     // While it waits with a deadline.
-    pub(crate) alarm: Option<C::Alarm>,
+    alarm: Option<C::Alarm>,
+    of: PhantomData<(T, R)>,
 }
 
-impl<T: Drop, C: Clock, R: Wait + Drop> Getting<T, C, R> {
-    // A get that was not polled yet, with what is shared for its object.
-    pub(crate) fn new(home: Home<Shared<T, C, R>>, timeout: Option<Duration>) -> Self
-        ensures state { result.state ≡ GetStage.Unpolled timeout }
-        ensures home { result.home ≡ home }
+impl<T: Drop, C: Clock, R: Wait + Drop, S: KeepsState<T>> Model for Getting<T, C, R, S> {
+    ghost use Rattle.deadpool_unmanaged_shared.specs.Asking.{Get};
+
+    ghost Value = { Get S.Caller };
+
+    ghost view = { λ g. record { stage = g.state; caller = g.caller } };
+}
+
+impl<T: Drop, C: Clock, R: Wait + Drop, S: KeepsState<T>> Getting<T, C, R, S> {
+    // A get that was not polled yet.
+    #[inline(always)]
+    pub(crate) fn new(timeout: Option<Duration>) -> Self
+        ensures { result ≡ getting timeout }
     {
         Getting {
             state: GetState::new(timeout),
-            home,
+            caller: None,
             alarm: None,
+            of: PhantomData,
         }
     }
+}
 
-    // One poll, which comes back if it is pending.
-    fn ask(
-        self,
-        shared: &Shared<T, C, R>,
-        listener: &mut Listener,
+impl<T: Drop, C: Clock, R: Wait + Drop, S: KeepsState<T>> Request for Getting<T, C, R, S> {
+    type Shared = Shared<T, C, R, S>;
+
+    // Its object goes back to the pool that was asked.
+    type Kept = Home<Shared<T, C, R, S>>;
+
+    type Output = Result<Object<T, C, R, S>, PoolError>;
+
+    ghost gives = { λ _ home ended. IfOk ended (λ object. object.home ≡ home) };
+
+    ghost refuses = { λ _ ended. ended ≡ Err OutOfMemory };
+
+    ghost polls = { λ shared get turn left. PollsFrom (λ object. object.value) (λ object. object.caller)
+        S.is_new S.calls shared.runtime get turn left };
+
+    #[inline(always)]
+    fn poll(
+        &mut self,
+        stage: &mut Stage<Home<Shared<T, C, R, S>>>,
+        shared: &Shared<T, C, R, S>,
+        registration: &mut Registration,
         cx: &mut Context<'_>,
-    ) -> Result<Self, Result<Object<T, C, R>, PoolError>>
-        ensures kept { Keeps cx.old cx.new }
-        ensures home { IfErr result (λ got. IfOk got (λ object. object.home ≡ self.home)) }
-        ensures waits { IfOk result (λ get. get.home ≡ self.home) }
-    {
-        let Getting {
-            mut state,
-            home,
-            mut alarm,
-        } = self;
+    ) -> Poll<Result<Object<T, C, R, S>, PoolError>> {
         let now = shared.clock.now();
         let mut step = shared.lock.begin();
-        let (polled, spare) = step
-            .kept()
-            .poll_get(&mut state, shared.runtime, now, listener.waker());
+        let mut caller = step.kept().supply(self.caller.take());
+        let (polled, spare) = step.kept().poll_get(
+            &mut caller,
+            &mut self.state,
+            shared.runtime,
+            now,
+            registration.waker(),
+        );
         shared.lock.end(step);
         drop(spare);
         match polled {
-            Poll::Ready(Ok(value)) => Err(Ok(Object { home, value })),
-            Poll::Ready(Err(cause)) => Err(Err(cause)),
+            Poll::Ready(Ok(value)) => Poll::Ready(Ok(Object {
+                home: stage.end(),
+                value,
+                caller,
+            })),
+            Poll::Ready(Err(cause)) => {
+                self.caller = Some(caller);
+                *stage = Stage::Ended;
+                Poll::Ready(Err(cause))
+            }
             Poll::Pending => {
-                wake_at(&shared.clock, state.deadline(), &mut alarm, cx);
-                Ok(Getting { state, home, alarm })
+                self.caller = Some(caller);
+                wake_at(&shared.clock, self.state.deadline(), &mut self.alarm, cx);
+                Poll::Pending
             }
         }
     }
 
-    fn give_up(self, shared: &Shared<T, C, R>) {
-        let Getting {
+    fn cancel(self, _home: Home<Shared<T, C, R, S>>, shared: &Shared<T, C, R, S>) {
+        let Self {
             state,
-            home: _,
+            caller,
             alarm: _,
+            of: _,
         } = self;
         let mut step = shared.lock.begin();
-        let spare = step.kept().cancel_get(state);
+        let mut caller = step.kept().supply(caller);
+        let spare = step.kept().cancel_get(&mut caller, state);
         shared.lock.end(step);
         drop(spare);
     }
-}
 
-impl<T: Drop, C: Clock, R: Wait + Drop> Request<Shared<T, C, R>> for Getting<T, C, R> {
-    type Output = Result<Object<T, C, R>, PoolError>;
-
-    type Refusal = ();
-
-    // Its object goes back to the pool that was asked.
-    ghost gives = { λ get ended. IfOk ended (λ object. object.home ≡ get.home) };
-
-    ghost refuses = { λ _ ended. ended ≡ Err OutOfMemory };
-
-    fn poll(
-        self,
-        shared: &Shared<T, C, R>,
-        listener: &mut Listener,
-        cx: &mut Context<'_>,
-    ) -> Result<Self, Result<Object<T, C, R>, PoolError>> {
-        self.ask(shared, listener, cx)
-    }
-
-    fn cancel(self, shared: &Shared<T, C, R>) {
-        self.give_up(shared);
-    }
-
-    fn refuse(_refusal: ()) -> Result<Object<T, C, R>, PoolError> {
+    fn refuse(&mut self) -> Result<Object<T, C, R, S>, PoolError> {
         Err(PoolError::OutOfMemory)
     }
+
+    fn leave(self) {}
 }
 
-/// A removal that has not ended: a get whose object leaves for good.
+/// What a removal asks: a get whose object leaves for good. Contracts see how far it is, and its caller.
 #[derive(Drop)]
-pub struct Removing<T: Drop, C: Clock, R: Wait + Drop> {
-    pub(crate) get: Getting<T, C, R>,
+pub struct Removing<T: Drop, C: Clock, R: Wait + Drop, S: KeepsState<T> = Core<T>> {
+    get: Getting<T, C, R, S>,
 }
 
-impl<T: Drop, C: Clock, R: Wait + Drop> Request<Shared<T, C, R>> for Removing<T, C, R> {
+impl<T: Drop, C: Clock, R: Wait + Drop, S: KeepsState<T>> Model for Removing<T, C, R, S> {
+    ghost use Rattle.deadpool_unmanaged_shared.specs.Asking.{Get};
+
+    ghost Value = { Get S.Caller };
+
+    ghost view = { λ r. r.get };
+}
+
+impl<T: Drop, C: Clock, R: Wait + Drop, S: KeepsState<T>> Removing<T, C, R, S> {
+    // A removal that was not polled yet.
+    #[inline(always)]
+    pub(crate) fn new(timeout: Option<Duration>) -> Self
+        ensures { result ≡ getting timeout }
+    {
+        Removing {
+            get: Getting::new(timeout),
+        }
+    }
+}
+
+impl<T: Drop, C: Clock, R: Wait + Drop, S: KeepsState<T>> Request for Removing<T, C, R, S> {
+    type Shared = Shared<T, C, R, S>;
+
+    type Kept = Home<Shared<T, C, R, S>>;
+
     type Output = Result<T, PoolError>;
 
-    type Refusal = ();
-
     ghost refuses = { λ _ ended. ended ≡ Err OutOfMemory };
 
+    ghost use Rattle.deadpool_unmanaged_shared.specs.declared.object.Object.{Object as Out};
+
+    ghost polls = { λ shared get turn left. PollsToRemove
+        (λ (o : Out T C R S C.Alarm S.Caller). o.value) (λ (o : Out T C R S C.Alarm S.Caller). o.caller)
+        S.is_new S.calls shared.runtime get turn left };
+
+    #[inline(always)]
     fn poll(
-        self,
-        shared: &Shared<T, C, R>,
-        listener: &mut Listener,
+        &mut self,
+        stage: &mut Stage<Home<Shared<T, C, R, S>>>,
+        shared: &Shared<T, C, R, S>,
+        registration: &mut Registration,
         cx: &mut Context<'_>,
-    ) -> Result<Self, Result<T, PoolError>> {
-        let Removing { get } = self;
-        match get.ask(shared, listener, cx) {
-            Ok(get) => Ok(Removing { get }),
-            Err(Ok(object)) => Err(Ok(Object::take(object))),
-            Err(Err(cause)) => Err(Err(cause)),
+    ) -> Poll<Result<T, PoolError>> {
+        match self.get.poll(stage, shared, registration, cx) {
+            Poll::Ready(Ok(object)) => {
+                let (value, caller) = Object::take_by(object);
+                self.get.caller = Some(caller);
+                Poll::Ready(Ok(value))
+            }
+            Poll::Ready(Err(cause)) => Poll::Ready(Err(cause)),
+            Poll::Pending => Poll::Pending,
         }
     }
 
-    fn cancel(self, shared: &Shared<T, C, R>) {
-        let Removing { get } = self;
-        get.give_up(shared);
+    fn cancel(self, home: Home<Shared<T, C, R, S>>, shared: &Shared<T, C, R, S>) {
+        let Self { get } = self;
+        get.cancel(home, shared);
     }
 
-    fn refuse(_refusal: ()) -> Result<T, PoolError> {
+    fn refuse(&mut self) -> Result<T, PoolError> {
         Err(PoolError::OutOfMemory)
     }
+
+    fn leave(self) {}
 }
 
-/// An add that has not ended, with its object.
+/// What an add asks, with its object. Contracts see how far it is, and its caller.
 #[derive(Drop)]
-pub struct Adding<T: Drop> {
-    pub(crate) state: AddState<T>,
+pub struct Adding<T: Drop, C: Clock, R: Wait + Drop, S: KeepsState<T> = Core<T>> {
+    state: AddState<T>,
+    // From its first poll on.
+    caller: Option<S::Caller>,
+    of: PhantomData<(C, R)>,
 }
 
-impl<T: Drop> Adding<T> {
-    // One poll, which comes back if it is pending. What is refused is the add's own object.
-    fn ask<C: Clock, R: Wait + Drop>(
-        self,
-        shared: &Shared<T, C, R>,
-        listener: &mut Listener,
-    ) -> Result<Self, Result<(), (T, PoolError)>>
-        ensures gives { IfErr result
-            (λ added. IfErr added (λ refused. held_by self.state ≡ Some refused.0)) }
-        ensures waits { IfOk result (λ add. held_by add.state ≡ held_by self.state) }
+impl<T: Drop, C: Clock, R: Wait + Drop, S: KeepsState<T>> Model for Adding<T, C, R, S> {
+    ghost use Rattle.deadpool_unmanaged_shared.specs.Asking.{Add};
+
+    ghost Value = { Add T S.Caller };
+
+    ghost view = { λ a. record { stage = a.state; caller = a.caller } };
+}
+
+impl<T: Drop, C: Clock, R: Wait + Drop, S: KeepsState<T>> Adding<T, C, R, S> {
+    // An add that was not polled yet.
+    #[inline(always)]
+    pub(crate) fn new(value: T) -> Self
+        ensures { result ≡ adding value }
     {
-        let Adding { mut state } = self;
-        let mut step = shared.lock.begin();
-        let (polled, spare) = step.kept().poll_add(&mut state, listener.waker());
-        shared.lock.end(step);
-        drop(spare);
-        match polled {
-            Poll::Ready(added) => Err(added),
-            Poll::Pending => Ok(Adding { state }),
+        Adding {
+            state: AddState::new(value),
+            caller: None,
+            of: PhantomData,
         }
     }
 }
 
-impl<T: Drop, C: Clock, R: Wait + Drop> Request<Shared<T, C, R>> for Adding<T> {
+impl<T: Drop, C: Clock, R: Wait + Drop, S: KeepsState<T>> Request for Adding<T, C, R, S> {
+    type Shared = Shared<T, C, R, S>;
+
+    type Kept = ();
+
     type Output = Result<(), (T, PoolError)>;
 
-    type Refusal = T;
+    // One that was refused was not polled.
+    ghost fits = { λ stage add. IfRefused stage (IsUnpolled add.stage) };
 
     // Where it is refused it hands its own object back.
-    ghost gives = { λ add ended. IfErr ended (λ refused. held_by add.state ≡ Some refused.0) };
+    ghost gives = { λ add _ ended. IfErr ended (λ refused. held_by add.stage ≡ Some refused.0) };
 
-    ghost refuses = { λ value ended. ended ≡ Err (value, OutOfMemory) };
+    ghost refuses = { λ add ended. IfSome (held_by add.stage) (λ value. ended ≡ Err (value, OutOfMemory)) };
+
+    ghost polls = { λ _ add turn left. PollsAddFrom S.is_new S.calls add turn left };
 
     fn poll(
-        self,
-        shared: &Shared<T, C, R>,
-        listener: &mut Listener,
+        &mut self,
+        stage: &mut Stage<()>,
+        shared: &Shared<T, C, R, S>,
+        registration: &mut Registration,
         _cx: &mut Context<'_>,
-    ) -> Result<Self, Result<(), (T, PoolError)>> {
-        self.ask(shared, listener)
+    ) -> Poll<Result<(), (T, PoolError)>> {
+        let mut step = shared.lock.begin();
+        let mut caller = step.kept().supply(self.caller.take());
+        let (polled, spare) = step
+            .kept()
+            .poll_add(&mut caller, &mut self.state, registration.waker());
+        shared.lock.end(step);
+        self.caller = Some(caller);
+        drop(spare);
+        if polled.is_ready() {
+            *stage = Stage::Ended;
+        }
+        polled
     }
 
-    fn cancel(self, shared: &Shared<T, C, R>) {
-        let Adding { state } = self;
+    fn cancel(self, _kept: (), shared: &Shared<T, C, R, S>) {
+        let Self {
+            state,
+            caller,
+            of: _,
+        } = self;
         let mut step = shared.lock.begin();
-        let (value, spare) = step.kept().cancel_add(state);
+        let mut caller = step.kept().supply(caller);
+        let (value, spare) = step.kept().cancel_add(&mut caller, state);
         shared.lock.end(step);
         drop(spare);
         drop(value);
     }
 
-    fn refuse(refusal: T) -> Result<(), (T, PoolError)> {
-        Err((refusal, PoolError::OutOfMemory))
+    fn refuse(&mut self) -> Result<(), (T, PoolError)> {
+        Err((self.state.withdraw(), PoolError::OutOfMemory))
     }
+
+    fn leave(self) {}
 }

@@ -5,6 +5,7 @@ mod asking;
 mod locked;
 mod object;
 mod pool;
+mod recorded;
 mod shared;
 
 pub use asking::{Adding, Getting, Removing};

@@ -1,40 +1,77 @@
 //! What the lock of a pool keeps.
 ghost use Rattle.std.specs.Prelude.{◌≡◌, ◌⊎◌, not, [], Some, None, IfSome, IsSome};
+ghost use Rattle.std.specs.Option.{option_or};
 ghost use Rattle.deadpool_lock.specs.Places.{Follows, waker_at};
 ghost use Rattle.deadpool_unmanaged.specs.Adds as adds;
 ghost use Rattle.deadpool_unmanaged.specs.Gets as gets;
-ghost use Rattle.deadpool_unmanaged.specs.State.{has_due, status_of};
-ghost use Rattle.deadpool_unmanaged.specs.StateSteps.{Does, Clones, DropsHandle, closed_pool};
+ghost use Rattle.deadpool_unmanaged.specs.State.{has_due};
+ghost use Rattle.deadpool_unmanaged.specs.StateSteps.{Does};
 ghost use Rattle.deadpool_unmanaged.specs.Replies.{Leaves};
 ghost use Rattle.deadpool_unmanaged.specs.declared.step.Step.TheVariants.{Back, Take};
+ghost use Rattle.deadpool_unmanaged_history.specs.Polls.{CancelsAdd, CancelsGet};
+ghost use Rattle.deadpool_unmanaged_journal.specs.OwnerSteps.{DoesForOwner, IsOwnerReplyTo};
+ghost use Rattle.deadpool_unmanaged_journal.specs.declared.entry.Entry.TheVariants as entry;
+ghost use Rattle.deadpool_unmanaged_shared.specs.Calling.{CallsOrRefusesAdd, CallsOrRefusesGet, IsSupplied};
+ghost use Rattle.deadpool_unmanaged_shared.specs.Calling.{CallsTryAdd, CallsTryGet};
 ghost use Rattle.deadpool_unmanaged_shared.specs.Locked.{PollsGet, PollsAdd, TriesGet, TriesAdd, next_waker, told};
 
 use deadpool_lock::{Wakers, Wakes};
-use deadpool_unmanaged::{
-    AddState, Core, GetState, HandleReply, Moment, PoolError, Reply, Runtime, Status, Step,
-};
+use deadpool_unmanaged::{AddState, GetState, Moment, PoolError, Reply, Runtime, Step};
+use deadpool_unmanaged_history::KeepsState;
+use deadpool_unmanaged_journal::{OwnerReply, OwnerStep};
 use futures::task::{Poll, Waker};
 use std::alloc::Global;
+use std::marker::PhantomData;
 
-/// A pool's state between two steps, with the wakers of those in its queues.
+/// A pool's state between two steps, the first caller, which lets the others in, and the wakers of those in its queues.
 #[derive(Drop)]
-pub struct Locked<T> {
-    core: Core<T>,
+pub struct Locked<T: Drop, S: KeepsState<T>> {
+    pub(crate) state: S,
+    first: S::Caller,
     gets: Wakers,
     adds: Wakers,
+    of: PhantomData<T>,
 }
 
-impl<T: Drop> Locked<T> {
+impl<T: Drop, S: KeepsState<T>> Locked<T, S> {
     /// With no waker.
-    pub fn new(alloc: Global, core: Core<T>) -> Locked<T>
-        ensures core { result.core ≡ core }
+    pub fn new(alloc: Global, state: S, first: S::Caller) -> Self
+        ensures state { result.state ≡ state }
+        ensures first { result.first ≡ first }
         ensures gets { result.gets ≡ [] }
         ensures adds { result.adds ≡ [] }
     {
         Locked {
-            core,
+            state,
+            first,
             gets: Wakers::new(alloc),
             adds: Wakers::new(alloc),
+            of: PhantomData,
+        }
+    }
+
+    /// A caller that has made no step yet. It is no step.
+    pub fn admit(&mut self) -> S::Caller
+        ensures caller { S.is_new result }
+        ensures same { S.state_of self.new.state ≡ S.state_of self.old.state }
+        ensures gets { self.new.gets ≡ self.old.gets }
+        ensures adds { self.new.adds ≡ self.old.adds }
+    {
+        let Locked { state, first, .. } = self;
+        state.admit(first)
+    }
+
+    /// The caller that there is, or a new one. It is no step.
+    #[inline(always)]
+    pub fn supply(&mut self, caller: Option<S::Caller>) -> S::Caller
+        ensures caller { IsSupplied S.is_new caller result }
+        ensures same { S.state_of self.new.state ≡ S.state_of self.old.state }
+        ensures gets { self.new.gets ≡ self.old.gets }
+        ensures adds { self.new.adds ≡ self.old.adds }
+    {
+        match caller {
+            Some(caller) => caller,
+            None => self.admit(),
         }
     }
 
@@ -42,39 +79,44 @@ impl<T: Drop> Locked<T> {
     /// kept. If it would join the queue and there is no memory for its waker, no step is made and it has ended.
     pub fn poll_get(
         &mut self,
-        state: &mut GetState,
+        caller: &mut S::Caller,
+        get: &mut GetState,
         runtime: Option<Runtime>,
         now: Moment,
         waker: &mut Option<Waker>,
     ) -> (Poll<Result<T, PoolError>>, Option<Waker>)
-        ensures polls { PollsGet runtime
-            now state.old self.old.core.pool result.0 state.new self.new.core.pool }
-        ensures waits { IfSome (gets.ticket_of state.new)
+        ensures polls { PollsGet runtime now get.old (S.state_of self.old.state).pool result.0
+            get.new (S.state_of self.new.state).pool }
+        ensures waits { IfSome (gets.ticket_of get.new)
             (λ ticket. (waker_at ticket self.new.gets ≡ waker.old) ⊎ (result.1 ≡ waker.old)) }
         ensures others { self.new.adds ≡ self.old.adds }
+        ensures call { CallsOrRefusesGet S.calls runtime now get.old result.0 get.new
+            caller.old caller.new }
     {
-        let Locked { core, gets, .. } = self;
-        let would_queue = state.would_queue(core, runtime, now);
-        if would_queue && gets.make_room(core.next_get()).is_err() {
-            drop(state.take());
+        let Locked { state, gets, .. } = self;
+        let would_queue = state.get_joins(get, runtime, now);
+        if would_queue && gets.make_room(state.next_get()).is_err() {
+            drop(get.take());
             return (Poll::Ready(Err(PoolError::OutOfMemory)), None);
         }
-        let before = state.ticket();
-        let polled = state.poll(core, runtime, now);
-        (polled, gets.follow(before, state.ticket(), waker))
+        let before = get.ticket();
+        let polled = state.poll_get(caller, get, runtime, now);
+        (polled, gets.follow(before, get.ticket(), waker))
     }
 
     /// A get is given up. The answer is the waker that was kept for it.
-    pub fn cancel_get(&mut self, state: GetState) -> Option<Waker>
-        ensures cancels { gets.CancelsGet state self.old.core.pool self.new.core.pool }
-        ensures waker { Follows (gets.ticket_of state)
+    pub fn cancel_get(&mut self, caller: &mut S::Caller, get: GetState) -> Option<Waker>
+        ensures cancels { gets.CancelsGet get (S.state_of self.old.state).pool
+            (S.state_of self.new.state).pool }
+        ensures waker { Follows (gets.ticket_of get)
             None self.old.gets None result self.new.gets None }
         ensures others { self.new.adds ≡ self.old.adds }
+        ensures call { CancelsGet S.calls get caller.old caller.new }
     {
-        let Locked { core, gets, .. } = self;
+        let Locked { state, gets, .. } = self;
         let mut none = None;
-        let spare = gets.follow(state.ticket(), None, &mut none);
-        state.cancel(core);
+        let spare = gets.follow(get.ticket(), None, &mut none);
+        state.cancel_get(caller, get);
         spare
     }
 
@@ -83,48 +125,61 @@ impl<T: Drop> Locked<T> {
     /// back.
     pub fn poll_add(
         &mut self,
-        state: &mut AddState<T>,
+        caller: &mut S::Caller,
+        add: &mut AddState<T>,
         waker: &mut Option<Waker>,
     ) -> (Poll<Result<(), (T, PoolError)>>, Option<Waker>)
-        ensures polls { PollsAdd state.old
-            self.old.core.pool result.0 state.new self.new.core.pool }
-        ensures waits { IfSome (adds.ticket_of state.new)
+        ensures polls { PollsAdd add.old (S.state_of self.old.state).pool result.0
+            add.new (S.state_of self.new.state).pool }
+        ensures waits { IfSome (adds.ticket_of add.new)
             (λ ticket. (waker_at ticket self.new.adds ≡ waker.old) ⊎ (result.1 ≡ waker.old)) }
         ensures others { self.new.gets ≡ self.old.gets }
+        ensures call { CallsOrRefusesAdd S.calls add.old result.0 add.new caller.old caller.new }
     {
-        let Locked { core, adds, .. } = self;
-        let would_queue = state.would_queue(core);
-        if would_queue && adds.make_room(core.next_add()).is_err() {
-            return match state.take().cancel(core) {
-                Some(value) => (Poll::Ready(Err((value, PoolError::OutOfMemory))), None),
+        let Locked { state, adds, .. } = self;
+        let would_queue = state.add_joins(add);
+        if would_queue && adds.make_room(state.next_add()).is_err() {
+            return match add.take().begin() {
+                Some((_, value)) => (Poll::Ready(Err((value, PoolError::OutOfMemory))), None),
                 None => unreachable!(),
             };
         }
-        let before = state.ticket();
-        let polled = state.poll(core);
-        (polled, adds.follow(before, state.ticket(), waker))
+        let before = add.ticket();
+        let polled = state.poll_add(caller, add);
+        (polled, adds.follow(before, add.ticket(), waker))
     }
 
     /// An add is given up. The answer is its object, and the waker that was kept for it.
-    pub fn cancel_add(&mut self, state: AddState<T>) -> (Option<T>, Option<Waker>)
-        ensures cancels { adds.CancelsAdd state self.old.core.pool self.new.core.pool }
-        ensures value { result.0 ≡ adds.held_by state }
-        ensures waker { Follows (adds.ticket_of state)
+    pub fn cancel_add(
+        &mut self,
+        caller: &mut S::Caller,
+        add: AddState<T>,
+    ) -> (Option<T>, Option<Waker>)
+        ensures cancels { adds.CancelsAdd add (S.state_of self.old.state).pool
+            (S.state_of self.new.state).pool }
+        ensures value { result.0 ≡ adds.held_by add }
+        ensures waker { Follows (adds.ticket_of add)
             None self.old.adds None result.1 self.new.adds None }
         ensures others { self.new.gets ≡ self.old.gets }
+        ensures call { CancelsAdd S.calls add caller.old caller.new }
     {
-        let Locked { core, adds, .. } = self;
+        let Locked { state, adds, .. } = self;
         let mut none = None;
-        let spare = adds.follow(state.ticket(), None, &mut none);
-        (state.cancel(core), spare)
+        let spare = adds.follow(add.ticket(), None, &mut none);
+        (state.cancel_add(caller, add), spare)
     }
 
     /// An object at once, if one is free.
-    pub fn try_get(&mut self) -> Result<T, PoolError>
-        ensures { TriesGet self.old.core.pool result self.new.core.pool }
+    pub fn try_get(&mut self, caller: &mut S::Caller) -> Result<T, PoolError>
+        ensures tries { TriesGet (S.state_of self.old.state).pool result
+            (S.state_of self.new.state).pool }
+        ensures call { CallsTryGet S.calls result caller.old caller.new }
     {
         let mut hand = None;
-        match self.core.make(&Step::GetEnter { wait: false }, &mut hand) {
+        match self
+            .state
+            .make(caller, &Step::GetEnter { wait: false }, &mut hand)
+        {
             Reply::Object | Reply::Closed => hand.ok_or(PoolError::Closed),
             Reply::Full => Err(PoolError::Timeout),
             _ => unreachable!(),
@@ -132,11 +187,15 @@ impl<T: Drop> Locked<T> {
     }
 
     /// An object joins at once, if there is room. Otherwise it comes back.
-    pub fn try_add(&mut self, value: T) -> Result<(), (T, PoolError)>
-        ensures { TriesAdd self.old.core.pool value result self.new.core.pool }
+    pub fn try_add(&mut self, caller: &mut S::Caller, value: T) -> Result<(), (T, PoolError)>
+        ensures tries { TriesAdd (S.state_of self.old.state).pool value result
+            (S.state_of self.new.state).pool }
+        ensures call { CallsTryAdd S.calls value result caller.old caller.new }
     {
         let mut hand = Some(value);
-        let reply = self.core.make(&Step::AddEnter { wait: false }, &mut hand);
+        let reply = self
+            .state
+            .make(caller, &Step::AddEnter { wait: false }, &mut hand);
         let Some(value) = hand else {
             return Ok(());
         };
@@ -148,72 +207,62 @@ impl<T: Drop> Locked<T> {
     }
 
     /// The object in the hand comes back. It stays there if the pool has no use for it.
-    pub fn back(&mut self, hand: &mut Option<T>) -> Reply
+    pub fn back(&mut self, caller: &mut S::Caller, hand: &mut Option<T>) -> Reply
         requires { IsSome hand.old }
-        ensures back { Does self.old.core.pool Back hand.old result self.new.core.pool }
+        ensures back { Does (S.state_of self.old.state).pool Back hand.old result
+            (S.state_of self.new.state).pool }
         ensures hand { Leaves result hand.old hand.new }
+        ensures call { S.calls (entry.Made Back hand.old result) caller.old caller.new }
     {
-        self.core.make(&Step::Back, hand)
+        self.state.make(caller, &Step::Back, hand)
     }
 
     /// An object that is out leaves for good.
-    pub fn take(&mut self) -> Reply
-        ensures { Does self.old.core.pool Take None result self.new.core.pool }
+    pub fn take(&mut self, caller: &mut S::Caller) -> Reply
+        ensures take { Does (S.state_of self.old.state).pool Take None result
+            (S.state_of self.new.state).pool }
+        ensures call { S.calls (entry.Made Take None result) caller.old caller.new }
     {
-        self.core.make(&Step::Take, &mut None)
+        self.state.make(caller, &Step::Take, &mut None)
     }
 
-    /// The pool closes for good.
-    pub fn close(&mut self)
-        ensures { self.new.core.pool ≡ closed_pool self.old.core.pool }
+    /// Makes a step of the pool's owner, and gives the reply.
+    #[inline(always)]
+    pub fn make_for_owner(&mut self, caller: &mut S::Caller, step: &OwnerStep) -> OwnerReply
+        ensures made { DoesForOwner (S.state_of self.old.state).pool step.now result
+            (S.state_of self.new.state).pool }
+        ensures fits { IsOwnerReplyTo step.now result }
+        ensures gets { self.new.gets ≡ self.old.gets }
+        ensures adds { self.new.adds ≡ self.old.adds }
+        ensures call { S.calls (entry.Owner step.now result) caller.old caller.new }
     {
-        self.core.close();
+        self.state.make_for_owner(caller, step)
     }
 
-    /// How the pool stands.
-    pub fn status(&self) -> Status
-        ensures { result ≡ status_of self.now.core.pool }
-    {
-        self.core.status()
-    }
-
-    /// Whether the pool was closed.
+    /// Whether the pool was closed. It is no step.
     pub fn is_closed(&self) -> bool
-        ensures { result ≡ not self.now.core.pool.is_open }
+        ensures { result ≡ not (S.state_of self.now.state).pool.is_open }
     {
-        self.core.is_closed()
-    }
-
-    /// There is one handle more.
-    pub fn clone_handle(&mut self) -> HandleReply
-        ensures { Clones self.old.core.pool result self.new.core.pool }
-    {
-        self.core.clone_handle()
-    }
-
-    /// There is one handle less.
-    pub fn drop_handle(&mut self) -> HandleReply
-        ensures { DropsHandle self.old.core.pool result self.new.core.pool }
-    {
-        self.core.drop_handle()
+        self.state.is_closed()
     }
 }
 
-impl<T: Drop> Wakes for Locked<T> {
+impl<T: Drop, S: KeepsState<T>> Wakes for Locked<T, S> {
     fn is_wake_due(&self) -> bool
-        ensures { result ≡ has_due self.now.core.pool }
+        ensures { result ≡ has_due (S.state_of self.now.state).pool }
     {
-        self.core.is_wake_due()
+        self.state.is_wake_due()
     }
 
     fn take_wake(&mut self) -> Option<Waker>
-        ensures waker { result ≡ next_waker self.old.core.pool self.old.gets self.old.adds }
-        ensures told { self.new.core.pool ≡ told self.old.core.pool }
+        ensures waker { result
+            ≡ next_waker (S.state_of self.old.state).pool self.old.gets self.old.adds }
+        ensures told { (S.state_of self.new.state).pool ≡ told (S.state_of self.old.state).pool }
     {
-        if let Some(ticket) = self.core.take_get_wake() {
+        if let Some(ticket) = self.state.take_get_wake() {
             return self.gets.take(ticket);
         }
-        match self.core.take_add_wake() {
+        match self.state.take_add_wake() {
             Some(ticket) => self.adds.take(ticket),
             None => None,
         }

@@ -1,47 +1,64 @@
 //! The handles of a pool.
-ghost use Rattle.std.specs.Prelude.{◌≡◌, ◌⊎◌, Some, None, IsSome, IsSomeAnd, IfSome, IfOk, IfErr};
-ghost use Rattle.deadpool_unmanaged.specs.declared.add.AddStage.TheVariants as AddStage;
-ghost use Rattle.deadpool_unmanaged.specs.declared.get.GetStage.TheVariants as GetStage;
+ghost use Rattle.std.specs.Prelude.{◌≡◌, ◌⊎◌, None, Err, IfOk, IfErr};
+ghost use Rattle.deadpool_parts.specs.Result.{result_map};
+ghost use Rattle.deadpool_unmanaged.specs.declared.error.PoolError.TheVariants.{OutOfMemory};
+ghost use Rattle.deadpool_lock.specs.Asked.{Asks, BorrowingAsks, OwnAsks};
+ghost use Rattle.deadpool_unmanaged_journal.specs.declared.entry.Entry.TheVariants as entry;
+ghost use Rattle.deadpool_unmanaged_journal.specs.declared.owner_step.OwnerReply.TheVariants as reply;
+ghost use Rattle.deadpool_unmanaged_journal.specs.declared.owner_step.OwnerStep.TheVariants as step;
+ghost use Rattle.deadpool_unmanaged_shared.specs.Asking.{adding, getting};
+ghost use Rattle.deadpool_unmanaged_shared.specs.Calling.{CallsTryAdd, CallsTryGet};
 
 use crate::asking::{Adding, Getting, Removing};
 use crate::object::Object;
 use crate::shared::Shared;
-use deadpool_lock::{Handle, RequestFuture, RequestRef};
-use deadpool_unmanaged::{AddState, Clock, Core, PoolConfig, PoolError, Status};
+use deadpool_lock::{Borrowed, Handle, Home, Owned};
+use deadpool_unmanaged::{Clock, Core, PoolConfig, PoolError, Status};
+use deadpool_unmanaged_history::KeepsState;
+use deadpool_unmanaged_journal::{OwnerReply, OwnerStep};
 use std::alloc::{AllocError, Global};
+use std::marker::Model;
 use std::sync::Wait;
 use std::time::Duration;
 
 /// A get as a future. Dropping it gives back what it was granted.
-pub type Get<T, C, R> = RequestFuture<Getting<T, C, R>, Shared<T, C, R>>;
+pub type Get<T, C, R, S = Core<T>> = Owned<Getting<T, C, R, S>>;
 
 /// A get as a future that borrows a handle of its pool, and is none itself. Dropping it gives back what it was granted.
-pub type GetRef<'a, T, C, R> = RequestRef<'a, Getting<T, C, R>, Shared<T, C, R>>;
+pub type GetRef<'a, T, C, R, S = Core<T>> = Borrowed<'a, Getting<T, C, R, S>>;
 
 /// A get as a future, whose object leaves the pool for good.
-pub type Remove<T, C, R> = RequestFuture<Removing<T, C, R>, Shared<T, C, R>>;
+pub type Remove<T, C, R, S = Core<T>> = Owned<Removing<T, C, R, S>>;
 
 /// An add as a future. Dropping it drops its object, and gives back the room that it was granted.
-pub type Add<T, C, R> = RequestFuture<Adding<T>, Shared<T, C, R>>;
+pub type Add<T, C, R, S = Core<T>> = Owned<Adding<T, C, R, S>>;
 
 /// An add as a future that borrows a handle of its pool, and is none itself. Dropping it is as for an `Add`.
-pub type AddRef<'a, T, C, R> = RequestRef<'a, Adding<T>, Shared<T, C, R>>;
+pub type AddRef<'a, T, C, R, S = Core<T>> = Borrowed<'a, Adding<T, C, R, S>>;
 
 /// A handle of a pool whose objects are those that its users add. The last handle that is dropped takes the idle
 /// objects with it. Each future holds a handle of its own, but for those that borrow one.
 ///
-/// `C` tells the time, and with `R` the lock is taken.
+/// `C` tells the time, and with `R` the lock is taken. Contracts see what its handles share.
 #[derive(Drop)]
-pub struct Pool<T: Drop, C: Clock, R: Wait + Drop> {
-    inner: Handle<Shared<T, C, R>>,
+pub struct Pool<T: Drop, C: Clock, R: Wait + Drop, S: KeepsState<T> = Core<T>> {
+    inner: Handle<Shared<T, C, R, S>>,
+}
+
+impl<T: Drop, C: Clock, R: Wait + Drop, S: KeepsState<T>> Model for Pool<T, C, R, S> {
+    ghost use Rattle.deadpool_unmanaged_shared.specs.declared.shared.Shared.{Shared as AllShare};
+
+    ghost Value = { AllShare T C R S C.Alarm S.Caller };
+
+    ghost view = { λ p. p.inner };
 }
 
 impl<T: Drop + Send, C: Clock + Send + Sync, R: Wait + Drop + Send + Sync> Pool<T, C, R> {
     /// An open pool with nothing in it and room for `max_size` objects, whose gets wait without an end.
     pub fn new(alloc: Global, max_size: usize, clock: C, rt: R) -> Result<Self, AllocError>
-        ensures timeout { IfOk result (λ pool. pool.inner.timeout ≡ None) }
-        ensures runtime { IfOk result (λ pool. pool.inner.runtime ≡ None) }
-        ensures clock { IfOk result (λ pool. pool.inner.clock ≡ clock) }
+        ensures timeout { IfOk result (λ pool. pool.timeout ≡ None) }
+        ensures runtime { IfOk result (λ pool. pool.runtime ≡ None) }
+        ensures clock { IfOk result (λ pool. pool.clock ≡ clock) }
     {
         Pool::from_config(alloc, &PoolConfig::new(max_size), clock, rt)
     }
@@ -53,19 +70,19 @@ impl<T: Drop + Send, C: Clock + Send + Sync, R: Wait + Drop + Send + Sync> Pool<
         clock: C,
         rt: R,
     ) -> Result<Self, AllocError>
-        ensures timeout { IfOk result (λ pool. pool.inner.timeout ≡ config.now.timeout) }
-        ensures runtime { IfOk result (λ pool. pool.inner.runtime ≡ config.now.runtime) }
-        ensures clock { IfOk result (λ pool. pool.inner.clock ≡ clock) }
+        ensures timeout { IfOk result (λ pool. pool.timeout ≡ config.now.timeout) }
+        ensures runtime { IfOk result (λ pool. pool.runtime ≡ config.now.runtime) }
+        ensures clock { IfOk result (λ pool. pool.clock ≡ clock) }
     {
-        let core = Core::new(alloc, config.max_size)?;
-        Pool::open(alloc, core, config, clock, rt)
+        let core = Core::new(alloc, config.max_size)?.bounded(config.max_waiting);
+        Pool::open(alloc, core, (), config, clock, rt)
     }
 
     /// An open pool with nothing in it, for a machine with `count` processors: with room for twice as many objects.
     pub fn with_processors(alloc: Global, count: usize, clock: C, rt: R) -> Result<Self, AllocError>
-        ensures timeout { IfOk result (λ pool. pool.inner.timeout ≡ None) }
-        ensures runtime { IfOk result (λ pool. pool.inner.runtime ≡ None) }
-        ensures clock { IfOk result (λ pool. pool.inner.clock ≡ clock) }
+        ensures timeout { IfOk result (λ pool. pool.timeout ≡ None) }
+        ensures runtime { IfOk result (λ pool. pool.runtime ≡ None) }
+        ensures clock { IfOk result (λ pool. pool.clock ≡ clock) }
     {
         Pool::from_config(alloc, &PoolConfig::with_processors(count), clock, rt)
     }
@@ -78,153 +95,153 @@ impl<T: Drop + Send, C: Clock + Send + Sync, R: Wait + Drop + Send + Sync> Pool<
         rt: R,
     ) -> Result<Self, AllocError>
         requires { I.can_next items }
-        ensures timeout { IfOk result (λ pool. pool.inner.timeout ≡ None) }
-        ensures runtime { IfOk result (λ pool. pool.inner.runtime ≡ None) }
-        ensures clock { IfOk result (λ pool. pool.inner.clock ≡ clock) }
+        ensures timeout { IfOk result (λ pool. pool.timeout ≡ None) }
+        ensures runtime { IfOk result (λ pool. pool.runtime ≡ None) }
+        ensures clock { IfOk result (λ pool. pool.clock ≡ clock) }
     {
         let mut idle = Vec::with_capacity(alloc, items.len())?;
         for item in items {
             idle.push(item)?;
         }
         let config = PoolConfig::new(idle.len());
-        Pool::open(alloc, Core::from_items(alloc, idle), &config, clock, rt)
+        Pool::open(alloc, Core::from_items(alloc, idle), (), &config, clock, rt)
     }
+}
 
-    fn open(
+impl<T: Drop, C: Clock, R: Wait + Drop, S: KeepsState<T>> Pool<T, C, R, S> {
+    // The first handle of a pool of this state, with its first caller.
+    pub(crate) fn open(
         alloc: Global,
-        core: Core<T>,
+        state: S,
+        first: S::Caller,
         config: &PoolConfig,
         clock: C,
         rt: R,
     ) -> Result<Self, AllocError>
-        ensures timeout { IfOk result (λ pool. pool.inner.timeout ≡ config.now.timeout) }
-        ensures runtime { IfOk result (λ pool. pool.inner.runtime ≡ config.now.runtime) }
-        ensures clock { IfOk result (λ pool. pool.inner.clock ≡ clock) }
+        ensures timeout { IfOk result (λ pool. pool.timeout ≡ config.now.timeout) }
+        ensures runtime { IfOk result (λ pool. pool.runtime ≡ config.now.runtime) }
+        ensures clock { IfOk result (λ pool. pool.clock ≡ clock) }
     {
-        let shared = Shared::new(alloc, core, config, clock, rt);
+        let shared = Shared::new(alloc, state, first, config, clock, rt);
         Ok(Pool {
             inner: Handle::new(alloc, shared)?,
         })
     }
-}
 
-impl<T: Drop, C: Clock, R: Wait + Drop> Pool<T, C, R> {
-    /// A get that waits as long as the configuration says.
-    pub fn get(&self) -> Get<T, C, R>
-        ensures asks { IfSome result.request
-            (λ get. get.state ≡ GetStage.Unpolled self.now.inner.timeout) }
-        ensures home { IfSome result.request (λ get. get.home ≡ self.now.inner) }
-        ensures begun { (IsSome result.handle × IsSome result.request) ⊎ IsSome result.refusal }
-        ensures handle { IfSome result.handle (λ shared. shared ≡ self.now.inner) }
+    // What it shares with the others.
+    pub(crate) fn shared(&self) -> &Shared<T, C, R, S>
+        ensures { result.now ≡ self.now }
     {
-        self.timeout_get(self.inner.shared().timeout)
+        self.inner.shared()
+    }
+
+    /// A get that waits as long as the configuration says.
+    pub fn get(&self) -> Get<T, C, R, S>
+        ensures { OwnAsks self.now self.now (getting self.now.timeout) result }
+    {
+        self.timeout_get(self.shared().timeout)
     }
 
     /// A get that may wait so long; none set is without an end. A wait of zero tries once. The get takes a handle now;
     /// if that finds no memory, its first poll answers `OutOfMemory`.
-    pub fn timeout_get(&self, timeout: Option<Duration>) -> Get<T, C, R>
-        ensures asks { IfSome result.request (λ get. get.state ≡ GetStage.Unpolled timeout) }
-        ensures home { IfSome result.request (λ get. get.home ≡ self.now.inner) }
-        ensures begun { (IsSome result.handle × IsSome result.request) ⊎ IsSome result.refusal }
-        ensures handle { IfSome result.handle (λ shared. shared ≡ self.now.inner) }
+    pub fn timeout_get(&self, timeout: Option<Duration>) -> Get<T, C, R, S>
+        ensures { OwnAsks self.now self.now (getting timeout) result }
     {
-        match self.getting(timeout) {
-            Ok((handle, get)) => RequestFuture::new(handle, get),
-            Err(AllocError) => RequestFuture::refused(()),
-        }
+        Owned::new(self.begin(), Getting::new(timeout))
     }
 
     /// A get that waits as long as the configuration says, and borrows this handle.
-    pub fn get_ref(&self) -> GetRef<'_, T, C, R>
-        ensures asks { IfSome result.request
-            (λ get. get.state ≡ GetStage.Unpolled self.now.inner.timeout) }
-        ensures home { IfSome result.request (λ get. get.home ≡ self.now.inner) }
-        ensures begun { IsSome result.request ⊎ IsSome result.refusal }
-        ensures handle { result.handle.now ≡ self.now.inner }
+    pub fn get_ref(&self) -> GetRef<'_, T, C, R, S>
+        ensures { BorrowingAsks self.now self.now (getting self.now.timeout) result }
     {
-        self.timeout_get_ref(self.inner.shared().timeout)
+        self.timeout_get_ref(self.shared().timeout)
     }
 
     /// A get that may wait so long, as `timeout_get` says, and borrows this handle.
-    pub fn timeout_get_ref(&self, timeout: Option<Duration>) -> GetRef<'_, T, C, R>
-        ensures asks { IfSome result.request (λ get. get.state ≡ GetStage.Unpolled timeout) }
-        ensures home { IfSome result.request (λ get. get.home ≡ self.now.inner) }
-        ensures begun { IsSome result.request ⊎ IsSome result.refusal }
-        ensures handle { result.handle.now ≡ self.now.inner }
+    pub fn timeout_get_ref(&self, timeout: Option<Duration>) -> GetRef<'_, T, C, R, S>
+        ensures { BorrowingAsks self.now self.now (getting timeout) result }
     {
-        let request = match self.inner.uncounted() {
-            Ok(home) => Ok(Getting::new(home, timeout)),
-            Err(AllocError) => Err(()),
-        };
-        RequestRef::new(&self.inner, request)
+        Borrowed::new(&self.inner, self.inner.uncounted(), Getting::new(timeout))
     }
 
     /// An object at once. `Timeout` if none is free, also if one is idle that a get was granted.
-    pub fn try_get(&self) -> Result<Object<T, C, R>, PoolError>
-        ensures home { IfOk result (λ object. object.home ≡ self.now.inner) }
+    pub fn try_get(&self) -> Result<Object<T, C, R, S>, PoolError>
+        ensures { IfOk result (λ object. object.home ≡ self.now) }
     {
         let Ok(home) = self.inner.uncounted() else {
             return Err(PoolError::OutOfMemory);
         };
-        let value = home.shared().try_get()?;
-        Ok(Object { home, value })
+        let (value, caller) = home.shared().try_get()?;
+        Ok(Object {
+            home,
+            value,
+            caller,
+        })
+    }
+
+    /// `try_get` by a caller that the history has it of. The object has a new caller of its own. Without memory for the
+    /// object no step is made.
+    pub fn try_get_by(&self, caller: &mut S::Caller) -> Result<Object<T, C, R, S>, PoolError>
+        ensures home { IfOk result (λ object. object.home ≡ self.now) }
+        ensures call { CallsTryGet S.calls (result_map (λ object. object.value) result) caller.old caller.new
+            ⊎ ((result ≡ Err OutOfMemory) × (caller.new ≡ caller.old)) }
+    {
+        let Ok(home) = self.inner.uncounted() else {
+            return Err(PoolError::OutOfMemory);
+        };
+        let (value, own) = home.shared().try_get_by(caller)?;
+        Ok(Object {
+            home,
+            value,
+            caller: own,
+        })
     }
 
     /// An add, which waits for room without an end. If it is refused the object comes back.
-    pub fn add(&self, value: T) -> Add<T, C, R>
-        ensures asks { IfSome result.request (λ add. add.state ≡ AddStage.Unpolled value) }
-        ensures begun { (IsSome result.handle × IsSome result.request)
-            ⊎ (result.refusal ≡ Some value) }
-        ensures handle { IfSome result.handle (λ shared. shared ≡ self.now.inner) }
+    pub fn add(&self, value: T) -> Add<T, C, R, S>
+        ensures { OwnAsks self.now tt (adding value) result }
     {
-        match self.inner.clone() {
-            Ok(handle) => RequestFuture::new(
-                handle,
-                Adding {
-                    state: AddState::new(value),
-                },
-            ),
-            Err(AllocError) => RequestFuture::refused(value),
-        }
+        let begun = match self.inner.clone() {
+            Ok(handle) => Ok((handle, ())),
+            Err(AllocError) => Err(AllocError),
+        };
+        Owned::new(begun, Adding::new(value))
     }
 
     /// An add, which waits for room without an end, and borrows this handle. If it is refused the object comes back.
-    pub fn add_ref(&self, value: T) -> AddRef<'_, T, C, R>
-        ensures asks { IsSomeAnd result.request (λ add. add.state ≡ AddStage.Unpolled value) }
-        ensures handle { result.handle.now ≡ self.now.inner }
+    pub fn add_ref(&self, value: T) -> AddRef<'_, T, C, R, S>
+        ensures { Asks self.now tt (adding value) result }
     {
-        let state = AddState::new(value);
-        RequestRef::new(&self.inner, Ok(Adding { state }))
+        Borrowed::new(&self.inner, Ok(()), Adding::new(value))
     }
 
     /// Adds an object at once. `Timeout` if there is no room, also if there is some that an add was granted.
     pub fn try_add(&self, value: T) -> Result<(), (T, PoolError)>
         ensures { IfErr result (λ refused. refused.0 ≡ value) }
     {
-        self.inner.shared().try_add(value)
+        self.shared().try_add(value)
+    }
+
+    /// `try_add` by a caller that the history has it of.
+    pub fn try_add_by(&self, caller: &mut S::Caller, value: T) -> Result<(), (T, PoolError)>
+        ensures value { IfErr result (λ refused. refused.0 ≡ value) }
+        ensures call { CallsTryAdd S.calls value result caller.old caller.new }
+    {
+        self.shared().try_add_by(caller, value)
     }
 
     /// A get whose object leaves the pool for good.
-    pub fn remove(&self) -> Remove<T, C, R>
-        ensures asks { IfSome result.request
-            (λ removal. removal.get.state ≡ GetStage.Unpolled self.now.inner.timeout) }
-        ensures begun { (IsSome result.handle × IsSome result.request) ⊎ IsSome result.refusal }
-        ensures handle { IfSome result.handle (λ shared. shared ≡ self.now.inner) }
+    pub fn remove(&self) -> Remove<T, C, R, S>
+        ensures { OwnAsks self.now self.now (getting self.now.timeout) result }
     {
-        self.timeout_remove(self.inner.shared().timeout)
+        self.timeout_remove(self.shared().timeout)
     }
 
     /// A get with a timeout of its own, whose object leaves the pool for good.
-    pub fn timeout_remove(&self, timeout: Option<Duration>) -> Remove<T, C, R>
-        ensures asks { IfSome result.request
-            (λ removal. removal.get.state ≡ GetStage.Unpolled timeout) }
-        ensures begun { (IsSome result.handle × IsSome result.request) ⊎ IsSome result.refusal }
-        ensures handle { IfSome result.handle (λ shared. shared ≡ self.now.inner) }
+    pub fn timeout_remove(&self, timeout: Option<Duration>) -> Remove<T, C, R, S>
+        ensures { OwnAsks self.now self.now (getting timeout) result }
     {
-        match self.getting(timeout) {
-            Ok((handle, get)) => RequestFuture::new(handle, Removing { get }),
-            Err(AllocError) => RequestFuture::refused(()),
-        }
+        Owned::new(self.begin(), Removing::new(timeout))
     }
 
     /// An object at once, which leaves the pool for good.
@@ -235,38 +252,58 @@ impl<T: Drop, C: Clock, R: Wait + Drop> Pool<T, C, R> {
     /// Closes the pool for good. Its idle objects are dropped under the lock, so such a drop must not use the pool.
     /// Whoever waits is answered `Closed` at the next poll. An object that comes back later is dropped.
     pub fn close(&self) {
-        self.inner.shared().close();
+        self.shared().make_for_owner(&OwnerStep::Close);
+    }
+
+    /// `close` by a caller that the history has it of.
+    pub fn close_by(&self, caller: &mut S::Caller)
+        ensures { S.calls (entry.Owner step.Close reply.Done) caller.old caller.new }
+    {
+        let OwnerReply::Done = self.shared().make_for_owner_by(caller, &OwnerStep::Close) else {
+            unreachable!();
+        };
     }
 
     /// Whether the pool was closed.
     pub fn is_closed(&self) -> bool {
-        self.inner.shared().is_closed()
+        self.shared().is_closed()
     }
 
     /// How the pool stands.
     pub fn status(&self) -> Status {
-        self.inner.shared().status()
+        self.shared().status()
+    }
+
+    /// `status` by a caller that the history has it of.
+    pub fn status_by(&self, caller: &mut S::Caller) -> Status
+        ensures { S.calls (entry.Owner step.Status (reply.Stands result)) caller.old caller.new }
+    {
+        self.shared().status_by(caller)
+    }
+
+    /// A caller that the history has nothing of yet, for calls of its own. It takes no bytes.
+    pub fn caller(&self) -> S::Caller
+        ensures { S.is_new result }
+    {
+        self.shared().caller()
     }
 
     /// One handle more.
     pub fn clone(&self) -> Result<Self, AllocError>
-        ensures { IfOk result (λ pool. pool.inner ≡ self.now.inner) }
+        ensures { IfOk result (λ pool. pool ≡ self.now) }
     {
         Ok(Pool {
             inner: self.inner.clone()?,
         })
     }
 
-    fn getting(
-        &self,
-        timeout: Option<Duration>,
-    ) -> Result<(Handle<Shared<T, C, R>>, Getting<T, C, R>), AllocError>
-        ensures handle { IfOk result (λ r. r.0 ≡ self.now.inner) }
-        ensures state { IfOk result (λ r. r.1.state ≡ GetStage.Unpolled timeout) }
-        ensures home { IfOk result (λ r. r.1.home ≡ self.now.inner) }
+    // What a new get has, if there is memory for it.
+    #[inline(always)]
+    fn begin(&self) -> Result<(Handle<Shared<T, C, R, S>>, Home<Shared<T, C, R, S>>), AllocError>
+        ensures handle { IfOk result (λ begun. begun.0 ≡ self.now) }
+        ensures home { IfOk result (λ begun. begun.1 ≡ self.now) }
     {
         let home = self.inner.uncounted()?;
-        let handle = self.inner.clone()?;
-        Ok((handle, Getting::new(home, timeout)))
+        Ok((self.inner.clone()?, home))
     }
 }

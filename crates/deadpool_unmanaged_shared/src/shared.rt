@@ -1,9 +1,17 @@
 //! What the handles of a pool share.
 ghost use Rattle.std.specs.Prelude.{◌≡◌, IfErr};
+ghost use Rattle.deadpool_parts.specs.Result.{result_map};
+ghost use Rattle.deadpool_unmanaged_journal.specs.OwnerSteps.{IsOwnerReplyTo};
+ghost use Rattle.deadpool_unmanaged_journal.specs.declared.entry.Entry.TheVariants as entry;
+ghost use Rattle.deadpool_unmanaged_journal.specs.declared.owner_step.OwnerReply.TheVariants as reply;
+ghost use Rattle.deadpool_unmanaged_journal.specs.declared.owner_step.OwnerStep.TheVariants as step;
+ghost use Rattle.deadpool_unmanaged_shared.specs.Calling.{CallsBack, CallsTake, CallsTryAdd, CallsTryGet};
 
 use crate::locked::Locked;
 use deadpool_lock::{Counted, StepLock};
-use deadpool_unmanaged::{Clock, Core, PoolConfig, PoolError, Reply, Runtime, Status};
+use deadpool_unmanaged::{Clock, PoolConfig, PoolError, Runtime, Status};
+use deadpool_unmanaged_history::KeepsState;
+use deadpool_unmanaged_journal::{OwnerReply, OwnerStep};
 use futures::task::Source;
 use std::alloc::Global;
 use std::sync::Wait;
@@ -11,16 +19,23 @@ use std::time::Duration;
 
 /// What the handles of a pool share. Each of its steps is one section of the lock.
 #[derive(Drop)]
-pub struct Shared<T: Drop, C: Clock, R: Wait + Drop> {
+pub struct Shared<T: Drop, C: Clock, R: Wait + Drop, S: KeepsState<T>> {
     pub timeout: Option<Duration>,
     pub runtime: Option<Runtime>,
     pub clock: C,
-    pub lock: StepLock<Locked<T>, R>,
+    pub lock: StepLock<Locked<T, S>, R>,
 }
 
-impl<T: Drop, C: Clock, R: Wait + Drop> Shared<T, C, R> {
-    /// A pool of this state. The limit of the configuration is not looked at.
-    pub fn new(alloc: Global, core: Core<T>, config: &PoolConfig, clock: C, rt: R) -> Self
+impl<T: Drop, C: Clock, R: Wait + Drop, S: KeepsState<T>> Shared<T, C, R, S> {
+    /// A pool of this state, with its first caller. The limit of the configuration is not looked at.
+    pub fn new(
+        alloc: Global,
+        state: S,
+        first: S::Caller,
+        config: &PoolConfig,
+        clock: C,
+        rt: R,
+    ) -> Self
         ensures timeout { result.timeout ≡ config.now.timeout }
         ensures runtime { result.runtime ≡ config.now.runtime }
         ensures clock { result.clock ≡ clock }
@@ -29,64 +44,130 @@ impl<T: Drop, C: Clock, R: Wait + Drop> Shared<T, C, R> {
             timeout: config.timeout,
             runtime: config.runtime,
             clock,
-            lock: StepLock::new(Locked::new(alloc, core), rt),
+            lock: StepLock::new(Locked::new(alloc, state, first), rt),
         }
     }
 
-    /// An object at once, or why there is none.
-    pub fn try_get(&self) -> Result<T, PoolError> {
+    /// A caller that has made no step yet. It is no step.
+    pub fn caller(&self) -> S::Caller
+        ensures { S.is_new result }
+    {
+        self.lock.look().admit()
+    }
+
+    /// An object at once, with a caller of its own, or why there is none.
+    pub fn try_get_by(&self, caller: &mut S::Caller) -> Result<(T, S::Caller), PoolError>
+        ensures { CallsTryGet S.calls (result_map (λ got. got.0) result) caller.old caller.new }
+    {
         let mut step = self.lock.begin();
-        let got = step.kept().try_get();
+        let got = step.kept().try_get(caller);
+        let own = step.kept().admit();
         self.lock.end(step);
-        got
+        Ok((got?, own))
+    }
+
+    /// The same by a new caller, who is the object's own.
+    pub fn try_get(&self) -> Result<(T, S::Caller), PoolError> {
+        let mut step = self.lock.begin();
+        let mut caller = step.kept().admit();
+        let got = step.kept().try_get(&mut caller);
+        self.lock.end(step);
+        Ok((got?, caller))
     }
 
     /// Adds an object at once, or gives it back with the reason.
+    pub fn try_add_by(&self, caller: &mut S::Caller, value: T) -> Result<(), (T, PoolError)>
+        ensures value { IfErr result (λ refused. refused.0 ≡ value) }
+        ensures call { CallsTryAdd S.calls value result caller.old caller.new }
+    {
+        let mut step = self.lock.begin();
+        let added = step.kept().try_add(caller, value);
+        self.lock.end(step);
+        added
+    }
+
+    /// The same by a new caller.
     pub fn try_add(&self, value: T) -> Result<(), (T, PoolError)>
         ensures { IfErr result (λ refused. refused.0 ≡ value) }
     {
         let mut step = self.lock.begin();
-        let added = step.kept().try_add(value);
+        let mut caller = step.kept().admit();
+        let added = step.kept().try_add(&mut caller, value);
         self.lock.end(step);
         added
     }
 
     /// An object comes back. If the pool has no use for it, it is dropped with the lock given back.
-    pub fn back(&self, value: T) {
+    pub fn back(&self, caller: &mut S::Caller, value: T)
+        ensures { CallsBack S.calls value caller.old caller.new }
+    {
         let mut hand = Some(value);
         let mut step = self.lock.begin();
-        step.kept().back(&mut hand);
+        step.kept().back(caller, &mut hand);
         self.lock.end(step);
         drop(hand);
     }
 
     /// An object leaves for good.
-    pub fn leave(&self) -> Reply {
+    pub fn leave(&self, caller: &mut S::Caller)
+        ensures { CallsTake S.calls caller.old caller.new }
+    {
         let mut step = self.lock.begin();
-        let reply = step.kept().take();
+        step.kept().take(caller);
         self.lock.end(step);
+    }
+
+    /// Makes a step of the pool's owner, and gives the reply. Idle objects that go are dropped with the lock taken.
+    #[inline(always)]
+    pub fn make_for_owner_by(&self, caller: &mut S::Caller, step: &OwnerStep) -> OwnerReply
+        ensures fits { IsOwnerReplyTo step.now result }
+        ensures call { S.calls (entry.Owner step.now result) caller.old caller.new }
+    {
+        let mut locked = self.lock.begin();
+        let reply = locked.kept().make_for_owner(caller, step);
+        self.lock.end(locked);
         reply
     }
 
-    /// Closes the pool. What is idle is dropped with the lock taken.
-    pub fn close(&self) {
-        let mut step = self.lock.begin();
-        step.kept().close();
-        self.lock.end(step);
+    /// The same by a new caller.
+    #[inline(always)]
+    pub fn make_for_owner(&self, step: &OwnerStep) -> OwnerReply
+        ensures { IsOwnerReplyTo step.now result }
+    {
+        let mut locked = self.lock.begin();
+        let mut caller = locked.kept().admit();
+        let reply = locked.kept().make_for_owner(&mut caller, step);
+        self.lock.end(locked);
+        reply
     }
 
     /// How the pool stands. It makes nobody due.
-    pub fn status(&self) -> Status {
-        self.lock.look().status()
+    pub fn status_by(&self, caller: &mut S::Caller) -> Status
+        ensures { S.calls (entry.Owner step.Status (reply.Stands result)) caller.old caller.new }
+    {
+        match self.lock.look().make_for_owner(caller, &OwnerStep::Status) {
+            OwnerReply::Stands(status) => status,
+            _ => unreachable!(),
+        }
     }
 
-    /// Whether the pool was closed.
+    /// The same by a new caller.
+    pub fn status(&self) -> Status {
+        let mut locked = self.lock.look();
+        let mut caller = locked.admit();
+        match locked.make_for_owner(&mut caller, &OwnerStep::Status) {
+            OwnerReply::Stands(status) => status,
+            _ => unreachable!(),
+        }
+    }
+
+    /// Whether the pool was closed. It is no step.
     pub fn is_closed(&self) -> bool {
         self.lock.look().is_closed()
     }
 }
 
-impl<T: Drop, C: Clock, R: Wait + Drop> Counted for Shared<T, C, R> {
+impl<T: Drop, C: Clock, R: Wait + Drop, S: KeepsState<T>> Counted for Shared<T, C, R, S> {
     ghost source_of = { λ shared. shared.lock.source.id };
 
     fn source(&self) -> &Source {
@@ -94,14 +175,10 @@ impl<T: Drop, C: Clock, R: Wait + Drop> Counted for Shared<T, C, R> {
     }
 
     fn clone_handle(&self) {
-        let mut step = self.lock.begin();
-        step.kept().clone_handle();
-        self.lock.end(step);
+        self.make_for_owner(&OwnerStep::CloneHandle);
     }
 
     fn drop_handle(&self) {
-        let mut step = self.lock.begin();
-        step.kept().drop_handle();
-        self.lock.end(step);
+        self.make_for_owner(&OwnerStep::DropHandle);
     }
 }

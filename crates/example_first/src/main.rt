@@ -3,7 +3,7 @@
 
 use deadpool::NoTime;
 use deadpool::managed::{Ledgers, Metrics, NoHook, PoolBuilder, PoolError, RecycleResult};
-use deadpool_threads::{Host, Plain, PlainManager, PlainPool, PoolUser, Waiter, lend_among};
+use deadpool_threads::{Blocking, Host, Plain, PlainManager, PlainPool, PoolUser, with_threads};
 use std::alloc::AllocError;
 use std::io;
 
@@ -35,7 +35,7 @@ impl<R: Host> PoolUser<Plain<Zeros>, NoHook, NoHook, NoTime, R> for AddOnes {
     type Output = Result<(), PoolError<()>>;
 
     fn run<L: Ledgers>(self, rt: &R, pool: &Numbers<R, L>) -> Result<(), PoolError<()>> {
-        let Ok(mut waiter) = Waiter::new(rt) else {
+        let Ok(mut waiter) = Blocking::new(rt) else {
             return Err(PoolError::OutOfMemory);
         };
         for _one in 0..100 {
@@ -66,9 +66,7 @@ impl<R: Host> PoolUser<Plain<Zeros>, NoHook, NoHook, NoTime, R> for Total {
 fn main(rt: HostRuntime) -> io::Result<()> {
     let builder = PoolBuilder::new(rt.alloc(), Plain(Zeros), NoTime).max_size(2);
     let workers = vec![in rt.alloc(); AddOnes, AddOnes, AddOnes, AddOnes]?;
-    let Ok((ended, total)) = lend_among(builder, rt, workers, Total) else {
-        return Err(io::Error::other("no pool"));
-    };
+    let (ended, total) = with_threads(builder, rt, workers, Total)?;
     let well = ended.iter().filter(|end| end.is_ok()).count();
     println!(rt; "{well} threads, total {}", total?)
 }

@@ -74,7 +74,7 @@ pub fn visit<R: Host, L: Ledgers>(
 /// thread that it asked once, with the answer that it got.
 pub fn both<R: Host, L: Ledgers + Send + Sync>(rt: &R, pool: &Numbers<R, L>) -> (Visit<L>, Visit<L>)
     ensures legal { IsLegal result.0.0.seen }
-    ensures opened { IsPrefix pool.now.handle.opening.log result.0.0.seen }
+    ensures opened { IsPrefix pool.now.opening.log result.0.0.seen }
     ensures one { calls_by result.0.0.number result.0.0.seen
         ≡ line.Next (entry.Owner step.Status (reply.Stands result.0.1)) ∷ [] }
     ensures two { calls_by result.1.0.number result.0.0.seen

@@ -1,38 +1,35 @@
 //! The connections, who opens them, and the pool that they are in.
 use crate::board::SharedBoard;
-use deadpool::managed::{Metrics, NoHook, Object, Pool, PoolError, RecycleResult};
+use deadpool::managed::{Metrics, NoHook, Pool, RecycleResult};
+use deadpool_limits::Retire;
 use deadpool_threads::{Plain, PlainManager};
 use deadpool_timer::TimerClock;
 use std::alloc::AllocError;
 use std::sync::Arc;
 
+/// How many requests a connection may serve.
+pub const USES: usize = 40;
+
 /// A connection, in place of one to a server elsewhere.
 pub struct Connection {
     board: SharedBoard,
     /// How many requests it has served.
-    pub requests: u64,
+    pub requests: usize,
 }
 
 impl Drop for Connection {
     fn drop(self) {
-        let Connection { board, requests: _ } = self;
-        board.closed();
+        let Connection { board, requests } = self;
+        board.closed.add();
+        if requests > USES {
+            board.failed.add();
+        }
     }
 }
 
 /// Opens connections.
 #[derive(Drop)]
-pub struct Connector {
-    board: SharedBoard,
-}
-
-impl Connector {
-    pub fn new(board: &SharedBoard) -> Result<Self, AllocError> {
-        Ok(Connector {
-            board: Arc::try_clone(board)?,
-        })
-    }
-}
+pub struct Connector(pub SharedBoard);
 
 impl PlainManager for Connector {
     type Type = Connection;
@@ -40,8 +37,8 @@ impl PlainManager for Connector {
     type Error = AllocError;
 
     fn create(&self) -> Result<Connection, AllocError> {
-        let board = Arc::try_clone(&self.board)?;
-        board.opened();
+        let board = Arc::try_clone(&self.0)?;
+        board.opened.add();
         Ok(Connection { board, requests: 0 })
     }
 
@@ -54,11 +51,8 @@ impl PlainManager for Connector {
     }
 }
 
+/// The hook that gives up connections which are past their limits.
+pub type Limited<R> = Retire<TimerClock<R>>;
+
 /// The pool.
-pub type ConnectionPool<R, L> = Pool<Plain<Connector>, NoHook, NoHook, TimerClock<R>, R, L>;
-
-/// What comes of a request for a connection.
-pub type Got<R, L> = Result<Lent<R, L>, PoolError<AllocError>>;
-
-/// A connection out of the pool. It goes back when it is dropped.
-pub type Lent<R, L> = Object<Plain<Connector>, NoHook, NoHook, TimerClock<R>, R, L>;
+pub type ConnectionPool<R, L> = Pool<Plain<Connector>, Limited<R>, NoHook, TimerClock<R>, R, L>;

@@ -1,60 +1,92 @@
-//! Eight threads share the connections of a pool as a service does. A ninth gives up connections that nobody used for a
-//! while, closes the pool in the end, and waits until all are back.
+//! Threads share the connections of a pool as a service does, which limits how long each serves and how many requests
+//! wait. A keeper gives up those past their limits, and the last thread closes the pool and waits until all are back.
 #![tactic(auto)]
 
 mod board;
 mod connections;
-mod keeper;
 mod server;
-mod service;
 
-use board::{Board, SERVERS, SharedBoard};
-use connections::Connector;
-use deadpool::Runtime;
-use deadpool::managed::PoolBuilder;
-use deadpool_threads::{Plain, lend_among};
-use deadpool_timer::Timer;
-use keeper::{Keeper, LEAST_IDLE, MOST};
+use board::{Board, SharedBoard};
+use connections::{ConnectionPool, Connector, Limited, USES};
+use deadpool::managed::{Hook, Ledgers, NoHook, PoolBuilder, Tally};
+use deadpool::{Runtime, Status};
+use deadpool_limits::{Limits, Retire};
+use deadpool_threads::{Handed, Host, Plain, PoolUser, Sweeper, with_keeper};
+use deadpool_timer::{Timer, TimerClock};
 use server::Server;
-use service::{AllBack, Service, Worker};
 use std::alloc::{AllocError, Global};
 use std::io;
-use std::thread::Threads;
-use std::time::Duration;
+use std::sync::Arc;
+use std::time::{Clock, Duration};
 
-// The eight, and the ninth.
-fn workers<R: Service + Threads>(
-    alloc: Global,
-    timer: &Timer<R>,
-    board: &SharedBoard,
-) -> Result<Vec<Worker<R>>, AllocError> {
-    let mut workers = Vec::new(alloc);
-    for _server in 0..SERVERS {
-        workers.push(Worker::Serves(Server::new(board)?))?;
+/// How many threads ask for a connection.
+pub const ASKING: usize = 10;
+
+/// How many of them are served.
+pub const SERVED: usize = 8;
+
+/// How many connections there are at most.
+pub const MOST: usize = 4;
+
+/// How many stay idle, however long nobody used them.
+pub const LEAST_IDLE: usize = 1;
+
+// The threads that ask.
+fn servers(alloc: Global, board: &SharedBoard) -> Result<Vec<Handed<Server>>, AllocError> {
+    let mut servers = Vec::new(alloc);
+    for _server in 0..ASKING {
+        servers.push(Handed(Server(Arc::try_clone(board)?)))?;
     }
-    workers.push(Worker::Keeps(Keeper::new(board, timer.clock()?)?))?;
-    Ok(workers)
+    Ok(servers)
+}
+
+/// Says what the pool has counted, and how it stands, once all threads have ended.
+#[derive(Drop)]
+struct Counts;
+
+impl<R: Host + Clock> PoolUser<Plain<Connector>, Limited<R>, NoHook, TimerClock<R>, R> for Counts {
+    type Output = (Tally, Status);
+
+    fn run<L: Ledgers>(self, _rt: &R, pool: &ConnectionPool<R, L>) -> (Tally, Status) {
+        pool.tally()
+    }
 }
 
 fn main(rt: HostRuntime) -> io::Result<()> {
     let board = Board::new(rt.alloc())?;
-    let connector = Connector::new(&board)?;
+    let connector = Connector(Arc::try_clone(&board)?);
     let timer = Timer::start(rt.alloc(), rt)?;
     let builder = PoolBuilder::new(rt.alloc(), Plain(connector), timer.clock()?)
         .max_size(MOST)
         .runtime(Runtime::Clock)
         .wait_timeout(Some(Duration::from_secs(30)));
-    let workers = workers(rt.alloc(), &timer, &board)?;
-    let lent = lend_among(builder.min_idle(LEAST_IDLE), rt, workers, AllBack);
-    let Ok((ended, size)) = lent else {
-        return Err(io::Error::other("no memory for the pool or a thread"));
+    let builder = builder
+        .min_idle(LEAST_IDLE)
+        .max_waiting(Some(SERVED - MOST));
+    let limits = Limits::none().idle(Duration::from_millis(50)).uses(USES);
+    let Ok(builder) = builder.pre_recycle(Hook::sync_fn(Retire::new(timer.clock()?, limits))) else {
+        return Err(io::Error::other("no memory for a hook"));
     };
+    let sweeper = Sweeper::new(timer.clock()?, limits, Duration::from_millis(10));
+    let servers = servers(rt.alloc(), &board)?;
+    let (ended, _given_up, (tally, status)) = with_keeper(builder, rt, servers, sweeper, Counts)?;
     for end in ended {
-        end?;
+        end??;
     }
-    println!(rt; "{}", *board)?;
+    if board.failed.get() > 0 {
+        return Err(io::Error::other("a connection served too often"));
+    }
     println!(rt;
-        "after it: {size} connections in the pool, {} open",
-        board.open()
+        "{} requests: {} served, {} turned away",
+        tally.gets, tally.served, tally.crowded
+    )?;
+    println!(rt;
+        "{} were late, and {} sent away at the closing",
+        tally.late, tally.closed
+    )?;
+    let open = board.opened.get().saturating_sub(board.closed.get());
+    println!(rt;
+        "after it: {} connections in the pool, {open} open",
+        status.size
     )
 }

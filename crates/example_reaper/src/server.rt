@@ -1,134 +1,115 @@
-//! A thread that serves requests.
-use crate::board::{Board, LOOKS, SharedBoard};
-use crate::connections::{ConnectionPool, Got};
-use crate::service::Service;
-use deadpool::managed::{Ledgers, PoolError, TimeoutType};
-use deadpool_threads::Waiter;
-use std::alloc::AllocError;
+//! A thread that serves requests, and closes the pool if it is the last one to be done.
+use crate::board::SharedBoard;
+use crate::connections::{ConnectionPool, Connector, Limited};
+use crate::{ASKING, LEAST_IDLE, MOST, SERVED};
+use deadpool::managed::{Ledgers, NoHook, PoolError};
+use deadpool_threads::{Blocking, BlockingUser, Host, Plain};
+use deadpool_timer::TimerClock;
 use std::io;
-use std::sync::Arc;
-use std::time::Duration;
+use std::sync::Wait;
+use std::time::Clock;
 
 // How many requests each thread serves.
 const REQUESTS: u32 = 25;
 
-// How many milliseconds a request of the rush waits at most.
-const RUSH: u64 = 50;
-
 /// Serves requests, each with a connection of its own.
 #[derive(Drop)]
-pub struct Server {
-    board: SharedBoard,
-}
+pub struct Server(pub SharedBoard);
 
-impl Server {
-    pub fn new(board: &SharedBoard) -> Result<Self, AllocError> {
-        Ok(Server {
-            board: Arc::try_clone(board)?,
-        })
-    }
+impl<R: Host + Clock> BlockingUser<Plain<Connector>, Limited<R>, NoHook, TimerClock<R>, R>
+    for Server {
+    type Output = io::Result<()>;
 
-    /// Does all that a server does. The others are told if it fails.
-    pub fn serve<R: Service, L: Ledgers>(
-        &self,
+    fn run<L: Ledgers>(
+        self,
         rt: &R,
+        blocking: &mut Blocking,
         pool: &ConnectionPool<R, L>,
     ) -> io::Result<()> {
-        let ended = self.serve_all(rt, pool);
+        let ended = self.serve(rt, blocking, pool);
         if ended.is_err() {
-            self.board.fails();
+            self.0.failed.add();
+            pool.close();
         }
         ended
     }
+}
 
-    fn serve_all<R: Service, L: Ledgers>(
+impl Server {
+    fn serve<R: Wait + Clock + Drop, L: Ledgers>(
         &self,
         rt: &R,
+        blocking: &mut Blocking,
         pool: &ConnectionPool<R, L>,
     ) -> io::Result<()> {
-        let mut waiter = Waiter::new(rt)?;
-        self.rushes(rt, pool, &mut waiter)?;
-        for _request in 0..REQUESTS {
-            self.requests(rt, pool, &mut waiter)?;
+        if self.is_turned_away(rt, blocking, pool)? {
+            return Ok(());
         }
-        self.board.done();
-        self.board.wait_for_rest(rt)?;
-        self.asks_at_the_end(rt, pool, &mut waiter)
+        for _request in 0..REQUESTS {
+            let Ok(mut connection) = blocking.get(rt, pool) else {
+                return Err(io::Error::other("a request was refused"));
+            };
+            connection.requests = connection.requests.saturating_add(1);
+        }
+        if self.0.done.add() == SERVED - 1 {
+            self.closes(rt, blocking, pool)
+        } else {
+            self.asks_at_the_end(rt, blocking, pool)
+        }
     }
 
-    // A request that waits for a short while. Who is served keeps the connection until all were answered, so that the
-    // others are late.
-    fn rushes<R: Service, L: Ledgers>(
+    // A request of the rush. Who is served keeps the connection until those for whom there is no room were turned away.
+    fn is_turned_away<R: Wait + Clock + Drop, L: Ledgers>(
         &self,
         rt: &R,
+        blocking: &mut Blocking,
         pool: &ConnectionPool<R, L>,
-        waiter: &mut Waiter,
-    ) -> io::Result<()> {
-        let mut timeouts = pool.timeouts();
-        timeouts.wait = Some(Duration::from_millis(RUSH));
-        let got = waiter.wait(rt, pool.timeout_get(&timeouts))?;
-        self.board.answered(is_late(&got)?);
-        self.board.wait_for_answers(rt)
+    ) -> io::Result<bool> {
+        let turned_away = &self.0.turned_away;
+        match blocking.get(rt, pool) {
+            Ok(_connection) => {
+                self.0
+                    .wait_until(rt, || turned_away.get() == ASKING - SERVED)?;
+                Ok(false)
+            }
+            Err(PoolError::Crowded) => {
+                turned_away.add();
+                Ok(true)
+            }
+            Err(_) => Err(io::Error::other("a request of the rush was refused")),
+        }
     }
 
-    // A request that waits as long as the pool allows.
-    fn requests<R: Service, L: Ledgers>(
+    // Waits for the keeper, and closes the pool while the others have all connections or wait for one.
+    fn closes<R: Wait + Clock + Drop, L: Ledgers>(
         &self,
         rt: &R,
+        blocking: &mut Blocking,
         pool: &ConnectionPool<R, L>,
-        waiter: &mut Waiter,
     ) -> io::Result<()> {
-        let Ok(mut connection) = waiter.get(rt, pool) else {
-            return Err(io::Error::other("a request was refused"));
-        };
-        connection.requests = connection.requests.saturating_add(1);
-        self.board.requested();
-        Ok(())
+        self.0.wait_until(rt, || pool.status().size == LEAST_IDLE)?;
+        self.0.rested.add();
+        self.0
+            .wait_until(rt, || pool.status().waiting == SERVED - 1 - MOST)?;
+        match blocking.drain(rt, pool) {
+            Ok(_status) => Ok(()),
+            Err(_) => Err(io::Error::other("no memory to wait for the end by")),
+        }
     }
 
     // A request that is finished once the pool was closed, or sent away then.
-    fn asks_at_the_end<R: Service, L: Ledgers>(
+    fn asks_at_the_end<R: Wait + Clock + Drop, L: Ledgers>(
         &self,
         rt: &R,
+        blocking: &mut Blocking,
         pool: &ConnectionPool<R, L>,
-        waiter: &mut Waiter,
     ) -> io::Result<()> {
-        let got = waiter.get(rt, pool);
-        let is_sent_away = is_sent_away(&got)?;
-        wait_for_closing(&self.board, rt, pool)?;
-        self.board.ended(is_sent_away);
-        Ok(())
-    }
-}
-
-// Whether a request was late. `Err` says that it was refused for another reason.
-fn is_late<R: Service, L: Ledgers>(got: &Got<R, L>) -> io::Result<bool> {
-    match got {
-        Ok(_) => Ok(false),
-        Err(PoolError::Timeout(TimeoutType::Wait)) => Ok(true),
-        Err(_) => Err(io::Error::other("a request of the rush was refused")),
-    }
-}
-
-// Whether a request was sent away, as the pool is closed. `Err` says that it was refused for another reason.
-fn is_sent_away<R: Service, L: Ledgers>(got: &Got<R, L>) -> io::Result<bool> {
-    match got {
-        Ok(_) => Ok(false),
-        Err(PoolError::Closed) => Ok(true),
-        Err(_) => Err(io::Error::other("a last request was refused")),
-    }
-}
-
-fn wait_for_closing<R: Service, L: Ledgers>(
-    board: &Board,
-    rt: &R,
-    pool: &ConnectionPool<R, L>,
-) -> io::Result<()> {
-    for _look in 0..LOOKS {
-        if pool.is_closed() {
-            return board.pause(rt);
+        let rested = &self.0.rested;
+        self.0.wait_until(rt, || rested.get() > 0)?;
+        match blocking.get(rt, pool) {
+            Ok(_connection) => self.0.wait_until(rt, || pool.is_closed()),
+            Err(PoolError::Closed) => Ok(()),
+            Err(_) => Err(io::Error::other("a last request was refused")),
         }
-        board.pause(rt)?;
     }
-    Err(io::Error::other("the pool is not closed"))
 }

@@ -12,6 +12,8 @@ pub enum Why {
     Closed,
     /// Its time was over.
     Late,
+    /// As many waited as may.
+    Crowded,
     /// By the manager or a hook; an idle object also if they took too long.
     Refused,
     AboveLimit,
@@ -38,6 +40,7 @@ impl Why {
             Why::Cancelled => "cancelled",
             Why::Closed => "closed",
             Why::Late => "late",
+            Why::Crowded => "crowded",
             Why::Refused => "refused",
             Why::AboveLimit => "above the limit",
             Why::NotRetained => "not retained",
@@ -178,6 +181,7 @@ fn why_failed<E>(cause: &PoolError<E>) -> Why {
         PoolError::Timeout(_) => Why::Late,
         PoolError::Backend(_) | PoolError::PostCreateHook(_) => Why::Refused,
         PoolError::Closed => Why::Closed,
+        PoolError::Crowded => Why::Crowded,
         PoolError::NoRuntimeSpecified => Why::NoRuntime,
         PoolError::OutOfMemory => Why::NoMemory,
         PoolError::NumbersExhausted => Why::NoNumber,
@@ -188,6 +192,7 @@ fn why_plain(cause: &plain::PoolError) -> Why {
     match cause {
         plain::PoolError::Timeout => Why::Late,
         plain::PoolError::Closed => Why::Closed,
+        plain::PoolError::Crowded => Why::Crowded,
         plain::PoolError::NoRuntimeSpecified => Why::NoRuntime,
         plain::PoolError::OutOfMemory => Why::NoMemory,
     }

@@ -1,16 +1,20 @@
 //! Reads a journal, makes its steps again, and draws the counts after each of them.
 mod step;
+mod unmanaged;
 
 use crate::{Column, Drawn, Kind, Owner, Picture, Stock, Stop, is_out_of_memory, write_picture};
 use deadpool_managed::{Core, QueueMode};
-use pool_scripts::{Fault, LineError, Reason, Stopped, read_line, without_line_feed};
-use pool_shapes::show_core_levels;
-use std::alloc::Global;
+use deadpool_unmanaged as plain;
+use pool_scripts::{Fault, LineError, Reason, Stopped, parse_number, read_line, without_line_feed};
+use pool_shapes::{show_core_levels, show_unmanaged_core_levels};
+use std::alloc::{AllocError, Global};
 use std::io::{BufRead, Write};
 use step::{Words, end, make_again, next_number, next_word, words_of};
+use unmanaged::{Name, make_unmanaged_again};
 
-/// Reads a journal as `Journal` prints it, and writes a picture of its counts: each step is made again on a pool of no
-/// values, and has to have the reply that its line says. A journal that ends before its end is drawn up to there.
+/// Reads a journal as the `Journal` of either pool prints it, and writes a picture of its counts: each step is made
+/// again on a pool of no values, and has to have the reply that its line says. A journal that ends before its end is
+/// drawn up to there.
 pub fn draw_journal<B: BufRead, W: Write>(
     alloc: Global,
     drawn: Drawn,
@@ -26,12 +30,19 @@ pub fn draw_journal<B: BufRead, W: Write>(
     ending
 }
 
+// The pool of which a journal is.
+#[derive(Drop)]
+enum Pool {
+    Managed(Core<()>),
+    Unmanaged(plain::Core<Name>),
+}
+
 // A journal that is drawn while it is read.
 #[derive(Drop)]
 struct Reading {
     alloc: Global,
     // None before the line that opens it.
-    core: Option<Core<()>>,
+    pool: Option<Pool>,
     // Whether it has said that it is full. Nothing follows that.
     is_full: bool,
     picture: Picture,
@@ -42,7 +53,7 @@ impl Reading {
     fn new(alloc: Global, drawn: Drawn) -> Self {
         Reading {
             alloc,
-            core: None,
+            pool: None,
             is_full: false,
             picture: Picture::new(alloc, Kind::Journal, drawn),
             column: Column::new(alloc),
@@ -76,9 +87,8 @@ impl Reading {
 
     fn follow(&mut self, line: &[u8]) -> Result<(), Stop> {
         let mut words = words_of(line)?;
-        let Some(core) = &mut self.core else {
-            self.core = Some(parse_opening(self.alloc, &mut words)?);
-            return Ok(());
+        let Some(pool) = &mut self.pool else {
+            return self.open(&mut words);
         };
         if self.is_full {
             return Err(Stop::NotAMove(Reason::NoStep));
@@ -87,8 +97,7 @@ impl Reading {
             self.is_full = true;
             return Ok(());
         }
-        let entry = make_again(self.alloc, core, &mut words)?;
-        let made = format!(in self.alloc; "{entry}")?;
+        let made = text_again(self.alloc, pool, &mut words)?;
         if made.as_bytes() == line {
             Ok(())
         } else {
@@ -96,29 +105,75 @@ impl Reading {
         }
     }
 
+    fn open(&mut self, words: &mut Words<'_>) -> Result<(), Stop> {
+        let pool = parse_opening(self.alloc, words)?;
+        self.picture.kind = match pool {
+            Pool::Managed(_) => Kind::Journal,
+            Pool::Unmanaged(_) => Kind::UnmanagedJournal,
+        };
+        self.pool = Some(pool);
+        Ok(())
+    }
+
     fn add_column(&mut self, number: u64, line: &[u8]) -> Result<(), Stop> {
         let Reading {
             alloc,
-            core,
+            pool,
             picture,
             column,
             ..
         } = self;
-        if let Some(core) = core {
-            show_core_levels(core, &mut column.levels)?;
-            let counts = core.counts();
-            column.stock = Stock {
-                out: counts.size,
-                idle: 0,
-                granted: counts.granted,
-                waiting: counts.waiting,
-            };
+        if let Some(pool) = pool {
+            show(pool, column)?;
             column.event.line = number;
             column.event.owner = owner_of(line);
             picture.add_column(*alloc, column)?;
         }
         picture.add_line(*alloc, number, line, "")?;
         Ok(())
+    }
+}
+
+// Makes the step that a line names, and gives its entry as text.
+fn text_again(alloc: Global, pool: &mut Pool, words: &mut Words<'_>) -> Result<String, LineError> {
+    match pool {
+        Pool::Managed(core) => {
+            let entry = make_again(alloc, core, words)?;
+            Ok(format!(in alloc; "{entry}")?)
+        }
+        Pool::Unmanaged(core) => match make_unmanaged_again(core, words) {
+            Ok(entry) => Ok(format!(in alloc; "{entry}")?),
+            Err(fault) => Err(fault),
+        },
+    }
+}
+
+// What stands in the column of a pool as it is now.
+fn show(pool: &Pool, column: &mut Column) -> Result<(), AllocError> {
+    match pool {
+        Pool::Managed(core) => {
+            show_core_levels(core, &mut column.levels)?;
+            let counts = core.counts();
+            column.stock = stock_of(counts.size, counts.granted, counts.waiting);
+        }
+        Pool::Unmanaged(core) => {
+            show_unmanaged_core_levels(core, &mut column.levels)?;
+            let counts = core.counts();
+            let granted = counts.gets_granted.saturating_add(counts.adds_granted);
+            let waiting = counts.gets_waiting.saturating_add(counts.adds_waiting);
+            column.stock = stock_of(counts.size, granted, waiting);
+        }
+    }
+    Ok(())
+}
+
+// A journal does not say which objects are idle.
+fn stock_of(size: usize, granted: usize, waiting: usize) -> Stock {
+    Stock {
+        out: size,
+        idle: 0,
+        granted,
+        waiting,
     }
 }
 
@@ -131,17 +186,46 @@ fn owner_of(line: &[u8]) -> Owner {
     }
 }
 
-fn parse_opening(alloc: Global, words: &mut Words<'_>) -> Result<Core<()>, LineError> {
+fn parse_opening(alloc: Global, words: &mut Words<'_>) -> Result<Pool, LineError> {
     if next_word(words)? != "opened" {
         return Err(LineError::NotAMove(Reason::NoStep));
     }
-    let limit = next_number(words)?;
+    match next_word(words)? {
+        "unmanaged" => Ok(Pool::Unmanaged(parse_unmanaged_pool(alloc, words)?)),
+        limit => Ok(Pool::Managed(parse_managed_pool(alloc, limit, words)?)),
+    }
+}
+
+fn parse_managed_pool(
+    alloc: Global,
+    limit: &str,
+    words: &mut Words<'_>,
+) -> Result<Core<()>, LineError> {
+    let limit = parse_number(limit)?;
     let mode = match next_word(words)? {
         "fifo" => QueueMode::Fifo,
         "lifo" => QueueMode::Lifo,
         _ => return Err(LineError::NotAMove(Reason::NoStep)),
     };
-    let floor = next_number(words)?;
+    let min_idle = next_number(words)?;
+    let max_waiting = parse_bound(words)?;
+    Ok(Core::new(alloc, limit, mode, 0, min_idle)?.bounded(max_waiting))
+}
+
+fn parse_unmanaged_pool(
+    alloc: Global,
+    words: &mut Words<'_>,
+) -> Result<plain::Core<Name>, LineError> {
+    let limit = next_number(words)?;
+    let max_waiting = parse_bound(words)?;
+    Ok(plain::Core::new(alloc, limit)?.bounded(max_waiting))
+}
+
+// The last word, if there is one: how many may wait.
+fn parse_bound(words: &mut Words<'_>) -> Result<Option<usize>, LineError> {
+    let Some(word) = words.next() else {
+        return Ok(None);
+    };
     end(words)?;
-    Ok(Core::new(alloc, limit, mode, 0, floor)?)
+    Ok(Some(parse_number(word)?))
 }

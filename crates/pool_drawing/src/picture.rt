@@ -27,6 +27,14 @@ pub enum Kind {
     Managed,
     Unmanaged,
     Journal,
+    UnmanagedJournal,
+}
+
+impl Kind {
+    /// Whether it is of a journal, which says nothing of parties.
+    pub fn is_journal(self) -> bool {
+        matches!(self, Kind::Journal | Kind::UnmanagedJournal)
+    }
 }
 
 /// How a picture is drawn.

@@ -112,7 +112,7 @@ impl<'a> Drawing<'a> {
         }
         let mut event = self.play(line, cx)?;
         event.line = number;
-        if event.owner == Owner::Close && self.reply.as_str() == "ok\n" {
+        if event.owner == Owner::Close && self.reply.as_str() != "no handle\n" {
             self.is_closed = true;
         }
         self.add_column(event, line)

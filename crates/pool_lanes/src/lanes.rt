@@ -1,7 +1,6 @@
 //! Lanes, one above the other.
 ghost use Rattle.std.specs.Prelude.{◌≡◌, ℕ, ◌<◌, ◌≤◌, ◌+◌, ◌++◌, ◌∷◌, [], List, IfOk, length, slice_get, Option};
 ghost use Rattle.std.specs.Prelude.{option_copied};
-ghost use Rattle.std.specs.Option.{option_map};
 ghost use Rattle.pool_lanes.specs.Frames.{Draws, AllExtend, AllBegin, lane_at};
 ghost use Rattle.pool_lanes.specs.Marks.{next_column};
 

@@ -2,7 +2,9 @@
 use crate::fault::Fault;
 use crate::lines::{read_line, without_line_feed, write_out};
 use crate::lists::{list_of, managed_moves, unmanaged_moves};
-use crate::making::{make_get, make_managed, make_unmanaged, run_managed, run_unmanaged};
+use crate::making::{
+    make_drain, make_get, make_managed, make_unmanaged, run_managed, run_unmanaged,
+};
 use crate::manager::{Answer, Answers, Kind};
 use crate::opening::{PARTIES, Refusal, ScriptPool, open_pool};
 use crate::script;
@@ -111,6 +113,7 @@ impl<'a> Engine<'a> {
             None => open(pool, *alloc, answers, *parties, line, reply),
             Some(ScriptPool::Managed(trial)) => match script::parse_script_line(*alloc, line)? {
                 ScriptLine::Get(now) => make_get(trial, now, cx, reply),
+                ScriptLine::Drain => make_drain(trial, cx, reply),
                 ScriptLine::Plain(ManagedLine::Answer(kind, words)) => {
                     answer(answers, kind, words, reply)
                 }

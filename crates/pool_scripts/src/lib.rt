@@ -36,5 +36,5 @@ pub use script::{
 };
 pub use standing::{Colour, Standing};
 pub use stopped::{Detail, Stopped};
-pub use texts::{end_line, write_managed, write_status, write_unmanaged};
+pub use texts::{end_line, write_left, write_managed, write_status, write_unmanaged};
 pub use watching::watch_script;

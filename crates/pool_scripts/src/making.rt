@@ -1,7 +1,7 @@
 //! Makes moves over a pool, one or a list of them, and writes the line that replies.
 use crate::opening::UnmanagedTrial;
 use crate::script::LineError;
-use crate::texts::{end_line, write_managed, write_unmanaged};
+use crate::texts::{end_line, write_left, write_managed, write_unmanaged};
 use deadpool_managed::{AsyncHook, Manager, SyncHook};
 use deadpool_parts::Moment;
 use deadpool_replay::{Move, Reply, Trial};
@@ -44,6 +44,23 @@ where
         }
         _ => end(Ok(()), text),
     }
+}
+
+/// Closes a managed pool, and says what is left in it.
+pub fn make_drain<M: Manager<Type = u64>, F: SyncHook<M>, A: AsyncHook<M>, C: Drop>(
+    trial: &mut Trial<M, F, A, C>,
+    cx: &mut Context<'_>,
+    text: &mut String,
+) -> Result<(), LineError>
+where
+    M::Error: fmt::Display,
+{
+    let closed = trial.make(Move::Close, cx);
+    let written = match closed {
+        Reply::Done => write_left(text, trial.counts()),
+        other => write_managed(text, &other, None),
+    };
+    end(written, text)
 }
 
 /// Makes a list of moves over a managed pool in one call. Of an object that a move has handed out it writes no value,

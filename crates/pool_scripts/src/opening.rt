@@ -88,8 +88,12 @@ fn open_unmanaged(
     parties: usize,
     pool: UnmanagedPool,
 ) -> Result<UnmanagedTrial, AllocError> {
-    let UnmanagedPool { max_size, runtime } = pool;
-    UnmanagedTrial::new(alloc, max_size, runtime, parties)
+    let UnmanagedPool {
+        max_size,
+        runtime,
+        max_waiting,
+    } = pool;
+    Ok(UnmanagedTrial::new(alloc, max_size, runtime, parties)?.bounded(max_waiting))
 }
 
 // A pool with one hook in each of its lists.

@@ -1,5 +1,5 @@
 //! The replies to the lines of a script.
-use deadpool_managed::RetainResult;
+use deadpool_managed::{Counts, RetainResult};
 use deadpool_parts::Status;
 use deadpool_replay::Reply;
 use deadpool_unmanaged_replay as unmanaged;
@@ -93,6 +93,15 @@ pub fn write_status(text: &mut String, status: Status) -> Result<(), AllocError>
         text,
         "max {max_size} size {size} available {available} waiting {waiting}"
     )
+}
+
+/// Appends what is left in a closed pool: how many objects there are, and how many gets hold a place or have a creation
+/// under way. A get that was granted a place and has not asked is refused when it does.
+pub fn write_left(text: &mut String, counts: Counts) -> Result<(), AllocError> {
+    match counts.places.saturating_sub(counts.granted) {
+        0 => text.push_str("drained"),
+        left => write!(text, "left {left}"),
+    }
 }
 
 /// Ends the line of a reply, if its text has not ended it.

@@ -7,6 +7,7 @@ use Rattle.deadpool_replay.specs.Look.{look_of}
 use Rattle.deadpool_replay.specs.Pool.{Pool, places, size, reach}
 use Rattle.deadpool_replay.specs.declared.look.Look.{Look}
 use Rattle.deadpool_replay.specs.declared.look.Look.TheVariants as look
+use Rattle.deadpool_unmanaged.specs.State.{State, size as state_size}
 use Rattle.deadpool_unmanaged_replay.specs.Look.{look_of as unmanaged_look_of}
 use Rattle.deadpool_unmanaged_replay.specs.Pool.{Pool as UnmanagedPool, size as unmanaged_size}
 use Rattle.deadpool_unmanaged_replay.specs.declared.look.Look.{Look as UnmanagedLook}
@@ -83,3 +84,10 @@ module _ {V : Type 0} where
       p.limit ∷ unmanaged_size p ∷ queue_length (unmanaged_size p) (length p.adds.granted)
       ∷ queue_length (length p.gets.granted) (length p.gets.waiting)
       ∷ queue_length (length p.adds.granted) (length p.adds.waiting) ∷ []
+
+-- the same of a pool without names
+abbrev pub state_levels_of : {O : Type 0} → State O → List ℕ
+state_levels_of d =
+    d.limit ∷ state_size d ∷ queue_length (state_size d) (length d.adds.granted)
+    ∷ queue_length (length d.gets.granted) (length d.gets.waiting)
+    ∷ queue_length (length d.adds.granted) (length d.adds.waiting) ∷ []

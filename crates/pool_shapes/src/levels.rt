@@ -1,9 +1,11 @@
 //! The counts of a pool, from the top of a picture.
 ghost use Rattle.std.specs.Prelude.{◌≡◌, ◌∷◌, [], IfOk};
-ghost use Rattle.pool_shapes.specs.Shapes.{levels_of, desk_levels_of, unmanaged_levels_of, queue_length};
+ghost use Rattle.pool_shapes.specs.Shapes.{levels_of, desk_levels_of, unmanaged_levels_of, state_levels_of};
+ghost use Rattle.pool_shapes.specs.Shapes.{queue_length};
 
 use deadpool_managed::{AsyncHook, Core, Counts, Manager, SyncHook};
 use deadpool_replay::Trial;
+use deadpool_unmanaged as plain;
 use deadpool_unmanaged_replay as unmanaged;
 use std::alloc::AllocError;
 
@@ -48,6 +50,25 @@ pub fn show_unmanaged_levels<T: Drop>(
     ensures { IfOk result (λ _. levels.new.items ≡ unmanaged_levels_of trial.now) }
 {
     let counts = trial.counts();
+    put_unmanaged_levels(counts, levels)
+}
+
+/// The same for a core.
+pub fn show_unmanaged_core_levels<T: Drop>(
+    core: &plain::Core<T>,
+    levels: &mut Vec<usize>,
+) -> Result<(), AllocError>
+    ensures { IfOk result (λ _. levels.new.items ≡ state_levels_of core.now.pool) }
+{
+    put_unmanaged_levels(core.counts(), levels)
+}
+
+fn put_unmanaged_levels(counts: plain::Counts, levels: &mut Vec<usize>) -> Result<(), AllocError>
+    ensures { IfOk result (λ _. levels.new.items ≡ counts.limit ∷ counts.size
+        ∷ queue_length counts.size counts.adds_granted
+        ∷ queue_length counts.gets_granted counts.gets_waiting
+        ∷ queue_length counts.adds_granted counts.adds_waiting ∷ []) }
+{
     levels.clear();
     levels.push(counts.limit)?;
     levels.push(counts.size)?;

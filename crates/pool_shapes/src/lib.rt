@@ -10,6 +10,8 @@ mod shapes;
 
 pub use given::Given;
 pub use handed::{Handover, handed_over, has_ended, has_given_up, has_place, is_granted};
-pub use levels::{show_core_levels, show_levels, show_unmanaged_levels};
+pub use levels::{
+    show_core_levels, show_levels, show_unmanaged_core_levels, show_unmanaged_levels,
+};
 pub use parties::{show_parties, show_unmanaged_parties};
 pub use shapes::{shape_of, unmanaged_shape_of};

@@ -2,7 +2,7 @@
 use deadpool::NoTime;
 use deadpool::managed::{Ledgers, NoHook, Object, PoolBuilder};
 use deadpool_buffers::{BufferPool, Buffers, fill};
-use deadpool_threads::{Plain, PoolUser, Waiter, lend};
+use deadpool_threads::{Blocking, Plain, PoolUser, with_pool};
 use pool_scripts::{Fault, read_line, without_line_feed, write_out};
 use std::alloc::Global;
 use std::io::{BufRead, Write};
@@ -38,7 +38,7 @@ pub fn fill_buffers<R, B: BufRead, W: Write>(
 where
     R: RandomSource + AllocGlobal + Wait + Drop + Copy + Send + Sync,
 {
-    match lend(builder, *rt, Filling { reader, writer }) {
+    match with_pool(builder, *rt, Filling { reader, writer }) {
         Ok(ending) => ending,
         Err(_) => Err(Fault::OutOfMemory),
     }
@@ -59,7 +59,7 @@ where
     type Output = Result<(), Fault>;
 
     fn run<L: Ledgers>(self, rt: &R, pool: &LinePool<R, L>) -> Result<(), Fault> {
-        let mut waiter = Waiter::new(rt).map_err(|_| Fault::OutOfMemory)?;
+        let mut waiter = Blocking::new(rt).map_err(|_| Fault::OutOfMemory)?;
         let mut line = Vec::new(rt.alloc());
         for _ in 0..u64::MAX {
             if !read_line(self.reader, &mut line)? {
@@ -75,7 +75,7 @@ where
 fn put_line<R, W: Write, L: Ledgers>(
     rt: &R,
     pool: &LinePool<R, L>,
-    waiter: &mut Waiter,
+    waiter: &mut Blocking,
     line: &[u8],
     writer: &mut W,
 ) -> Result<(), Fault>

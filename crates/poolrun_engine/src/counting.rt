@@ -2,7 +2,7 @@
 
 use deadpool::NoTime;
 use deadpool::managed::{Journal, Ledgers, Metrics, NoHook, PoolBuilder, RecycleResult};
-use deadpool_threads::{Host, Plain, PlainManager, PlainPool, PoolUser, Waiter, lend_among};
+use deadpool_threads::{Blocking, Host, Plain, PlainManager, PlainPool, PoolUser, with_threads};
 use pool_scripts::{Fault, parse_number, write_out, write_status};
 use std::alloc::AllocError;
 use std::env::Args;
@@ -66,7 +66,7 @@ type CounterPool<R, L> = PlainPool<Plain<Zeros>, R, L>;
 pub fn count<R: Host, W: Write>(rt: &R, crowd: Crowd, writer: &mut W) -> Result<(), Fault> {
     let builder = PoolBuilder::new(rt.alloc(), Plain(Zeros), NoTime).max_size(MOST_OBJECTS);
     let workers = workers_of(rt, crowd)?;
-    let Ok((endings, text)) = lend_among(builder, *rt, workers, Telling) else {
+    let Ok((endings, text)) = with_threads(builder, *rt, workers, Telling) else {
         return Err(Fault::OutOfMemory);
     };
     for ending in endings {
@@ -86,7 +86,7 @@ pub fn count_with_journal<R: Host, W: Write>(
         .max_size(MOST_OBJECTS)
         .journal(entries);
     let workers = workers_of(rt, crowd)?;
-    let Ok((endings, journal)) = lend_among(builder, *rt, workers, Copying) else {
+    let Ok((endings, journal)) = with_threads(builder, *rt, workers, Copying) else {
         return Err(Fault::OutOfMemory);
     };
     for ending in endings {
@@ -115,7 +115,7 @@ impl<R: Host> PoolUser<Plain<Zeros>, NoHook, NoHook, NoTime, R> for AddingOnes {
     type Output = Result<(), Fault>;
 
     fn run<L: Ledgers>(self, rt: &R, pool: &CounterPool<R, L>) -> Result<(), Fault> {
-        let Ok(mut waiter) = Waiter::new(rt) else {
+        let Ok(mut waiter) = Blocking::new(rt) else {
             return Err(Fault::OutOfMemory);
         };
         for _time in 0..self.times {

@@ -47,6 +47,8 @@ The first line makes the pool:
   config RUNTIME FIRST JSON            a managed pool by a configuration
   unmanaged MAX RUNTIME                an unmanaged pool
 
+Behind the words of a pool may stand `most N`: no more than N gets may wait, and of an unmanaged pool no more adds.
+
 Over a managed pool (P is a party, which is a get that has started; N an object; NOW a moment in nanoseconds):
 
   start            a get starts: party P                 get NOW      starts, and is polled at once
@@ -55,7 +57,8 @@ Over a managed pool (P is a party, which is a get that has started; N an object;
   back N           an object comes back                  take N       an object leaves the pool
   put N V          an object has another value           retain N ..  keeps these idle objects alone
   resize MAX       another limit                         close        closes the pool
-  status           how the pool stands                   clone, drop, upgrade   its handles
+  drain            closes it, and says what is left      clone, drop, upgrade   its handles
+  status           how the pool stands
   answer KIND WORD ..   how the manager and the hooks answer next: KIND create, recycle, pre, post or postcreate,
                         WORD ok, pending, refuse or add
 

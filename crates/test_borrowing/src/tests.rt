@@ -1,7 +1,9 @@
 //! What a future that borrows its pool does, beside one that is a handle.
+mod draining;
 mod drops;
-mod listeners;
 mod managed;
+mod registrations;
 mod threads;
+mod trying;
 mod unmanaged;
 mod waiters;

@@ -54,4 +54,20 @@ config none 0 {"max_size":1,"min_idle":-1} => error min_idle is not a whole numb
 config none 0 {"max_size":1,"min_idle":1.5} => error min_idle is not a whole number in range
 config none 0 {"max_size":1,"min_idle":18446744073709551616} => error min_idle is not a whole number in range
 config none 0 {"max_size":1,"min_idle":18446744073709551615} => ok
+
+# bound-of-a-configuration
+config none 0 {"max_size":1,"max_waiting":1} => ok
+start => party 0
+poll 0 0 => object 0 value 0
+start => party 1
+poll 1 0 => pending
+start => party 2
+poll 2 0 => error Too many gets wait for a slot
+
+# bounds-that-are-no-numbers
+config none 0 {"max_size":1,"min_idle":null,"max_waiting":-1} => error min_idle is not a whole number in range
+config none 0 {"max_size":1,"max_waiting":-1} => error max_waiting is not a whole number in range
+config none 0 {"max_size":1,"max_waiting":1.5} => error max_waiting is not a whole number in range
+config none 0 {"max_size":1,"max_waiting":18446744073709551616} => error max_waiting is not a whole number in range
+config none 0 {"max_size":1,"max_waiting":null} => ok
 "#;

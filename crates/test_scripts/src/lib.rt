@@ -5,9 +5,11 @@
 #![tactic(auto)]
 
 mod cancelled;
+mod closing;
 mod configuration;
 mod first_path;
 mod limits;
+mod max_waiting;
 mod min_idle;
 mod own_steps;
 mod preparation;
@@ -15,23 +17,26 @@ mod timeouts;
 mod unmanaged;
 
 pub use cancelled::CANCELLED;
+pub use closing::CLOSING;
 pub use configuration::CONFIGURATION;
 pub use first_path::FIRST_PATH;
 pub use limits::LIMITS;
+pub use max_waiting::MAX_WAITING;
 pub use min_idle::MIN_IDLE;
 pub use own_steps::OWN_STEPS;
 pub use preparation::PREPARATION;
 pub use timeouts::TIMEOUTS;
 pub use unmanaged::UNMANAGED;
 
-/// All texts over managed pools.
-pub const MANAGED: [&'static str; 8] = [
+/// All texts over managed pools whose lines are moves.
+pub const MANAGED: [&'static str; 9] = [
     FIRST_PATH,
     PREPARATION,
     TIMEOUTS,
     CANCELLED,
     OWN_STEPS,
     MIN_IDLE,
+    MAX_WAITING,
     LIMITS,
     CONFIGURATION,
 ];

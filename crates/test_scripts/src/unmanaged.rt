@@ -312,6 +312,56 @@ upgrade => none
 tryadd 3 => no handle
 poll 0 0 => added 1
 
+# one-more-is-refused
+unmanaged 1 none most 1 => ok
+get => party 0
+poll 0 0 => pending
+get => party 1
+poll 1 0 => error Too many wait already
+tryget => error Timeout occurred while waiting for an object to become available
+tryadd 1 => added 0
+get => party 2
+poll 2 0 => pending
+add 2 => party 3
+poll 3 0 => pending
+add 3 => party 4
+poll 4 0 => error Too many wait already value 3
+tryadd 4 => error Timeout occurred while waiting for an object to become available value 4
+poll 0 0 => object 0 value 1
+close => ok
+get => party 5
+poll 5 0 => error Pool has been closed
+
+# gets-and-adds-are-bounded-apart
+unmanaged 0 none most 1 => ok
+get => party 0
+poll 0 0 => pending
+add 1 => party 1
+poll 1 0 => pending
+get => party 2
+poll 2 0 => error Too many wait already
+add 2 => party 3
+poll 3 0 => error Too many wait already value 2
+cancel 0 => cancelled
+add 3 => party 4
+poll 4 0 => error Too many wait already value 3
+get => party 5
+poll 5 0 => pending
+status => max 0 size 0 available 0 waiting 1
+
+# nobody-may-wait
+unmanaged 1 none most 0 => ok
+get => party 0
+poll 0 0 => error Too many wait already
+get 0 => party 1
+poll 1 0 => error Timeout occurred while waiting for an object to become available
+add 1 => party 2
+poll 2 0 => added 0
+add 2 => party 3
+poll 3 0 => error Too many wait already value 2
+get => party 4
+poll 4 0 => object 0 value 1
+
 # no-room-in-a-pool-of-none
 unmanaged 0 clock => ok
 tryadd 1 => error Timeout occurred while waiting for an object to become available value 1

@@ -4,6 +4,7 @@ mod files;
 mod held;
 mod left_open;
 mod notes;
+mod pings;
 mod recycling;
 mod schemas;
 mod scripts;

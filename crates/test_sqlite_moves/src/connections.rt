@@ -3,8 +3,9 @@ use crate::question::{Question, ask};
 use crate::reply::Reply;
 use deadpool::managed::{Ledgers, Manager, NoHook, Object, ObjectId, Pool, PoolError};
 use deadpool::{NoTime, Status};
-use deadpool_sqlite::{GetConnection, PooledConnection, Source, SqliteManager, poll_connection};
-use futures::task::{Context, Doorbell, Poll, Solo};
+use deadpool_sqlite::{PooledConnection, Source, SqliteManager};
+use futures::Future;
+use futures::task::{Doorbell, Poll, Solo};
 use sqlite::Error;
 use std::random::RandomSource;
 use std::sync::Wait;
@@ -45,11 +46,7 @@ where
         &self,
         rt: &H,
     ) -> Option<Poll<Result<PooledConnection<B, NoTime, R, L>, PoolError<Error>>>> {
-        let Ok(task) = Solo::new(rt, Doorbell::spinning()) else {
-            return None;
-        };
-        let mut get = Pool::get(self);
-        Some(poll_once(&task, &mut get))
+        first_poll(self, rt)
     }
 
     fn status(&self) -> Status {
@@ -70,15 +67,25 @@ where
     }
 }
 
-// What comes of the first poll of a get.
-fn poll_once<B: Source, R: Wait + Drop, L: Ledgers>(
-    task: &Solo,
-    get: &mut GetConnection<B, NoTime, R, L>,
-) -> Poll<Result<PooledConnection<B, NoTime, R, L>, PoolError<Error>>> {
+// What comes of the first poll of a new get, at any manager. None if its task finds no memory.
+fn first_poll<M, R, L, H>(
+    pool: &Pool<M, NoHook, NoHook, NoTime, R, L>,
+    rt: &H,
+) -> Option<Poll<Result<Object<M, NoHook, NoHook, NoTime, R, L>, PoolError<M::Error>>>>
+where
+    M: Manager,
+    R: Wait + Drop,
+    L: Ledgers,
+    H: RandomSource + AllocGlobal,
+{
+    let Ok(task) = Solo::new(rt, Doorbell::spinning()) else {
+        return None;
+    };
+    let mut get = Pool::get(pool);
     let mut cx = task.begin();
-    let polled = poll_connection(get, &mut cx);
+    let polled = get.poll(&mut cx);
     cx.cancel();
-    polled
+    Some(polled)
 }
 
 // The number of an object of any manager, and how often it was recycled.

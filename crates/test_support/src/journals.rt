@@ -9,7 +9,8 @@ use std::test::Fail;
 
 /// A new pool that opens as the journal says.
 pub fn opened(alloc: Global, journal: &Journal) -> Result<Core<()>, AllocError> {
-    Core::new(alloc, journal.limit, journal.mode, 0, journal.min_idle)
+    let core = Core::new(alloc, journal.limit, journal.mode, 0, journal.min_idle)?;
+    Ok(core.bounded(journal.max_waiting))
 }
 
 /// A new pool that opens as the journal says makes each step of it. None if one of them is answered otherwise.

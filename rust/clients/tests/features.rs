@@ -1,6 +1,6 @@
 //! What each feature has: tokio's and async-std's own timers and threads, names, and configurations in JSON.
 use deadpool::managed::{
-    Manager, Metrics, Pool, PoolConfig, PoolError, QueueMode, RecycleResult, TimeoutType, Timeouts,
+    Limits, Manager, Metrics, Pool, PoolConfig, PoolError, QueueMode, RecycleResult, TimeoutType, Timeouts,
 };
 use deadpool::{Runtime, SpawnBlockingError, unmanaged};
 use std::convert::Infallible;
@@ -44,7 +44,8 @@ async fn an_hour_of_tokios_paused_clock_passes_at_once() {
     assert!((HOUR..HOUR + SOON).contains(&begun_there.elapsed()));
     let creates = pool(true, Runtime::Tokio1, all);
     assert!(matches!(creates.get().await, Err(PoolError::Timeout(TimeoutType::Create))));
-    let config = unmanaged::PoolConfig { max_size: 1, timeout: Some(HOUR), runtime: Some(Runtime::Tokio1) };
+    let config =
+        unmanaged::PoolConfig { timeout: Some(HOUR), runtime: Some(Runtime::Tokio1), ..unmanaged::PoolConfig::new(1) };
     let empty = unmanaged::Pool::<u8>::from_config(&config);
     assert!(matches!(empty.get().await, Err(unmanaged::PoolError::Timeout)));
     assert_eq!(Runtime::Tokio1.timeout(HOUR, pending::<u8>()).await, None);
@@ -105,9 +106,32 @@ fn configurations_are_read_and_written() {
     assert_eq!((config.max_size, config.queue_mode, config.timeouts.wait), (4, QueueMode::Fifo, None));
     assert!(serde_json::from_str::<PoolConfig>(r#"{"max_size":4,"queue_mode":"lifo"}"#).is_err());
     assert!(serde_json::from_str::<PoolConfig>("{}").is_err(), "the limit has no default");
-    let config = unmanaged::PoolConfig { max_size: 5, timeout: Some(HOUR), runtime: Some(Runtime::Tokio1) };
+    let config =
+        unmanaged::PoolConfig { timeout: Some(HOUR), runtime: Some(Runtime::Tokio1), ..unmanaged::PoolConfig::new(5) };
     let text = serde_json::to_string(&config).expect("a text");
     assert_eq!(text, r#"{"max_size":5,"timeout":{"secs":3600,"nanos":0}}"#);
     let config: unmanaged::PoolConfig = serde_json::from_str(&text).expect("a configuration");
     assert_eq!((config.max_size, config.timeout, config.runtime), (5, Some(HOUR), None));
+}
+
+#[test]
+fn a_bound_is_written_if_it_is_set() {
+    let config = PoolConfig { max_waiting: Some(0), ..PoolConfig::new(3) };
+    let text = serde_json::to_string(&config).expect("a text");
+    assert!(text.ends_with(r#","queue_mode":"Fifo","max_waiting":0}"#), "{text}");
+    let read: PoolConfig = serde_json::from_str(&text).expect("a configuration");
+    assert_eq!(read.max_waiting, Some(0));
+    let config = unmanaged::PoolConfig { max_waiting: Some(7), ..unmanaged::PoolConfig::new(3) };
+    let text = serde_json::to_string(&config).expect("a text");
+    assert_eq!(text, r#"{"max_size":3,"timeout":null,"max_waiting":7}"#);
+    let read: unmanaged::PoolConfig = serde_json::from_str(&text).expect("a configuration");
+    assert_eq!(read.max_waiting, Some(7));
+    for text in [r#"{"max_size":3,"timeout":null}"#, r#"{"max_size":3,"timeout":null,"max_waiting":null}"#] {
+        let managed: PoolConfig = serde_json::from_str(text).expect("a configuration");
+        let unmanaged: unmanaged::PoolConfig = serde_json::from_str(text).expect("a configuration");
+        assert_eq!((managed.max_waiting, unmanaged.max_waiting), (None, None));
+    }
+    assert!(serde_json::from_str::<PoolConfig>(r#"{"max_size":3,"max_waiting":-1}"#).is_err());
+    let limits: Limits = serde_json::from_str(r#"{"uses":3}"#).expect("what is not there is no limit");
+    assert_eq!(limits, Limits::none().uses(3));
 }

@@ -1,11 +1,8 @@
 //! Four threads share two numbers.
 use deadpool::managed::{Manager, Metrics, Pool, RecycleResult};
+use deadpool::wait;
 use std::convert::Infallible;
-use std::future::Future;
-use std::pin::pin;
-use std::sync::Arc;
-use std::task::{Context, Poll, Wake, Waker};
-use std::thread::{self, Thread};
+use std::thread;
 
 /// Makes numbers that begin at 0, and hands out each again as it came back.
 struct Zeros;
@@ -20,26 +17,6 @@ impl Manager for Zeros {
 
     async fn recycle(&self, _number: &mut u64, _metrics: &Metrics) -> RecycleResult<Infallible> {
         Ok(())
-    }
-}
-
-/// Wakes a thread that waits. In a program of its own an executor does this.
-struct Unpark(Thread);
-
-impl Wake for Unpark {
-    fn wake(self: Arc<Self>) {
-        self.0.unpark();
-    }
-}
-
-fn wait<F: Future>(future: F) -> F::Output {
-    let mut future = pin!(future);
-    let waker = Waker::from(Arc::new(Unpark(thread::current())));
-    loop {
-        match future.as_mut().poll(&mut Context::from_waker(&waker)) {
-            Poll::Ready(output) => return output,
-            Poll::Pending => thread::park(),
-        }
     }
 }
 

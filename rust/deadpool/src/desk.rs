@@ -1,12 +1,17 @@
 //! What the lock, the queue and the handles ask of a core, under one name for both pools.
 //!
 //! The steps of gets, objects and adds are no part of it: each pool makes those of its own core.
-use crate::cores::desk::{OwnerDesk, OwnerReply, OwnerStep, Slot};
+use crate::cores::desk::{OwnerDesk, Slot};
 use crate::cores::gate::gate::Ticket;
-use crate::cores::journal::Journaled;
-use crate::cores::parts::HandleReply;
-use crate::cores::unmanaged::Core;
+use crate::cores::parts::Status;
+use crate::cores::unmanaged_journal::Nameless;
+use crate::cores::{desk, journal, unmanaged_journal};
 use crate::parcel::Parcel;
+
+/// The core of a managed pool.
+pub(crate) type Managed<T> = journal::Journaled<T>;
+/// The core of an unmanaged one. Its objects are its users' values, so they have no names in its journal.
+pub(crate) type Unmanaged<T> = unmanaged_journal::Journaled<T, Nameless>;
 
 /// A core, as what both pools have in common sees it.
 pub(crate) trait Desk {
@@ -24,6 +29,10 @@ pub(crate) trait Desk {
     /// The idle object at a position, counted from the front.
     fn idle(&self, at: usize) -> Option<&Parcel<Self::Value>>;
     fn shut(&mut self);
+    fn has_shut(&self) -> bool;
+    /// Whether it has shut and nothing is left, idle, out or under way. It stays so.
+    fn is_drained(&self) -> bool;
+    fn status(&mut self) -> Status;
     /// Whether one handle is left.
     fn is_last(&self) -> bool;
     /// A handle more, if one is left, and whether one was.
@@ -31,12 +40,12 @@ pub(crate) trait Desk {
     fn uncount_handle(&mut self);
 }
 
-/// Has a core be a desk: which calls name those that are due, where the parcel of an idle object is, and how the pool closes and
-/// handles are counted.
+/// Has a core be a desk: where the steps of its owner are from, which calls name those that are due, where the parcel of an idle
+/// object is, what is asked for it and for the handles, and when the pool is drained.
 macro_rules! desk_of {
     (
-        $core:ident, $next_get:ident $(and $next_add:ident)?, $parcel:ident in $idle:pat,
-        $desk:ident: $close:expr, $count:expr, $uncount:expr
+        $core:ident, steps of $steps:ident, $next_get:ident $(and $next_add:ident)?, $parcel:ident in $idle:pat,
+        $desk:ident: $state:expr, $is_drained:expr
     ) => {
         impl<V> Desk for $core<Parcel<V>> {
             type Value = V;
@@ -55,39 +64,49 @@ macro_rules! desk_of {
             })?
 
             fn idle(&self, at: usize) -> Option<&Parcel<V>> {
-                self.idle_at(at).map(|$idle| $parcel)
+                let $desk = self;
+                $state.idle_at(at).map(|$idle| $parcel)
             }
 
             fn shut(&mut self) {
+                self.make_for_owner(&$steps::OwnerStep::Close);
+            }
+
+            fn has_shut(&self) -> bool {
+                self.is_closed()
+            }
+
+            fn is_drained(&self) -> bool {
                 let $desk = self;
-                $close;
+                $is_drained
+            }
+
+            fn status(&mut self) -> Status {
+                match self.make_for_owner(&$steps::OwnerStep::Status) {
+                    $steps::OwnerReply::Stands(status) => status,
+                    reply => unreachable!("{reply:?} is no reply to how the pool stands"),
+                }
             }
 
             fn is_last(&self) -> bool {
-                self.is_last_handle()
+                let $desk = self;
+                $state.is_last_handle()
             }
 
             #[inline]
             fn count_handle(&mut self) -> bool {
-                let $desk = self;
-                $count
+                self.make_for_owner(&$steps::OwnerStep::CloneHandle) == $steps::OwnerReply::Done
             }
 
             #[inline]
             fn uncount_handle(&mut self) {
-                let $desk = self;
-                $uncount;
+                self.make_for_owner(&$steps::OwnerStep::DropHandle);
             }
         }
     };
 }
+desk_of!(Managed, steps of desk, take_wake, value in Slot { value, .. }, desk: desk, desk.is_drained());
 desk_of!(
-    Journaled, take_wake, value in Slot { value, .. },
-    desk: desk.make_for_owner(&OwnerStep::Close),
-    desk.make_for_owner(&OwnerStep::CloneHandle) == OwnerReply::Done,
-    desk.make_for_owner(&OwnerStep::DropHandle)
-);
-desk_of!(
-    Core, take_get_wake and take_add_wake, parcel in parcel,
-    desk: desk.close(), desk.clone_handle() == HandleReply::Done, desk.drop_handle()
+    Unmanaged, steps of unmanaged_journal, take_get_wake and take_add_wake, parcel in parcel,
+    desk: desk.core, desk.is_closed() && desk.core.counts().size == 0
 );

@@ -1,4 +1,7 @@
-//! Texts and causes of errors, and the error that both pools have.
+//! Texts and causes of errors, the error that both pools have, and errors under a pool's name.
+use std::borrow::Cow;
+use std::error::Error;
+use std::fmt;
 
 /// Gives an error its texts, and says which of its kinds have a cause.
 macro_rules! error_texts {
@@ -31,3 +34,27 @@ pub struct OutOfMemory;
 error_texts! { OutOfMemory {
     Self => "Out of memory",
 } }
+
+/// An error under the name of the pool that it came from, as [`Pool::named`](crate::managed::Pool::named) gives it. It is printed as
+/// `pool orders: Pool has been closed`; without a name it has the error's own text.
+#[derive(Clone, Debug, PartialEq, Eq)]
+pub struct Named<E> {
+    /// The pool's name, if it has one.
+    pub name: Option<Cow<'static, str>>,
+    /// The error.
+    pub error: E,
+}
+
+impl<E: fmt::Display> fmt::Display for Named<E> {
+    fn fmt(&self, f: &mut fmt::Formatter<'_>) -> fmt::Result {
+        self.name.iter().try_for_each(|name| write!(f, "pool {name}: "))?;
+        self.error.fmt(f)
+    }
+}
+
+/// Its source is that of the error, whose text it has already.
+impl<E: Error> Error for Named<E> {
+    fn source(&self) -> Option<&(dyn Error + 'static)> {
+        self.error.source()
+    }
+}

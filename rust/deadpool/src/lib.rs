@@ -10,7 +10,9 @@
 mod blocking;
 mod cores;
 mod desk;
+mod ending;
 mod errors;
+mod journal;
 mod lends;
 #[cfg(feature = "managed")]
 pub mod managed;
@@ -18,11 +20,18 @@ mod parcel;
 mod rattle;
 mod runtime;
 mod shared;
+#[cfg(feature = "serde")]
+mod strict;
 mod timed;
 #[cfg(feature = "unmanaged")]
 pub mod unmanaged;
+mod wait;
 mod waiting;
 
 pub use blocking::SpawnBlockingError;
 pub use cores::parts::Status;
+pub use errors::Named;
 pub use runtime::{Runtime, Sleep, Timers};
+#[cfg(feature = "serde")]
+pub use strict::Strict;
+pub use wait::wait;

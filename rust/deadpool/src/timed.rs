@@ -18,6 +18,7 @@ pub(crate) enum Alarm {
 
 impl Alarm {
     /// An alarm after so long, if there is a timeout. None if it needs a runtime and there is none.
+    #[inline(always)]
     pub(crate) fn after(timeout: Option<Duration>, runtime: Option<Runtime>) -> Option<Self> {
         timeout.map_or(Some(Alarm::Unset), |duration| Some(Alarm::Set(duration, runtime?)))
     }

@@ -1,4 +1,4 @@
-//! Those that wait: their wakers by ticket, and how one asks, waits and leaves.
+//! Those that wait in a queue: their wakers by ticket, and how one asks, waits and leaves.
 use crate::cores::gate::gate::Ticket;
 use crate::desk::Desk;
 use crate::errors::OutOfMemory;
@@ -7,24 +7,34 @@ use crate::timed::Alarm;
 use std::future::poll_fn;
 use std::task::{Poll, Waker};
 
-/// The wakers of those that wait in a queue, by ticket.
+/// The wakers of those that wait, by ticket, or by a place of their own.
 #[derive(Default)]
 pub(crate) struct Wakers(Vec<Option<Waker>>);
 
 impl Wakers {
     /// Keeps a waker, and gives back the one that it replaces.
-    fn keep(&mut self, ticket: Ticket, waker: &Waker) -> Result<Option<Waker>, OutOfMemory> {
-        let more = (ticket.number() + 1).saturating_sub(self.0.len());
+    pub(crate) fn keep(&mut self, at: usize, waker: &Waker) -> Result<Option<Waker>, OutOfMemory> {
+        let more = (at + 1).saturating_sub(self.0.len());
         self.0.try_reserve(more).map_err(|_| OutOfMemory)?;
         self.0.extend(std::iter::repeat_n(None, more));
-        match &mut self.0[ticket.number()] {
+        match &mut self.0[at] {
             Some(kept) if kept.will_wake(waker) => Ok(None),
             place => Ok(place.replace(waker.clone())),
         }
     }
 
-    pub(crate) fn take(&mut self, ticket: Ticket) -> Option<Waker> {
-        self.0.get_mut(ticket.number())?.take()
+    pub(crate) fn take(&mut self, at: usize) -> Option<Waker> {
+        self.0.get_mut(at)?.take()
+    }
+
+    /// A place that nobody has.
+    pub(crate) fn free_place(&self) -> usize {
+        self.0.iter().position(Option::is_none).unwrap_or(self.0.len())
+    }
+
+    /// Takes one of them.
+    pub(crate) fn pop(&mut self) -> Option<Waker> {
+        std::iter::from_fn(|| self.0.pop()).find_map(|waker| waker)
     }
 }
 
@@ -63,13 +73,13 @@ impl<C, D: Desk> Waiting<'_, C, D> {
                 let (polled, stale) = pool.step(|state| match step(&mut state.desk, asked) {
                     Turn::Waits(given) => {
                         *ticket = Some(given);
-                        match wakers(state).keep(given, cx.waker()) {
+                        match wakers(state).keep(given.number(), cx.waker()) {
                             Ok(replaced) => (Poll::Pending, replaced),
                             Err(OutOfMemory) => (Poll::Ready(refused()), None),
                         }
                     }
                     Turn::Ended(reply) => {
-                        let stale = ticket.take().and_then(|ticket| wakers(state).take(ticket));
+                        let stale = ticket.take().and_then(|ticket| wakers(state).take(ticket.number()));
                         (Poll::Ready(reply), stale)
                     }
                 });
@@ -84,12 +94,13 @@ impl<C, D: Desk> Waiting<'_, C, D> {
 }
 
 impl<C, D: Desk> Drop for Waiting<'_, C, D> {
+    #[inline]
     fn drop(&mut self) {
         if let Some(ticket) = self.ticket {
             // (the waker is dropped once the lock is given back)
             drop(self.pool.step(|state| {
                 (self.cancel)(&mut state.desk, ticket);
-                (self.wakers)(state).take(ticket)
+                (self.wakers)(state).take(ticket.number())
             }));
         }
     }

@@ -174,9 +174,10 @@ fn an_unmanaged_pool_is_dropped_with_its_last_holder() {
             vec![outlives]
         }),
     ];
-    for (name, way) in ways {
+    for (journal, (name, way)) in [0, 9].into_iter().flat_map(|journal| ways.map(|way| (journal, way))) {
         let alive = Alive::default();
-        let pool = unmanaged::Pool::from([alive.clone(), alive.clone()]);
+        let pool = unmanaged::Pool::from_config(&unmanaged::PoolConfig { journal, ..unmanaged::PoolConfig::new(2) });
+        assert!(pool.try_add(alive.clone()).is_ok() && pool.try_add(alive.clone()).is_ok());
         drop((take(&pool), pool.clone()));
         let outlives = way(&pool);
         drop(pool);

@@ -33,6 +33,7 @@ fn a_journal_has_each_step_with_its_reply() {
     ];
     assert_eq!(journal.entries, entries);
     assert!(!journal.is_full);
+    assert_eq!(journal.to_string(), format!("opened 1 fifo 0\n{}", entries.join("\n")));
     assert!(matches!(block_on(pool.get()), Err(PoolError::Closed)));
     drop(pool.clone());
     assert!(pool.journal().is_full);

@@ -3,7 +3,7 @@ mod common;
 
 use common::{Numbers, block_on, is_answered};
 use deadpool::managed::{
-    Hook, HookError, Manager, Metrics, Object, Pool, RecycleError, RecycleResult, Timeouts, WeakPool,
+    Hook, HookError, Limits, Manager, Metrics, Object, Pool, RecycleError, RecycleResult, Timeouts, WeakPool,
 };
 use deadpool::unmanaged;
 use deadpool::{Runtime, Sleep, Timers};
@@ -53,6 +53,41 @@ fn a_waker_may_call_an_unmanaged_pool() {
     assert!(get.as_mut().poll(&mut Context::from_waker(&waker)).is_pending());
     drop(held);
     assert!(get.as_mut().poll(&mut Context::from_waker(&waker)).is_ready());
+}
+
+#[test]
+fn wakers_of_a_drain_and_a_keeper_may_call_the_pool() {
+    let pool: Pool<Numbers> = Pool::builder(Numbers::default()).max_size(1).build().expect("a pool");
+    let held = block_on(pool.get()).expect("an object");
+    let curious = |pool: &Pool<Numbers>| {
+        let asked = pool.clone();
+        Curious::waker(move || assert!(asked.is_closed()))
+    };
+    let (of_keeper, of_drain) = (curious(&pool), curious(&pool));
+    let mut keeper = pin!(pool.keeper(Limits::none(), Duration::from_secs(3600)));
+    assert!(keeper.as_mut().poll(&mut Context::from_waker(&of_keeper)).is_pending());
+    let mut drain = pin!(pool.drain());
+    assert!(drain.as_mut().poll(&mut Context::from_waker(&of_drain)).is_pending());
+    drop(held);
+    assert!(keeper.as_mut().poll(&mut Context::from_waker(Waker::noop())).is_ready());
+    assert!(drain.as_mut().poll(&mut Context::from_waker(Waker::noop())).is_ready());
+}
+
+#[test]
+fn a_waker_of_a_drain_that_is_not_needed_any_more_is_dropped_without_the_lock() {
+    let pool: Pool<Numbers> = Pool::builder(Numbers::default()).max_size(1).build().expect("a pool");
+    let held = block_on(pool.get()).expect("an object");
+    let answered = Arc::new(AtomicUsize::new(0));
+    let parting = || Waker::from(Arc::new(Parting { pool: pool.weak(), answered: answered.clone() }));
+    {
+        let mut drain = pin!(pool.drain());
+        for replaced in 0..2 {
+            assert!(drain.as_mut().poll(&mut Context::from_waker(&parting())).is_pending());
+            assert_eq!(answered.load(Ordering::SeqCst), replaced);
+        }
+    }
+    assert_eq!(answered.load(Ordering::SeqCst), 2);
+    drop(held);
 }
 
 /// A waker that asks the pool how it stands when it is dropped, and notes how often it had an answer.

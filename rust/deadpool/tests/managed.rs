@@ -140,7 +140,7 @@ fn a_configuration_is_what_a_pool_goes_by() {
         create: Some(Duration::from_secs(2)),
         recycle: Some(Duration::from_secs(3)),
     };
-    let config = PoolConfig { max_size: 42, timeouts, queue_mode: QueueMode::Lifo };
+    let config = PoolConfig { max_size: 42, timeouts, queue_mode: QueueMode::Lifo, max_waiting: None };
     let builder = Pool::<Numbers>::builder(Numbers::default()).config(config);
     assert_eq!(
         builder.build().expect_err("no runtime").to_string(),

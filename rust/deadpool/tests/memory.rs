@@ -169,8 +169,9 @@ fn use_managed(entries: usize) {
     drop(outlives);
 }
 
-fn use_unmanaged() {
-    let pool = unmanaged::Pool::from([Box::new(1), Box::new(2)]);
+fn use_unmanaged(journal: usize) {
+    let pool = unmanaged::Pool::from_config(&unmanaged::PoolConfig { journal, ..unmanaged::PoolConfig::new(2) });
+    assert!(pool.try_add(Box::new(1)).is_ok() && pool.try_add(Box::new(2)).is_ok());
     let [first, second] = [pool.try_get(), pool.try_get()].map(|object| object.expect("an object"));
     let mut waits: Vec<_> = (0..3).map(|_| Task::new(pool.get())).collect();
     waits.iter_mut().for_each(|task| assert!(task.poll().is_pending()));
@@ -189,10 +190,10 @@ fn use_unmanaged() {
 
 #[test]
 fn all_memory_is_given_back() {
-    let uses: [fn(); 3] = [|| use_managed(0), || use_managed(9), use_unmanaged];
+    let uses: [fn(); 4] = [|| use_managed(0), || use_managed(9), || use_unmanaged(0), || use_unmanaged(9)];
     // (the first time a thread's own values are made, which stay)
     uses.iter().for_each(|use_pool| use_pool());
-    assert_eq!(uses.map(left_in_use), [0, 0, 0]);
+    assert_eq!(uses.map(left_in_use), [0; 4]);
 }
 
 #[test]
@@ -206,4 +207,22 @@ fn a_pool_of_objects_panics_if_one_finds_no_memory() {
         assert!(made.is_err(), "an object is dropped, and nothing says so");
     }
     assert_eq!(unmanaged::Pool::from(vec![1, 2]).status().available, 2);
+}
+
+#[test]
+fn drains_that_find_no_memory_for_their_wakers_ask_again_at_once() {
+    let pool = pool(1);
+    let held = common::block_on(pool.get()).expect("an object");
+    let (mut first, mut second) = (Task::new(pool.drain()), Task::new(pool.drain()));
+    // (a poll that closes the pool takes memory for nothing else)
+    let (polled, was_refused) = refusing(0, || first.poll());
+    assert!(polled.is_pending() && was_refused);
+    assert_eq!(first.woken(), 1);
+    assert!(second.poll().is_pending());
+    assert!(first.poll().is_pending());
+    assert_eq!((first.woken(), second.woken()), (1, 0));
+    drop(held);
+    assert_eq!((first.woken(), second.woken()), (2, 1));
+    first.ready();
+    second.ready();
 }

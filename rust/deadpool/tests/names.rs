@@ -4,8 +4,9 @@ mod common;
 
 use common::{Numbers, block_on};
 use deadpool::managed::{
-    BuildError, CreatePoolError, Hook, HookError, HookFuture, HookResult, Metrics, Object, ObjectId, Pool, PoolBuilder,
-    PoolConfig, PoolError, QueueMode, RecycleError, RecycleResult, RetainResult, Timeouts, WeakPool,
+    BuildError, CreatePoolError, Hook, HookError, HookFuture, HookResult, Journal, Limits, Metrics, Object, ObjectId,
+    Pool, PoolBuilder, PoolConfig, PoolError, QueueMode, RecycleError, RecycleResult, Report, RetainResult, Tally,
+    Timeouts, WeakPool,
 };
 use deadpool::{Runtime, Status, unmanaged};
 use std::convert::Infallible;
@@ -84,7 +85,7 @@ fn values_have_their_fields_and_traits() {
     is_equal::<Runtime>();
     is_plain::<unmanaged::PoolConfig>();
     let _: fn(usize) -> PoolConfig = PoolConfig::new;
-    let PoolConfig { max_size: _, timeouts, queue_mode: QueueMode::Fifo } = PoolConfig::default() else {
+    let PoolConfig { max_size: _, timeouts, queue_mode: QueueMode::Fifo, .. } = PoolConfig::default() else {
         panic!("the one that came back first is next")
     };
     let Timeouts { wait: None, create: None, recycle: None } = timeouts else { panic!("no timeout is set") };
@@ -163,9 +164,40 @@ fn an_unmanaged_pool_has_its_calls() {
     let _: fn(&Items) -> Status = Items::status;
     let _: fn(unmanaged::Object<u64>) -> u64 = unmanaged::Object::take;
     let _: fn(usize) -> unmanaged::PoolConfig = unmanaged::PoolConfig::new;
-    let unmanaged::PoolConfig { max_size: _, timeout: None, runtime: None } = unmanaged::PoolConfig::default() else {
+    let unmanaged::PoolConfig { max_size: _, timeout: None, runtime: None, .. } = unmanaged::PoolConfig::default()
+    else {
         panic!("nothing else is set")
     };
+}
+
+#[test]
+fn what_is_this_crates_own_has_its_names() {
+    type Items = unmanaged::Pool<u64>;
+    let pool: Pool<Numbers> = Pool::builder(Numbers::default()).name("own").build().expect("a pool");
+    gives::<Result<Object<Numbers>, PoolError<Infallible>>>(pool.try_get());
+    gives::<()>(pool.drain());
+    gives::<Result<(), Status>>(pool.drain_for(Duration::ZERO));
+    fn is_free(_: impl Future<Output = ()> + Send + 'static) {}
+    is_free(pool.keeper(Limits::none(), Duration::ZERO));
+    let items = Items::new(1);
+    gives::<()>(items.drain());
+    gives::<Result<(), Status>>(items.drain_for(Duration::ZERO));
+    let _: fn(PoolBuilder<Numbers>, Option<usize>) -> PoolBuilder<Numbers> = PoolBuilder::max_waiting;
+    let _: fn(PoolBuilder<Numbers>, usize) -> PoolBuilder<Numbers> = PoolBuilder::journal;
+    let _: fn(&Pool<Numbers>) -> Journal = Pool::journal;
+    let _: fn(&Items) -> unmanaged::Journal = Items::journal;
+    let unmanaged::PoolConfig { max_waiting: None, journal: 0, .. } = unmanaged::PoolConfig::new(1) else {
+        panic!("nothing is set")
+    };
+    let _: fn(&Pool<Numbers>) -> Option<&str> = Pool::name;
+    let _: fn(&Object<Numbers>) -> Duration = Object::waited;
+    let _: for<'a> fn(&'a Pool<Numbers>) -> Report<'a> = Pool::tally;
+    is_plain::<Limits>();
+    is_plain::<Tally>();
+    let _: fn(Limits) -> Hook<Numbers> = Hook::from;
+    let _: fn(&Limits, &Metrics, Instant) -> bool = Limits::allow;
+    let _: fn(std::future::Ready<u8>) -> u8 = deadpool::wait;
+    assert!(matches!(PoolError::<Infallible>::Crowded.source(), None));
 }
 
 /// A crate of a backend, as those over deadpool are written.

@@ -150,7 +150,7 @@ fn a_timeout_begins_when_its_phase_first_waits_and_once() {
 
 #[test]
 fn a_call_on_an_unmanaged_pool_goes_by_its_own_timeout_or_by_that_of_the_pool() {
-    let config = unmanaged::PoolConfig { max_size: 1, timeout: seconds(11), runtime: Some(NOTING) };
+    let config = unmanaged::PoolConfig { timeout: seconds(11), runtime: Some(NOTING), ..unmanaged::PoolConfig::new(1) };
     let pool = unmanaged::Pool::<u8>::from_config(&config);
     let is_late = |ended: Option<unmanaged::PoolError>, asked_for: u64| {
         assert_eq!((ended, asked()), (Some(unmanaged::PoolError::Timeout), vec![asked_for]));

@@ -111,7 +111,7 @@ fn a_wait_needs_a_runtime() {
     let get = |timeout| block_on(pool.timeout_get(timeout)).map(drop);
     assert_eq!(get(Some(Duration::from_millis(1))), Err(PoolError::NoRuntimeSpecified));
     assert_eq!(get(Some(Duration::ZERO)), Err(PoolError::Timeout));
-    let config = PoolConfig { max_size: 1, timeout: Some(Duration::from_millis(1)), runtime: None };
+    let config = PoolConfig { timeout: Some(Duration::from_millis(1)), ..PoolConfig::new(1) };
     let pool = Pool::<()>::from_config(&config);
     assert_eq!(block_on(pool.get()).map(drop), Err(PoolError::NoRuntimeSpecified));
 }
@@ -119,7 +119,7 @@ fn a_wait_needs_a_runtime() {
 #[test]
 fn a_wait_runs_out_of_time() {
     let timeout = Some(Duration::from_millis(1));
-    let config = PoolConfig { max_size: 1, timeout, runtime: Some(Runtime::Thread) };
+    let config = PoolConfig { timeout, runtime: Some(Runtime::Thread), ..PoolConfig::new(1) };
     let pool = Pool::<()>::from_config(&config);
     assert_eq!(block_on(pool.timeout_get(timeout)).map(drop), Err(PoolError::Timeout));
     assert_eq!(block_on(pool.get()).map(drop), Err(PoolError::Timeout));

@@ -63,6 +63,9 @@ class Script:
     def wait(self):
         return self.dice.choice(["-", "-", "0", "1", "5", "5", "20"])
 
+    def bound(self):
+        return self.dice.choice(["", "", "", " most 0", " most 1", " most 2"])
+
     def common(self, kind):
         dice = self.dice
         if kind == "poll":
@@ -91,7 +94,7 @@ class Managed(Script):
         dice = self.dice
         self.first = dice.choice([0, 0, 0, 7])
         floor = dice.choice(["", "", f" {dice.randrange(3)}"])
-        return f"pool {dice.choice([0, 1, 1, 2, 2, 3, 4])} {dice.choice(['fifo', 'lifo'])} {dice.choice(['none', 'clock', 'clock'])} {self.first}{floor}"
+        return f"pool {dice.choice([0, 1, 1, 2, 2, 3, 4])} {dice.choice(['fifo', 'lifo'])} {dice.choice(['none', 'clock', 'clock'])} {self.first}{floor}{self.bound()}"
 
     def line(self):
         dice, kind = self.dice, self.dice.choice(self.kinds)
@@ -118,7 +121,7 @@ class Unmanaged(Script):
     first = 0
 
     def opening(self):
-        return f"unmanaged {self.dice.choice([0, 1, 1, 2, 2, 3, 4])} {self.dice.choice(['none', 'clock', 'clock'])}"
+        return f"unmanaged {self.dice.choice([0, 1, 1, 2, 2, 3, 4])} {self.dice.choice(['none', 'clock', 'clock'])}{self.bound()}"
 
     def line(self):
         kind = self.dice.choice(self.kinds)

@@ -84,6 +84,14 @@ fn number<N: std::str::FromStr>(word: &str) -> Option<N> {
     is_number.then(|| word.parse().ok()).flatten()
 }
 
+/// The words of a pool's line without those of its bound on the queue, and that bound, if it has one.
+fn bounded<'a, 'b>(words: &'a [&'b str]) -> Option<(&'a [&'b str], Option<usize>)> {
+    match words {
+        [before @ .., "most", most] => Some((before, Some(number(most)?))),
+        _ => Some((words, None)),
+    }
+}
+
 /// A duration in nanoseconds, or none.
 fn duration(word: &str) -> Option<Option<std::time::Duration>> {
     match word {

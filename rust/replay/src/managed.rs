@@ -1,12 +1,13 @@
 //! A script over a managed pool.
 use crate::answers::{Answer, KINDS, Refused, Script, Value};
-use crate::{MOST_PARTIES, Reply, clock, duration, number, status};
+use crate::{MOST_PARTIES, Reply, bounded, clock, duration, number, status};
 use deadpool::managed::{Object, Pool, PoolError, QueueMode, Timeouts, WeakPool};
 use std::collections::{BTreeMap, BTreeSet, HashMap};
 use std::future::Future;
-use std::pin::Pin;
+use std::pin::{Pin, pin};
 use std::sync::Arc;
 use std::task::{Context, Poll, Waker};
+use std::time::Duration;
 
 type Get = Pin<Box<dyn Future<Output = Result<Object<Script>, PoolError<Refused>>>>>;
 
@@ -30,6 +31,7 @@ pub struct ManagedPlayer {
 
 impl ManagedPlayer {
     pub fn open(words: &[&str]) -> Option<Result<Self, String>> {
+        let (words, max_waiting) = bounded(words)?;
         let (&[max, mode, runtime, first], rest) = words.split_first_chunk()?;
         let mode = match mode {
             "fifo" => QueueMode::Fifo,
@@ -46,6 +48,7 @@ impl ManagedPlayer {
             .max_size(number(max)?)
             .queue_mode(mode)
             .min_idle(min_idle)
+            .max_waiting(max_waiting)
             .pre_recycle(script.hook(2))
             .post_recycle(script.hook(3))
             .post_create(script.hook(4));
@@ -89,6 +92,7 @@ impl ManagedPlayer {
                 pool.close();
                 Reply::said("ok")
             }),
+            ["drain"] => self.drain(),
             ["status"] => self.on_handle(|pool| status(pool.status())),
             ["clone"] => self.clone_handle(),
             ["drop"] => self.drop_handle(),
@@ -210,6 +214,19 @@ impl ManagedPlayer {
             };
             let removed: String = result.removed.iter().map(|value| format!(" {}", value.number)).collect();
             Reply::said(format!("retained {} removed{removed}", result.retained))
+        })
+    }
+
+    /// How much of what is left is in gets that are under way, no call tells.
+    fn drain(&self) -> Reply {
+        let is_under_way = self.parties.iter().any(|party| matches!(party, Party::Going(_)));
+        self.on_handle(|pool| {
+            let drain = pin!(pool.drain_for(Duration::ZERO));
+            match drain.poll(&mut Context::from_waker(Waker::noop())) {
+                Poll::Ready(Ok(())) => Reply::said("drained"),
+                Poll::Ready(Err(status)) if !is_under_way => Reply::said(format!("left {}", status.size)),
+                _ => Reply::NotExpressible,
+            }
         })
     }
 

@@ -1,6 +1,6 @@
 //! A script over an unmanaged pool.
 use crate::answers::{Script, Value};
-use crate::{MOST_PARTIES, Reply, clock, duration, number, status};
+use crate::{MOST_PARTIES, Reply, bounded, clock, duration, number, status};
 use deadpool::unmanaged::{Object, Pool, PoolConfig, PoolError};
 use std::collections::{BTreeMap, HashMap};
 use std::future::Future;
@@ -32,10 +32,10 @@ pub struct UnmanagedPlayer {
 
 impl UnmanagedPlayer {
     pub fn open(words: &[&str]) -> Option<Result<Self, String>> {
-        let &[max, runtime] = words else {
+        let (&[max, runtime], max_waiting) = bounded(words)? else {
             return None;
         };
-        let config = PoolConfig { max_size: number(max)?, timeout: None, runtime: clock::runtime(runtime)? };
+        let config = PoolConfig { runtime: clock::runtime(runtime)?, max_waiting, ..PoolConfig::new(number(max)?) };
         let made = Pool::try_from_config(&config).map_err(|cause| cause.to_string());
         Some(made.map(|pool| UnmanagedPlayer {
             script: Script::default(),

@@ -1,9 +1,10 @@
 //! What a core says of itself between two steps: its handles, its counts, its idle objects, and who in the queue has a
 //! place.
-ghost use Rattle.std.specs.Prelude.{◌≡◌, ◌≤◌, ◌&&◌, ◌==◌, not, nat_lt, nat_le, option_copied, slice_get};
+ghost use Rattle.std.specs.Prelude.{◌≡◌, ◌&&◌, ◌==◌, not, length, nat_lt, option_copied, slice_get};
 ghost use Rattle.deadpool_gate.specs.Numbers.{has_number};
+ghost use Rattle.deadpool_desk.specs.Closing.{is_drained};
 ghost use Rattle.deadpool_desk.specs.Counts.{counts_of};
-ghost use Rattle.deadpool_desk.specs.DeskState.{least_idle, places};
+ghost use Rattle.deadpool_desk.specs.DeskState.{least_idle, would_queue};
 ghost use Rattle.deadpool_desk.specs.DeskSteps.{surplus};
 
 use super::Core;
@@ -51,13 +52,32 @@ impl<T: Drop> Core<T> {
         self.gate.is_closed()
     }
 
-    /// Whether a get that enters now, and is willing to wait, has to join the queue: the pool is open, and no place is
-    /// free.
-    pub fn would_queue(&self) -> bool
-        ensures { result
-            ≡ (self.now.desk.is_open && nat_le self.now.desk.limit (places self.now.desk)) }
+    /// Whether the pool has closed and nothing is left in it: no object, and no get that holds a place or has a
+    /// creation under way. It stays so.
+    pub fn is_drained(&self) -> bool
+        ensures { result ≡ is_drained self.now.desk }
     {
-        !self.gate.is_closed() && self.places.room(&self.gate) == 0
+        let left = self.ring.len()
+            + self.places.outside
+            + self.places.going
+            + self.places.creations;
+        left == 0 && self.gate.is_closed()
+    }
+
+    /// Whether a get that enters now, and is willing to wait, has to join the queue: the pool is open, no place is
+    /// free, and fewer wait than may.
+    pub fn would_queue(&self) -> bool
+        ensures { result ≡ would_queue self.now.desk }
+    {
+        !self.gate.is_closed() && self.places.room(&self.gate) == 0 && self.may_join(true)
+    }
+
+    // Whether a get that finds no place may join the queue: it is willing to wait, and fewer wait than may.
+    pub(super) fn may_join(&self, wait: bool) -> bool
+        ensures { result
+            ≡ (wait && nat_lt (length self.now.desk.waiting) self.now.desk.max_waiting) }
+    {
+        wait && self.gate.waiting() < self.max_waiting
     }
 
     /// What the pool counts.

@@ -1,5 +1,4 @@
 //! The steps of a core that the pool's owner makes.
-ghost use Rattle.std.specs.Prelude.{◌≡◌};
 ghost use Rattle.deadpool_desk.specs.CoreSteps.{MakesForOwner, Retains, RetainsNoting};
 
 use super::Core;

@@ -41,7 +41,7 @@ impl<M: Manager, F: SyncHook<M>, A: AsyncHook<M>, C: Drop> Trial<M, F, A, C> {
             Some(slot) => {
                 let mut hand = Some(slot);
                 let reply = self.core.make(&Step::Back, &mut hand);
-                after_back(&self.fixed.environment, reply, hand)
+                after_back(&self.setup.environment, reply, hand)
             }
         }
     }
@@ -56,7 +56,7 @@ impl<M: Manager, F: SyncHook<M>, A: AsyncHook<M>, C: Drop> Trial<M, F, A, C> {
             None => Reply::NoSuch,
             Some(slot) => {
                 let reply = leave(&mut self.core);
-                after_take(&self.fixed.environment, slot, reply)
+                after_take(&self.setup.environment, slot, reply)
             }
         }
     }

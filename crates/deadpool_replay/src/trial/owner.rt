@@ -39,7 +39,7 @@ impl<M: Manager, F: SyncHook<M>, A: AsyncHook<M>, C: Drop> Trial<M, F, A, C> {
         }
         let mut keeping = Keeping {
             kept: kept.as_slice(),
-            manager: &self.fixed.environment.manager,
+            manager: &self.setup.environment.manager,
         };
         match self.core.retain(&mut keeping) {
             Ok(retained) => Reply::Retained(retained),

@@ -27,10 +27,10 @@ impl<M: Manager, F: SyncHook<M>, A: AsyncHook<M>, C: Drop> Trial<M, F, A, C> {
             return Reply::NoHandle;
         }
         let party = self.parties.len();
-        if party >= self.fixed.most_parties {
+        if party >= self.setup.most_parties {
             return Reply::NoRoom;
         }
-        let timeouts = timeouts.unwrap_or(self.fixed.timeouts);
+        let timeouts = timeouts.unwrap_or(self.setup.timeouts);
         append(&mut self.parties, Some(GetState::new(timeouts)));
         Reply::Started(party)
     }
@@ -53,7 +53,7 @@ impl<M: Manager, F: SyncHook<M>, A: AsyncHook<M>, C: Drop> Trial<M, F, A, C> {
         match &mut self.parties[party] {
             None => Reply::NoSuch,
             Some(get) => {
-                let turn = get.advance(&mut self.core, &self.fixed.environment, now, cx);
+                let turn = get.advance(&mut self.core, &self.setup.environment, now, cx);
                 hand_out(&mut self.out, turn)
             }
         }
@@ -78,7 +78,7 @@ impl<M: Manager, F: SyncHook<M>, A: AsyncHook<M>, C: Drop> Trial<M, F, A, C> {
         match &mut self.parties[party] {
             None => Reply::NoSuch,
             Some(get) => {
-                let turn = get.poll_over(&mut self.core, &self.fixed.environment, now, cx);
+                let turn = get.poll_over(&mut self.core, &self.setup.environment, now, cx);
                 hand_out(&mut self.out, turn)
             }
         }
@@ -96,7 +96,7 @@ impl<M: Manager, F: SyncHook<M>, A: AsyncHook<M>, C: Drop> Trial<M, F, A, C> {
         match self.parties[party].take() {
             None => Reply::NoSuch,
             Some(state) => {
-                state.cancel(&mut self.core, &self.fixed.environment);
+                state.cancel(&mut self.core, &self.setup.environment);
                 Reply::Cancelled
             }
         }

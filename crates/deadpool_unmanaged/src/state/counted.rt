@@ -1,12 +1,11 @@
 //! What a core says of itself between two steps: its handles, its counts, its idle objects, and who in a queue was
 //! granted what it asks for.
-ghost use Rattle.std.specs.Prelude.{◌≡◌, ◌==◌, nat_lt, not, option_copied, slice_get};
+ghost use Rattle.std.specs.Prelude.{◌≡◌, ◌&&◌, ◌==◌, length, nat_lt, not, option_copied, slice_get};
 ghost use Rattle.deadpool_gate.specs.Numbers.{has_number};
 ghost use Rattle.deadpool_unmanaged.specs.Counts.{counts_of};
 ghost use Rattle.deadpool_unmanaged.specs.State.{free_objects, free_room, get_would_queue, add_would_queue};
 
 use super::Core;
-use super::line::free;
 use crate::Counts;
 use deadpool_gate::gate::Ticket;
 
@@ -71,28 +70,49 @@ impl<T: Drop> Core<T> {
     pub(super) fn free_objects(&self) -> usize
         ensures { result ≡ free_objects self.now.pool }
     {
-        free(&self.gets, self.idle.len())
+        self.gets.room_within(self.idle.len(), 0)
     }
 
     // How much room no add was granted.
     pub(super) fn free_room(&self) -> usize
         ensures { result ≡ free_room self.now.pool }
     {
-        free(&self.adds, self.limit - self.idle.len() - self.outside)
+        self.adds
+            .room_within(self.limit - self.idle.len() - self.outside, 0)
     }
 
-    /// Whether a get that enters now and wants to wait joins the queue: the pool is open and has no free object.
+    // Whether a get that finds no object may join the queue: it is willing to wait, and fewer wait than may.
+    #[inline(always)]
+    pub(super) fn get_may_join(&self, wait: bool) -> bool
+        ensures { result
+            ≡ (wait && nat_lt (length self.now.pool.gets.waiting) self.now.pool.max_waiting) }
+    {
+        wait && self.gets.waiting() < self.max_waiting
+    }
+
+    // The same of an add that finds no room.
+    #[inline(always)]
+    pub(super) fn add_may_join(&self, wait: bool) -> bool
+        ensures { result
+            ≡ (wait && nat_lt (length self.now.pool.adds.waiting) self.now.pool.max_waiting) }
+    {
+        wait && self.adds.waiting() < self.max_waiting
+    }
+
+    /// Whether a get that enters now and wants to wait joins the queue: the pool is open, has no free object, and fewer
+    /// gets wait than may.
     pub fn get_would_queue(&self) -> bool
         ensures { result ≡ get_would_queue self.now.pool }
     {
-        !self.gets.is_closed() && self.free_objects() == 0
+        !self.gets.is_closed() && self.free_objects() == 0 && self.get_may_join(true)
     }
 
-    /// Whether an add that enters now and wants to wait joins the queue: the pool is open and has no free room.
+    /// Whether an add that enters now and wants to wait joins the queue: the pool is open, has no free room, and fewer
+    /// adds wait than may.
     pub fn add_would_queue(&self) -> bool
         ensures { result ≡ add_would_queue self.now.pool }
     {
-        !self.gets.is_closed() && self.free_room() == 0
+        !self.gets.is_closed() && self.free_room() == 0 && self.add_may_join(true)
     }
 
     /// Whether the get in the queue with this ticket was granted an object, which it has not taken yet. Nothing

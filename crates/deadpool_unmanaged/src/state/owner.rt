@@ -4,7 +4,6 @@ ghost use Rattle.deadpool_unmanaged.specs.State.{status_of};
 ghost use Rattle.deadpool_unmanaged.specs.StateSteps.{Clones, DropsHandle, Upgrades, closed_pool};
 
 use super::Core;
-use super::line::settle;
 use crate::{HandleReply, Status};
 
 impl<T: Drop> Core<T> {
@@ -55,7 +54,7 @@ impl<T: Drop> Core<T> {
         }
         if self.handles == 0 {
             self.idle.clear();
-            settle(&mut self.adds, self.limit - self.outside);
+            self.adds.settle_within(self.limit - self.outside, 0);
         }
         HandleReply::Done
     }

@@ -1,6 +1,6 @@
 //! Writes the counts as steps.
 use super::frame::{BAR, Frame};
-use super::rows::{LIMIT, ROWS, Row, rows_of};
+use super::rows::{LIMIT, Row, rows_of};
 use crate::{Picture, Svg};
 use pool_lanes::{Lane, Mark};
 use std::alloc::AllocError;

@@ -203,5 +203,6 @@ fn title_of(kind: Kind) -> &'static str {
         Kind::Managed => "A run of a managed pool",
         Kind::Unmanaged => "A run of an unmanaged pool",
         Kind::Journal => "A journal of a managed pool",
+        Kind::UnmanagedJournal => "A journal of an unmanaged pool",
     }
 }

@@ -21,7 +21,7 @@ const LEFT: usize = 92;
 /// Writes which colour, pattern and letter each stage and place has, and how the limit is drawn.
 pub fn write_legend(svg: &mut Svg, kind: Kind) -> Result<(), AllocError> {
     write_limit(svg, 3 * ABREAST - 1)?;
-    if kind == Kind::Journal {
+    if kind.is_journal() {
         return svg.words("n", LEFT, TOP + 12, "Counts after each step of the pool");
     }
     svg.words("r n", LEFT - 8, TOP + 10, "party")?;

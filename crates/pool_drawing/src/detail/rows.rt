@@ -22,7 +22,7 @@ pub const ROWS: usize = 4;
 /// The rows of a picture, from the top.
 pub fn rows_of(kind: Kind) -> [Row; ROWS] {
     match kind {
-        Kind::Unmanaged => [
+        Kind::Unmanaged | Kind::UnmanagedJournal => [
             counted("size", SIZE, true),
             counted("room taken", 2, true),
             counted("queued gets", 3, false),

@@ -14,8 +14,8 @@ use std::str::Split;
 /// The words of a line, which one space each parts.
 pub type Words<'a> = Split<'a, char>;
 
-// What a step is replied that found no memory.
-const OUT_OF_MEMORY: &str = "out_of_memory";
+/// What a step is replied that found no memory.
+pub const OUT_OF_MEMORY: &str = "out_of_memory";
 
 /// The words of a line, if it is text.
 pub fn words_of(line: &[u8]) -> Result<Words<'_>, LineError> {

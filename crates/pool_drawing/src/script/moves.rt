@@ -6,7 +6,7 @@ use deadpool_unmanaged_replay as unmanaged;
 use futures::task::Context;
 use pool_scripts::{
     Answers, ManagedLine, ManagedTrial, Refused, ScriptLine, UnmanagedTrial, end_line,
-    parse_script_line, parse_unmanaged, write_managed, write_unmanaged,
+    parse_script_line, parse_unmanaged, write_left, write_managed, write_unmanaged,
 };
 use pool_shapes::Given;
 use std::alloc::{AllocError, Global};
@@ -32,6 +32,7 @@ pub fn play_managed(
     let (alloc, answers) = told;
     let event = match parse_script_line(alloc, line)? {
         ScriptLine::Get(now) => get(trial, given, now, cx, reply)?,
+        ScriptLine::Drain => drain(trial, is_closed, cx, reply)?,
         ScriptLine::Plain(ManagedLine::Move(next)) => {
             make(trial, given, is_closed, next, cx, reply)?
         }
@@ -62,6 +63,23 @@ fn get(
             make(trial, given, false, Move::Poll(party, now), cx, reply)
         }
     }
+}
+
+// Closes the pool, and says what is left in it.
+fn drain(
+    trial: &mut ManagedTrial<'_>,
+    is_closed: bool,
+    cx: &mut Context<'_>,
+    reply: &mut String,
+) -> Result<Event, Stop> {
+    let mut event = Event::of_move(&Move::Close, is_closed);
+    let answer = trial.make(Move::Close, cx);
+    event.note(&answer);
+    match answer {
+        Reply::Done => write_left(reply, trial.counts())?,
+        other => write_managed(reply, &other, None)?,
+    }
+    Ok(event)
 }
 
 // Makes a move, and appends the reply.

@@ -119,6 +119,6 @@ fn write_names(svg: &mut Svg, frame: &Frame, kind: Kind) -> Result<(), AllocErro
 fn queue_name(kind: Kind) -> &'static str {
     match kind {
         Kind::Managed | Kind::Unmanaged => "waiting",
-        Kind::Journal => "queue",
+        Kind::Journal | Kind::UnmanagedJournal => "queue",
     }
 }

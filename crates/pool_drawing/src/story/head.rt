@@ -190,12 +190,12 @@ fn meaning_of(kind: Kind, class: &str) -> &'static str {
     match class {
         "n" => "not polled",
         "q" => "waits",
-        "g" if kind == Kind::Unmanaged => "may go on",
+        "g" if matches!(kind, Kind::Unmanaged | Kind::UnmanagedJournal) => "may go on",
         "g" => "has a place",
         "c" => "creates",
         "r" => "prepares",
         "k" => "checks",
-        "h" if kind == Kind::Journal => "objects",
+        "h" if kind.is_journal() => "objects",
         "h" => "has an object",
         "i" => "idle",
         "w" => "gives its place on",
@@ -209,7 +209,7 @@ fn is_used(picture: &Picture, class: &str) -> bool {
         "L" => true,
         "w" => !picture.arrows.is_empty(),
         "i" => has_idle(picture),
-        "h" | "q" | "g" if picture.kind == Kind::Journal => true,
+        "h" | "q" | "g" if picture.kind.is_journal() => true,
         class => has_stage(picture, class),
     }
 }
@@ -253,5 +253,6 @@ fn title_of(kind: Kind) -> &'static str {
         Kind::Managed => "A run of a managed pool",
         Kind::Unmanaged => "A run of an unmanaged pool",
         Kind::Journal => "A journal of a managed pool",
+        Kind::UnmanagedJournal => "A journal of an unmanaged pool",
     }
 }

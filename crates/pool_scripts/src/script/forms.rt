@@ -38,9 +38,10 @@ pub fn wants(language: Language, word: &str) -> Option<&'static str> {
 
 fn pools_want(word: &str) -> Option<&'static str> {
     Some(match word {
-        "pool" => "a limit, a mode, a runtime and a first number, and maybe how many stay idle",
+        "pool" =>
+            "a limit, a mode, a runtime and a first number, maybe how many stay idle, and maybe most and a number",
         "config" => "a runtime, a first number, and JSON",
-        "unmanaged" => "a limit and a runtime",
+        "unmanaged" => "a limit and a runtime, and maybe most and a number",
         _ => return None,
     })
 }
@@ -54,6 +55,7 @@ fn managed_wants(word: &str) -> Option<&'static str> {
         "put" => "an object and a value",
         "resize" => "a limit",
         "retain" => "the numbers of objects",
+        "drain" => NOTHING,
         word => return either_wants(word),
     })
 }

@@ -19,32 +19,36 @@ pub enum ManagedLine {
     Move(Move<u64>),
 }
 
-/// What a line of a script says over a managed pool: a line of one move, or a get that is polled at once.
+/// What a line of a script says over a managed pool: a line of one move, a get that is polled at once, or a closing
+/// that says what is left.
 #[derive(Drop)]
 pub enum ScriptLine {
     Plain(ManagedLine),
     /// It starts with the configured timeouts, and is polled at this moment.
     Get(Moment),
+    /// The pool closes.
+    Drain,
 }
 
 /// What a line of a script says over a managed pool.
 pub fn parse_script_line(alloc: Global, line: &[u8]) -> Result<ScriptLine, LineError> {
-    match read_get(line) {
-        Ok(Some(now)) => Ok(ScriptLine::Get(now)),
+    match read_own(line) {
+        Ok(Some(own)) => Ok(own),
         Ok(None) => Ok(ScriptLine::Plain(parse_managed(alloc, line)?)),
         Err(cause) => Err(cause.in_line(Language::Managed, line)),
     }
 }
 
-// The moment of a get that is polled at once, if the line is one.
-fn read_get(line: &[u8]) -> Result<Option<Moment>, LineError> {
+// What a line says that is not one move. None if it is one.
+fn read_own(line: &[u8]) -> Result<Option<ScriptLine>, LineError> {
     let mut words = words_of(line)?;
-    if next_word(&mut words)? != "get" {
-        return Ok(None);
-    }
-    let now = next_moment(&mut words)?;
+    let own = match next_word(&mut words)? {
+        "get" => ScriptLine::Get(next_moment(&mut words)?),
+        "drain" => ScriptLine::Drain,
+        _ => return Ok(None),
+    };
     end(&mut words)?;
-    Ok(Some(now))
+    Ok(Some(own))
 }
 
 /// What a line of one move says over a managed pool.

@@ -37,7 +37,12 @@ pub enum Settings {
 pub struct UnmanagedPool {
     pub max_size: usize,
     pub runtime: Option<Runtime>,
+    /// How many gets may wait, and how many adds, if that is bounded.
+    pub max_waiting: Option<usize>,
 }
+
+// Behind this word stands how many may wait.
+const MOST: &str = "most";
 
 const CONFIG: &[u8] = b"config ";
 
@@ -93,9 +98,14 @@ fn parse_managed_pool(words: &mut Words<'_>) -> Result<ManagedPool, LineError> {
     };
     let runtime = parse_runtime(next_word(words)?)?;
     let first_number = next_number(words)?;
-    if let Some(min_idle) = words.next() {
-        config.min_idle = parse_number(min_idle)?;
+    let mut further = words.next();
+    if let Some(word) = further {
+        if word != MOST {
+            config.min_idle = parse_number(word)?;
+            further = words.next();
+        }
     }
+    config.max_waiting = parse_bound(further, words)?;
     Ok(ManagedPool {
         settings: Settings::Known(config),
         runtime,
@@ -104,8 +114,21 @@ fn parse_managed_pool(words: &mut Words<'_>) -> Result<ManagedPool, LineError> {
 }
 
 fn parse_unmanaged_pool(words: &mut Words<'_>) -> Result<UnmanagedPool, LineError> {
+    let max_size = next_number(words)?;
+    let runtime = parse_runtime(next_word(words)?)?;
+    let further = words.next();
     Ok(UnmanagedPool {
-        max_size: next_number(words)?,
-        runtime: parse_runtime(next_word(words)?)?,
+        max_size,
+        runtime,
+        max_waiting: parse_bound(further, words)?,
     })
+}
+
+// How many may wait, if this word says that a number of them follows.
+fn parse_bound(word: Option<&str>, words: &mut Words<'_>) -> Result<Option<usize>, LineError> {
+    match word {
+        None => Ok(None),
+        Some(MOST) => Ok(Some(next_number(words)?)),
+        Some(_) => Err(LineError::NotAMove(Reason::Count)),
+    }
 }

@@ -5,7 +5,7 @@ use deadpool_builder::PoolBuilder;
 use deadpool_managed::{Manager, Metrics, NoHook, PoolError, RecycleResult};
 use deadpool_parts::NoTime;
 use deadpool_shared::{Ledgers, Object, Pool};
-use deadpool_threads::{PoolUser, lend};
+use deadpool_threads::{PoolUser, with_pool};
 use futures::Future;
 use futures::task::{Context, Poll};
 use futures::test::MockTask;
@@ -264,7 +264,7 @@ fn drops_by<R: Wait + RandomSource + AllocGlobal + Drop + Copy + Send + Sync>(
         lines: String::new(rt.alloc()),
     };
     let builder = PoolBuilder::new(rt.alloc(), manager, NoTime).max_size(1);
-    let Ok(dropped) = lend(builder, rt, Drops { kind, log }) else {
+    let Ok(dropped) = with_pool(builder, rt, Drops { kind, log }) else {
         return Err(Fail::new("no pool"));
     };
     let Log { seen, lines, .. } = dropped?;

@@ -3,7 +3,7 @@ use deadpool_builder::PoolBuilder;
 use deadpool_managed::{Metrics, NoHook, PoolError, RecycleResult, Timeouts};
 use deadpool_parts::NoTime;
 use deadpool_shared::{Ledgers, Object};
-use deadpool_threads::{Plain, PlainManager, PlainPool, PoolUser, lend};
+use deadpool_threads::{Plain, PlainManager, PlainPool, PoolUser, with_pool};
 use futures::Future;
 use futures::task::Poll;
 use futures::test::MockTask;
@@ -135,13 +135,19 @@ fn three<
 }
 
 // Two gets end with an error: one may not wait, and the pool closes under the other.
-fn two<R: Wait + Drop, L: Ledgers, G: Future<Output = Result<Number<R, L>, PoolError<()>>> + Drop>(
+fn two<R, L, G, H>(
     watched: &mut Watched,
     pool: &Numbers<R, L>,
     mut hasty: G,
-    mut patient: G,
+    mut patient: H,
 ) -> Result<(), AllocError>
-    requires { (get : _) → G.can_poll get }
+where
+    R: Wait + Drop,
+    L: Ledgers,
+    G: Future<Output = Result<Number<R, L>, PoolError<()>>> + Drop,
+    H: Future<Output = Result<Number<R, L>, PoolError<()>>> + Drop,
+    requires hasty { (get : _) → G.can_poll get }
+    requires patient { (get : _) → H.can_poll get }
 {
     pool.resize(0)?;
     let (seen, _) = polled(&watched.here, &mut hasty);
@@ -265,7 +271,7 @@ fn play_by<R: Wait + RandomSource + AllocGlobal + Drop + Copy + Send + Sync>(
     let builder = PoolBuilder::new(rt.alloc(), Plain(Zeros), NoTime)
         .max_size(1)
         .journal(100);
-    let Ok(played) = lend(builder, rt, Plays { kind }) else {
+    let Ok(played) = with_pool(builder, rt, Plays { kind }) else {
         return Err(Fail::new("no pool"));
     };
     let (seen, noted) = played?;

@@ -4,7 +4,7 @@ use deadpool_builder::PoolBuilder;
 use deadpool_managed::NoHook;
 use deadpool_parts::NoTime;
 use deadpool_shared::Ledgers;
-use deadpool_threads::{Host, Plain, PoolUser, lend_among};
+use deadpool_threads::{Host, Plain, PoolUser, with_threads};
 use futures::executor::block_on;
 use std::test::Fail;
 
@@ -91,7 +91,7 @@ fn share_by<R: Host>(rt: R, kind: Kind, left: Left) -> Result<(), Fail> {
     for _worker in 0..4 {
         workers.push(AddOnes { kind })?;
     }
-    let Ok((ended, found)) = lend_among(builder, rt, workers, Looks) else {
+    let Ok((ended, found)) = with_threads(builder, rt, workers, Looks) else {
         return Err(Fail::new("no pool"));
     };
     let found = found?;

@@ -4,7 +4,7 @@ use deadpool_builder::PoolBuilder;
 use deadpool_managed::NoHook;
 use deadpool_parts::NoTime;
 use deadpool_shared::Ledgers;
-use deadpool_threads::{Host, Plain, PoolUser, Waiter, lend_among};
+use deadpool_threads::{Blocking, Host, Plain, PoolUser, with_threads};
 use std::sync::Wait;
 use std::test::Fail;
 use std::thread::yield_now;
@@ -15,8 +15,8 @@ const LOOKS: u64 = 100_000_000;
 /// Whether gets are made by a waiter, or by one that has begun.
 #[derive(Clone, Copy, Debug, Drop)]
 enum By {
-    Waiter,
-    Waiting,
+    Blocking,
+    BlockingLoop,
 }
 
 /// What a thread does.
@@ -51,7 +51,7 @@ fn wait_until_asked<R: Wait + Drop, L: Ledgers>(pool: &Numbers<R, L>) -> bool {
     false
 }
 
-fn holds<R: Wait + Drop, L: Ledgers>(rt: &R, pool: &Numbers<R, L>, waiter: &mut Waiter) -> bool {
+fn holds<R: Wait + Drop, L: Ledgers>(rt: &R, pool: &Numbers<R, L>, waiter: &mut Blocking) -> bool {
     let Ok(_number) = waiter.get(rt, pool) else {
         return false;
     };
@@ -61,22 +61,22 @@ fn holds<R: Wait + Drop, L: Ledgers>(rt: &R, pool: &Numbers<R, L>, waiter: &mut 
 fn asks<R: Wait + Drop, L: Ledgers>(
     rt: &R,
     pool: &Numbers<R, L>,
-    waiter: &mut Waiter,
+    waiter: &mut Blocking,
     by: By,
 ) -> bool {
     if !wait_until_out(pool) {
         return false;
     }
     match by {
-        By::Waiter => adds_twice(rt, pool, waiter),
-        By::Waiting => adds_twice_in_a_row(rt, pool, waiter),
+        By::Blocking => adds_twice(rt, pool, waiter),
+        By::BlockingLoop => adds_twice_in_a_row(rt, pool, waiter),
     }
 }
 
 fn adds_twice<R: Wait + Drop, L: Ledgers>(
     rt: &R,
     pool: &Numbers<R, L>,
-    waiter: &mut Waiter,
+    waiter: &mut Blocking,
 ) -> bool {
     for _time in 0..2 {
         let Ok(mut number) = waiter.get(rt, pool) else {
@@ -90,7 +90,7 @@ fn adds_twice<R: Wait + Drop, L: Ledgers>(
 fn adds_twice_in_a_row<R: Wait + Drop, L: Ledgers>(
     rt: &R,
     pool: &Numbers<R, L>,
-    waiter: &mut Waiter,
+    waiter: &mut Blocking,
 ) -> bool {
     let mut waiting = waiter.begin();
     for _time in 0..2 {
@@ -107,7 +107,7 @@ impl<R: Host> PoolUser<Plain<Zeros>, NoHook, NoHook, NoTime, R> for Part {
     type Output = bool;
 
     fn run<L: Ledgers>(self, rt: &R, pool: &Numbers<R, L>) -> bool {
-        let Ok(mut waiter) = Waiter::new(rt) else {
+        let Ok(mut waiter) = Blocking::new(rt) else {
             return false;
         };
         match self {
@@ -125,7 +125,7 @@ impl<R: Host> PoolUser<Plain<Zeros>, NoHook, NoHook, NoTime, R> for Looks {
     type Output = u64;
 
     fn run<L: Ledgers>(self, rt: &R, pool: &Numbers<R, L>) -> u64 {
-        let Ok(mut waiter) = Waiter::new(rt) else {
+        let Ok(mut waiter) = Blocking::new(rt) else {
             return 0;
         };
         match waiter.get(rt, pool) {
@@ -138,7 +138,7 @@ impl<R: Host> PoolUser<Plain<Zeros>, NoHook, NoHook, NoTime, R> for Looks {
 fn is_handed_over<R: Host>(rt: R, by: By) -> Result<(), Fail> {
     let builder = PoolBuilder::new(rt.alloc(), Plain(Zeros), NoTime).max_size(1);
     let parts = vec![in rt.alloc(); Part::Holds, Part::Asks(by)]?;
-    let Ok((ended, sum)) = lend_among(builder, rt, parts, Looks) else {
+    let Ok((ended, sum)) = with_threads(builder, rt, parts, Looks) else {
         return Err(Fail::new("no pool"));
     };
     if ended.iter().all(|served| *served) && sum == 2 {
@@ -149,10 +149,10 @@ fn is_handed_over<R: Host>(rt: R, by: By) -> Result<(), Fail> {
 
 #[test]
 fn a_waiter_is_served_what_another_thread_gives_back(rt: HostRuntime) -> Result<(), Fail> {
-    is_handed_over(rt, By::Waiter)
+    is_handed_over(rt, By::Blocking)
 }
 
 #[test]
 fn a_waiter_that_has_begun_is_served_so_too(rt: HostRuntime) -> Result<(), Fail> {
-    is_handed_over(rt, By::Waiting)
+    is_handed_over(rt, By::BlockingLoop)
 }

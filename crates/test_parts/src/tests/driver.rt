@@ -100,9 +100,11 @@ impl<'a> Driver<'a> {
             max_size,
             queue_mode,
             min_idle,
+            max_waiting,
             ..
         } = config;
         let pool = Journaled::new(alloc, max_size, queue_mode, 100, min_idle)?;
+        let pool = pool.bounded(max_waiting);
         match Solo::new(rt, Doorbell::spinning()) {
             Ok(task) => Ok(Driver {
                 alloc,

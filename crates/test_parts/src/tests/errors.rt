@@ -89,6 +89,7 @@ Error occurred while creating a new object: refused|\
 `post_create` hook failed: odd\n|\
 Pool has been closed|\
 No runtime specified|\
+Too many gets wait for a slot|\
 Out of memory|\
 Object numbers are exhausted";
 
@@ -103,6 +104,7 @@ fn prints_errors_of_a_get(alloc: Global) -> Result<(), Fail> {
         PoolError::PostCreateHook(HookError::message("odd")),
         PoolError::Closed,
         PoolError::NoRuntimeSpecified,
+        PoolError::Crowded,
         PoolError::OutOfMemory,
         PoolError::NumbersExhausted,
     ] {
@@ -117,6 +119,7 @@ max_size is not a whole number in range
 A timeout is not a duration
 queue_mode is not Fifo or Lifo
 min_idle is not a whole number in range
+max_waiting is not a whole number in range
 Out of memory";
 
 fn prints_errors_of_a_configuration(alloc: Global) -> Result<(), Fail> {
@@ -128,6 +131,7 @@ fn prints_errors_of_a_configuration(alloc: Global) -> Result<(), Fail> {
         ConfigError::BadDuration,
         ConfigError::BadQueueMode,
         ConfigError::BadMinIdle,
+        ConfigError::BadMaxWaiting,
         ConfigError::OutOfMemory,
     ] {
         shows(alloc, fault, texts.next().unwrap_or(""))?;

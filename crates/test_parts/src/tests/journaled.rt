@@ -3,6 +3,7 @@
 mod equality;
 mod full;
 mod rows;
+mod tallies;
 mod texts;
 
 ghost use Rattle.std.specs.Prelude.{ℕ, Option};

@@ -8,19 +8,20 @@ use std::alloc::Global;
 use std::random::RandomSource;
 use std::test::Fail;
 use test_scripts::{
-    CANCELLED, FIRST_PATH, LIMITS, MIN_IDLE, OWN_STEPS, PREPARATION, TIMEOUTS, is_listed, parted,
-    script_of, sides_of,
+    CANCELLED, FIRST_PATH, LIMITS, MAX_WAITING, MIN_IDLE, OWN_STEPS, PREPARATION, TIMEOUTS,
+    is_listed, parted, script_of, sides_of,
 };
 use test_support::journals::replayed;
 
 // All worked scripts but those of configurations, which are read before there is a pool.
-const TEXTS: [&'static str; 7] = [
+const TEXTS: [&'static str; 8] = [
     FIRST_PATH,
     PREPARATION,
     TIMEOUTS,
     CANCELLED,
     OWN_STEPS,
     MIN_IDLE,
+    MAX_WAITING,
     LIMITS,
 ];
 

@@ -5,7 +5,7 @@ use super::text_is;
 use deadpool::managed::{Ledgers, Metrics, NoHook, Object, PoolBuilder};
 use deadpool::{Moment, NoTime};
 use deadpool_buffers::{Buffer, BufferError, BufferPool, Buffers, GetBuffer, fill, poll_buffer};
-use deadpool_threads::{Plain, PlainManager, PoolUser, lend};
+use deadpool_threads::{Plain, PlainManager, PoolUser, with_pool};
 use futures::task::{Context, Doorbell, Poll, Solo};
 use std::alloc::AllocError;
 use std::random::RandomSource;
@@ -76,7 +76,7 @@ where
         most,
     };
     let builder = PoolBuilder::new(rt.alloc(), Plain(manager), NoTime).max_size(1);
-    lend(builder, rt, PutEach { lines })?
+    with_pool(builder, rt, PutEach { lines })?
 }
 
 const LINES: [&[u8]; 4] = [b"abcd", b"abcde", b"x", b""];

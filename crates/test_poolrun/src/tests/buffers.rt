@@ -4,7 +4,7 @@ use super::{agree, count_is};
 use deadpool::NoTime;
 use deadpool::managed::{Ledgers, NoHook, PoolBuilder};
 use deadpool_buffers::{BufferPool, Buffers};
-use deadpool_threads::{Plain, PoolUser, Waiter, lend};
+use deadpool_threads::{Blocking, Plain, PoolUser, with_pool};
 use poolrun_engine::Fault;
 use poolrun_engine::buffers::{builder_of, fill_buffers};
 use std::random::RandomSource;
@@ -24,7 +24,7 @@ where
     type Output = usize;
 
     fn run<L: Ledgers>(self, rt: &R, pool: &BufferPool<NoTime, R, L>) -> usize {
-        let Ok(mut waiter) = Waiter::new(rt) else {
+        let Ok(mut waiter) = Blocking::new(rt) else {
             return 0;
         };
         match waiter.get(rt, pool) {
@@ -36,7 +36,7 @@ where
 
 #[test]
 fn a_new_buffer_has_room_for_sixteen_bytes(rt: HostRuntime) -> Result<(), Fail> {
-    let room = lend(builder_of(rt.alloc(), 4), rt, Measuring)?;
+    let room = with_pool(builder_of(rt.alloc(), 4), rt, Measuring)?;
     count_is("room", room, 16)
 }
 

@@ -2,7 +2,7 @@
 use deadpool::Runtime;
 use deadpool::managed::{Ledgers, Manager, NoHook, Pool, PoolBuilder, PoolError, TimeoutType};
 use deadpool_sqlite::{InMemory, RecyclingMethod, SqliteManager};
-use deadpool_threads::{PoolUser, Waiter, lend};
+use deadpool_threads::{Blocking, PoolUser, with_pool};
 use deadpool_timer::{Timer, TimerClock};
 use std::io;
 use std::random::RandomSource;
@@ -28,7 +28,7 @@ where
         rt: &R,
         pool: &Pool<M, NoHook, NoHook, TimerClock<R>, R, L>,
     ) -> io::Result<(bool, bool)> {
-        let mut waiter = Waiter::new(rt)?;
+        let mut waiter = Blocking::new(rt)?;
         let first = waiter.get(rt, pool);
         let second = waiter.get(rt, pool);
         let is_late = matches!(&second, Err(PoolError::Timeout(TimeoutType::Wait)));
@@ -48,7 +48,7 @@ fn a_second_user_waits_for_a_second(rt: HostRuntime) -> Result<(), Fail> {
         .max_size(1)
         .runtime(Runtime::Clock)
         .wait_timeout(Some(Duration::from_secs(1)));
-    let Ok(ended) = lend(builder, rt, AsksTwice) else {
+    let Ok(ended) = with_pool(builder, rt, AsksTwice) else {
         return Err(Fail::new("no pool"));
     };
     if ended? == (true, true) {

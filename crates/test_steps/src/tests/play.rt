@@ -418,6 +418,7 @@ fn cause_of<E>(cause: &PoolError<E>) -> &'static str {
         PoolError::Timeout(TimeoutType::Recycle) => "out of time while it recycled",
         PoolError::Backend(_) => "refused by the manager",
         PoolError::Closed => "closed",
+        PoolError::Crowded => "too many wait",
         PoolError::NoRuntimeSpecified => "no runtime",
         PoolError::PostCreateHook(HookError::Message(_)) => "refused by a hook",
         PoolError::PostCreateHook(HookError::Backend(_)) => "refused by a hook's backend",

@@ -3,7 +3,7 @@ use super::managed::Timed;
 use super::stalling::{Builder, Lent, Stall, Stalling, builder_of, millis_since};
 use deadpool_managed::{NoHook, PoolError, TimeoutType, Timeouts};
 use deadpool_shared::Ledgers;
-use deadpool_threads::{PoolUser, Waiter, lend_among};
+use deadpool_threads::{Blocking, PoolUser, with_threads};
 use deadpool_timer::{Timer, TimerClock};
 use futures::test::MockTask;
 use rand_xoshiro::SplitMix64;
@@ -100,14 +100,14 @@ impl Tally {
 // What a thread plays its rounds with.
 #[derive(Drop)]
 struct Player {
-    waiter: Waiter,
+    waiter: Blocking,
     task: MockTask,
     dice: SplitMix64,
 }
 
 impl Player {
     fn new<R: RandomSource + AllocGlobal>(rt: &R, seed: u64) -> Result<Self, Fault> {
-        let (Ok(waiter), Ok(task)) = (Waiter::new(rt), MockTask::new(rt)) else {
+        let (Ok(waiter), Ok(task)) = (Blocking::new(rt), MockTask::new(rt)) else {
             return Err(Fault::OutOfMemory);
         };
         Ok(Player {
@@ -251,7 +251,7 @@ fn all_play<R: Timed>(rt: R, timer: &Timer<R>) -> Result<Tally, Fail> {
         .max_size(3)
         .wait_timeout(Some(long()))
         .journal(1_000_000);
-    let Ok((played, ended)) = lend_among(builder, rt, players(rt.alloc())?, Ends) else {
+    let Ok((played, ended)) = with_threads(builder, rt, players(rt.alloc())?, Ends) else {
         return Err(Fail::new("no pool"));
     };
     ended?;

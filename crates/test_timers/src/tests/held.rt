@@ -4,7 +4,7 @@ use super::managed::Timed;
 use super::stalling::{Builder, Lent, Stall, Stalling, builder_of, millis_since};
 use deadpool_managed::{NoHook, PoolError, TimeoutType};
 use deadpool_shared::Ledgers;
-use deadpool_threads::{PoolUser, Waiter, lend_among};
+use deadpool_threads::{Blocking, PoolUser, with_threads};
 use deadpool_timer::{Timer, TimerClock};
 use std::random::RandomSource;
 use std::sync::Wait;
@@ -91,7 +91,7 @@ impl<R: Wait + Clock + RandomSource + AllocGlobal + Drop> PoolUser<
     type Output = Ended;
 
     fn run<L: Ledgers>(self, rt: &R, pool: &Lent<R, L>) -> Ended {
-        let Ok(mut waiter) = Waiter::new(rt) else {
+        let Ok(mut waiter) = Blocking::new(rt) else {
             return Ended {
                 end: End::Otherwise,
                 after: 0,
@@ -155,7 +155,7 @@ fn asked<R: Timed>(rt: R, row: Row) -> Result<Ended, Fail> {
         Some(Duration::from_millis(row.wait)),
     );
     let parts = vec![in rt.alloc(); Part::Holds, Part::Asks]?;
-    match lend_among(builder, rt, parts, Leaves) {
+    match with_threads(builder, rt, parts, Leaves) {
         Ok((ended, ())) => last(&ended),
         Err(_) => Err(Fail::new("no pool")),
     }

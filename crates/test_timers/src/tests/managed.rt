@@ -2,7 +2,7 @@
 use super::stalling::{Builder, Lent, Stall, Stalling, builder_of, took_at_least};
 use deadpool_managed::{NoHook, ObjectId, PoolError, TimeoutType};
 use deadpool_shared::{Ledgers, Object};
-use deadpool_threads::{PoolUser, Waiter, lend};
+use deadpool_threads::{Blocking, PoolUser, with_pool};
 use deadpool_timer::{Timer, TimerClock};
 use std::random::RandomSource;
 use std::sync::Wait;
@@ -47,7 +47,7 @@ impl<R: Wait + Clock + RandomSource + AllocGlobal + Drop> PoolUser<
     type Output = Result<(), Fail>;
 
     fn run<L: Ledgers>(self, rt: &R, pool: &Lent<R, L>) -> Result<(), Fail> {
-        let mut waiter = Waiter::new(rt)?;
+        let mut waiter = Blocking::new(rt)?;
         let begun = Instant::now(rt)?;
         match self.stall {
             Stall::Nothing => waits_too_long(rt, pool, &mut waiter)?,
@@ -62,7 +62,7 @@ impl<R: Wait + Clock + RandomSource + AllocGlobal + Drop> PoolUser<
 fn waits_too_long<R: Wait + Clock + RandomSource + AllocGlobal + Drop, L: Ledgers>(
     rt: &R,
     pool: &Lent<R, L>,
-    waiter: &mut Waiter,
+    waiter: &mut Blocking,
 ) -> Result<(), Fail> {
     let Ok(object) = waiter.get(rt, pool) else {
         return Err(Fail::new("no object"));
@@ -75,7 +75,7 @@ fn waits_too_long<R: Wait + Clock + RandomSource + AllocGlobal + Drop, L: Ledger
 fn creates_too_long<R: Wait + Clock + RandomSource + AllocGlobal + Drop, L: Ledgers>(
     rt: &R,
     pool: &Lent<R, L>,
-    waiter: &mut Waiter,
+    waiter: &mut Blocking,
 ) -> Result<(), Fail> {
     ends_late(rt, pool, waiter, TimeoutType::Create)
 }
@@ -84,7 +84,7 @@ fn creates_too_long<R: Wait + Clock + RandomSource + AllocGlobal + Drop, L: Ledg
 fn recycles_too_long<R: Wait + Clock + RandomSource + AllocGlobal + Drop, L: Ledgers>(
     rt: &R,
     pool: &Lent<R, L>,
-    waiter: &mut Waiter,
+    waiter: &mut Blocking,
 ) -> Result<(), Fail> {
     let first = identifier(rt, pool, waiter)?;
     let second = identifier(rt, pool, waiter)?;
@@ -98,7 +98,7 @@ fn recycles_too_long<R: Wait + Clock + RandomSource + AllocGlobal + Drop, L: Led
 fn identifier<R: Wait + Clock + RandomSource + AllocGlobal + Drop, L: Ledgers>(
     rt: &R,
     pool: &Lent<R, L>,
-    waiter: &mut Waiter,
+    waiter: &mut Blocking,
 ) -> Result<ObjectId, Fail> {
     match waiter.get(rt, pool) {
         Ok(object) => Ok(Object::id(&object)),
@@ -109,7 +109,7 @@ fn identifier<R: Wait + Clock + RandomSource + AllocGlobal + Drop, L: Ledgers>(
 fn ends_late<R: Wait + Clock + RandomSource + AllocGlobal + Drop, L: Ledgers>(
     rt: &R,
     pool: &Lent<R, L>,
-    waiter: &mut Waiter,
+    waiter: &mut Blocking,
     phase: TimeoutType,
 ) -> Result<(), Fail> {
     match waiter.get(rt, pool) {
@@ -136,7 +136,7 @@ fn times_out<R: Timed>(rt: R, stall: Stall) -> Result<(), Fail> {
         .wait_timeout(Some(timeout()))
         .create_timeout(Some(timeout()))
         .recycle_timeout(Some(timeout()));
-    match lend(builder, rt, TimesOut { stall }) {
+    match with_pool(builder, rt, TimesOut { stall }) {
         Ok(ended) => ended,
         Err(_) => Err(Fail::new("the pool was not built")),
     }

@@ -4,7 +4,7 @@ use deadpool_builder::PoolBuilder;
 use deadpool_managed::{Manager, Metrics, NoHook, RecycleResult, Timeouts};
 use deadpool_parts::Runtime;
 use deadpool_shared::{Ledgers, Object, Pool};
-use deadpool_threads::{PoolUser, lend};
+use deadpool_threads::{PoolUser, with_pool};
 use deadpool_timer::{Timer, TimerClock};
 use futures::task::{Context, Poll};
 use futures::test::MockTask;
@@ -167,7 +167,7 @@ fn sees_each_phase<R: Timed>(rt: R) -> Result<(), Fail> {
         .runtime(Runtime::Clock);
     let task = MockTask::new(&rt)?;
     let watches = Watches { timer, task };
-    let Ok(alarms) = lend(builder, rt, watches) else {
+    let Ok(alarms) = with_pool(builder, rt, watches) else {
         return Err(Fail::new("no pool"));
     };
     expect("the alarms", alarms, ([1, 0], [1, 0, 0], [1, 0]))

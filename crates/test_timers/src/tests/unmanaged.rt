@@ -2,7 +2,7 @@
 use super::managed::Timed;
 use super::stalling::took_at_least;
 use deadpool_parts::Runtime;
-use deadpool_threads::Waiter;
+use deadpool_threads::Blocking;
 use deadpool_timer::{Timer, TimerClock};
 use deadpool_unmanaged::{PoolConfig, PoolError};
 use deadpool_unmanaged_shared::{Object, Pool};
@@ -40,7 +40,7 @@ pub fn object_of<R: Timed>(pool: &Numbers<R>) -> Result<Number<R>, Fail> {
 
 fn ends_late<R: Timed>(
     rt: &R,
-    waiter: &mut Waiter,
+    waiter: &mut Blocking,
     pool: &Numbers<R>,
     timeout: Duration,
 ) -> Result<(), Fail> {
@@ -58,7 +58,7 @@ fn ends_late<R: Timed>(
 
 fn two_pools<R: Timed>(rt: R) -> Result<(), Fail> {
     let timer = Timer::start(rt.alloc(), rt)?;
-    let mut waiter = Waiter::new(&rt)?;
+    let mut waiter = Blocking::new(&rt)?;
     let (long, short) = (Duration::from_millis(60), Duration::from_millis(20));
     let first = pool_of_one(rt, &timer, long)?;
     let second = pool_of_one(rt, &timer, short)?;

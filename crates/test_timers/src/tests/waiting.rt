@@ -4,7 +4,7 @@ use super::stalling::{Builder, Lent, Stall, Stalling, builder_of};
 use super::unmanaged::{Numbers, pool_of_one};
 use deadpool_managed::{NoHook, PoolError, TimeoutType};
 use deadpool_shared::Ledgers;
-use deadpool_threads::{PoolUser, Waiter, Waiting, lend};
+use deadpool_threads::{Blocking, BlockingLoop, PoolUser, with_pool};
 use deadpool_timer::{Timer, TimerClock};
 use deadpool_unmanaged as unmanaged;
 use std::random::RandomSource;
@@ -44,7 +44,7 @@ fn is_as_listed(row: Row) -> Result<(), Fail> {
 fn row_of<R: Wait + Clock + Drop, L: Ledgers>(
     rt: &R,
     pool: &Lent<R, L>,
-    waiting: &mut Waiting<'_>,
+    waiting: &mut BlockingLoop<'_>,
 ) -> (bool, bool, bool) {
     let first = waiting.get(rt, pool);
     let is_late = matches!(
@@ -59,7 +59,7 @@ fn row_of<R: Wait + Clock + Drop, L: Ledgers>(
 fn unmanaged_row_of<R: Timed>(
     rt: &R,
     pool: &Numbers<R>,
-    waiting: &mut Waiting<'_>,
+    waiting: &mut BlockingLoop<'_>,
 ) -> (bool, bool, bool) {
     let first = waiting.get_unmanaged(rt, pool);
     let is_late = matches!(
@@ -85,7 +85,7 @@ impl<R: Wait + Clock + RandomSource + AllocGlobal + Drop> PoolUser<
     type Output = Result<Row, Fail>;
 
     fn run<L: Ledgers>(self, rt: &R, pool: &Lent<R, L>) -> Result<Row, Fail> {
-        let mut waiter = Waiter::new(rt)?;
+        let mut waiter = Blocking::new(rt)?;
         let mut waiting = waiter.begin();
         let (is_served, is_late, is_served_again) = row_of(rt, pool, &mut waiting);
         drop(waiting);
@@ -103,7 +103,7 @@ fn in_a_row<R: Timed>(rt: R) -> Result<(), Fail> {
     let builder: Builder<R> = builder_of(rt.alloc(), timer.clock()?, Stall::Nothing).wait_timeout(
         Some(timeout()),
     );
-    match lend(builder, rt, InARow) {
+    match with_pool(builder, rt, InARow) {
         Ok(row) => is_as_listed(row?),
         Err(_) => Err(Fail::new("no pool")),
     }
@@ -112,7 +112,7 @@ fn in_a_row<R: Timed>(rt: R) -> Result<(), Fail> {
 fn unmanaged_in_a_row<R: Timed>(rt: R) -> Result<(), Fail> {
     let timer = Timer::start(rt.alloc(), rt)?;
     let pool = pool_of_one(rt, &timer, timeout())?;
-    let mut waiter = Waiter::new(&rt)?;
+    let mut waiter = Blocking::new(&rt)?;
     let mut waiting = waiter.begin();
     let (is_served, is_late, is_served_again) = unmanaged_row_of(&rt, &pool, &mut waiting);
     drop(waiting);

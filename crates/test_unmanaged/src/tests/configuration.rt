@@ -25,8 +25,12 @@ const READ: &str = r#"[] => Err(NotAnObject)
 {"max_size":1.0,"timeout":5} => Err(BadNumber)
 {"max_size":1,"timeout":5} => Err(BadDuration)
 {"max_size":1,"timeout":{"secs":1}} => Err(BadDuration)
-{"max_size":7,"queue_mode":5,"timeouts":null,"runtime":1} => Ok(PoolConfig { max_size: 7, timeout: None, runtime: None })
-{"max_size":7,"timeout":{"secs":1,"nanos":1500000000}} => Ok(PoolConfig { max_size: 7, timeout: Some(2.5s), runtime: None })"#;
+{"max_size":7,"queue_mode":5,"timeouts":null,"runtime":1} => Ok(PoolConfig { max_size: 7, timeout: None, max_waiting: None, runtime: None })
+{"max_size":7,"timeout":{"secs":1,"nanos":1500000000}} => Ok(PoolConfig { max_size: 7, timeout: Some(2.5s), max_waiting: None, runtime: None })
+{"max_size":7,"timeout":5,"max_waiting":-1} => Err(BadDuration)
+{"max_size":7,"max_waiting":-1} => Err(BadMaxWaiting)
+{"max_size":7,"max_waiting":null} => Ok(PoolConfig { max_size: 7, timeout: None, max_waiting: None, runtime: None })
+{"max_size":7,"max_waiting":0} => Ok(PoolConfig { max_size: 7, timeout: None, max_waiting: Some(0), runtime: None })"#;
 
 // What stands before the arrow reads as what stands behind it.
 fn reads(alloc: Global, line: &str) -> Result<(), Fail> {
@@ -44,7 +48,8 @@ fn reads_configurations(rt: HostRuntime) -> Result<(), Fail> {
 }
 
 const WRITTEN: &str = r#"{"max_size":2,"timeout":null}
-{"max_size":2,"timeout":{"nanos":5,"secs":1}}"#;
+{"max_size":2,"timeout":{"nanos":5,"secs":1}}
+{"max_size":2,"max_waiting":3,"timeout":null}"#;
 
 // Writes what the text reads as, and reads that.
 fn reads_again(alloc: Global, text: &str) -> Result<(), Fail> {

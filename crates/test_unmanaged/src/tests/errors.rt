@@ -12,6 +12,7 @@ fn shows(alloc: Global, error: PoolError, text: &str) -> Result<(), Fail> {
 const TEXTS: &str = "Timeout occurred while waiting for an object to become available
 Pool has been closed
 No runtime specified
+Too many wait already
 Out of memory";
 
 #[test]
@@ -21,6 +22,7 @@ fn each_error_has_its_text(rt: HostRuntime) -> Result<(), Fail> {
         PoolError::Timeout,
         PoolError::Closed,
         PoolError::NoRuntimeSpecified,
+        PoolError::Crowded,
         PoolError::OutOfMemory,
     ] {
         shows(rt.alloc(), error, texts.next().unwrap_or(""))?;

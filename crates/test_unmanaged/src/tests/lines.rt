@@ -116,7 +116,7 @@ pub fn opening_of(alloc: Global, line: &str) -> Result<Opening, Fail> {
     }
 }
 
-// Only a pool that has a runtime or a timeout is configured.
+// Only a pool that has a runtime, a timeout or a bound on those that wait is configured.
 fn unmanaged_of(words: &mut Words<'_>) -> Result<Opening, Fail> {
     let max_size = next_index(words)?;
     let runtime = match words.next() {
@@ -124,12 +124,17 @@ fn unmanaged_of(words: &mut Words<'_>) -> Result<Opening, Fail> {
         Some("clock") => Some(Runtime::Clock),
         _ => return Err(Fail::new("not a runtime")),
     };
-    let timeout = wait_of(words.next().unwrap_or("-"))?;
-    if runtime.is_none() && timeout.is_none() {
+    let (timeout, max_waiting) = match words.next() {
+        None => (None, None),
+        Some("most") => (None, Some(next_index(words)?)),
+        Some(word) => (wait_of(word)?, None),
+    };
+    if runtime.is_none() && timeout.is_none() && max_waiting.is_none() {
         return Ok(Opening::Empty(max_size));
     }
     Ok(Opening::Configured(PoolConfig {
         timeout,
+        max_waiting,
         runtime,
         ..PoolConfig::new(max_size)
     }))

@@ -28,6 +28,7 @@ impl<R: Host> Pair<R> {
     fn new(rt: R, draw: &mut Draw, drops: &Drops) -> Result<Self, Fail> {
         let config = configuration(draw);
         let trial = Trial::new(rt.alloc(), config.max_size, config.runtime, MOVES as usize)?;
+        let trial = trial.bounded(config.max_waiting);
         let player = Player::new(rt, &Opening::Configured(config), drops)?;
         Ok(Pair { rt, trial, player })
     }
@@ -103,14 +104,19 @@ impl<R: Host> Pair<R> {
     }
 }
 
-// For a few objects, with a clock or without.
+// For a few objects, with a clock or without, and mostly with a bound on those that wait.
 fn configuration(draw: &mut Draw) -> PoolConfig {
     let runtime = match draw.below(2) {
         0 => None,
         _ => Some(Runtime::Clock),
     };
+    let max_waiting = match draw.below(4) {
+        3 => None,
+        most => Some(most as usize),
+    };
     PoolConfig {
         runtime,
+        max_waiting,
         ..PoolConfig::new(draw.below(4) as usize)
     }
 }

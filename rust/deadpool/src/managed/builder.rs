@@ -4,6 +4,7 @@ use super::{Core, Handle, Hook, Manager, Object, Pool, PoolConfig, QueueMode, Ti
 use crate::errors::error_texts;
 use crate::rattle::Global;
 use crate::runtime::Runtime;
+use std::borrow::Cow;
 use std::fmt;
 use std::marker::PhantomData;
 use std::time::Duration;
@@ -40,6 +41,7 @@ macro_rules! setters {
 
 /// What a pool was built with.
 pub(super) struct Setup<M: Manager> {
+    pub(super) name: Option<Cow<'static, str>>,
     pub(super) manager: M,
     pub(super) hooks: Hooks<M>,
     pub(super) timeouts: Timeouts,
@@ -49,6 +51,7 @@ pub(super) struct Setup<M: Manager> {
 /// What a pool is built by.
 #[must_use]
 pub struct PoolBuilder<M: Manager, W: From<Object<M>> = Object<M>> {
+    name: Option<Cow<'static, str>>,
     manager: M,
     config: PoolConfig,
     runtime: Option<Runtime>,
@@ -61,6 +64,7 @@ pub struct PoolBuilder<M: Manager, W: From<Object<M>> = Object<M>> {
 impl<M: Manager, W: From<Object<M>>> PoolBuilder<M, W> {
     pub(super) fn new(manager: M) -> Self {
         PoolBuilder {
+            name: None,
             manager,
             config: PoolConfig::default(),
             runtime: None,
@@ -77,14 +81,20 @@ impl<M: Manager, W: From<Object<M>>> PoolBuilder<M, W> {
     ///
     /// If a timeout is set and no runtime, or if no memory is found.
     pub fn build(self) -> Result<Pool<M, W>, BuildError> {
-        let PoolBuilder { manager, config, runtime, hooks, .. } = self;
-        let PoolConfig { max_size, timeouts, queue_mode } = config;
+        let PoolBuilder { name, manager, config, runtime, hooks, .. } = self;
+        let PoolConfig { max_size, timeouts, queue_mode, max_waiting } = config;
         if timeouts.is_any_set() && runtime.is_none() {
             return Err(BuildError::NoRuntimeSpecified);
         }
         let desk = Core::<M>::new(Global, max_size, queue_mode, self.entries, self.min_idle);
-        let desk = desk.map_err(|_| BuildError::OutOfMemory)?;
-        Ok(Pool::of(Handle::new(Setup { manager, hooks, timeouts, runtime }, desk, self.entries > 0)))
+        let desk = desk.map_err(|_| BuildError::OutOfMemory)?.bounded(max_waiting);
+        Ok(Pool::of(Handle::new(Setup { name, manager, hooks, timeouts, runtime }, desk, self.entries > 0)))
+    }
+
+    /// Sets the name by which the pool is told from others: in its `Debug`, its tally, and the errors that [`Pool::named`] gives.
+    /// It is this crate's own.
+    pub fn name(self, name: impl Into<Cow<'static, str>>) -> Self {
+        PoolBuilder { name: Some(name.into()), ..self }
     }
 
     setters! {
@@ -103,6 +113,8 @@ impl<M: Manager, W: From<Object<M>>> PoolBuilder<M, W> {
             recycle_timeout: Option<Duration> => config.timeouts.recycle;
             /// Sets which idle object is handed out next.
             queue_mode: QueueMode => config.queue_mode;
+            /// Sets how many gets may wait for a place; none is without a bound. It is this crate's own.
+            max_waiting: Option<usize> => config.max_waiting;
             /// Sets where the pool has its timers from.
             runtime: Runtime => runtime;
             /// Sets how many idle objects a resize and a retain leave, if as many are idle. It is this crate's own.

@@ -3,7 +3,7 @@ use super::{BuildError, QueueMode};
 use crate::errors::error_texts;
 use std::time::Duration;
 
-/// How many objects, how long each phase of a get may last, and which idle object is next.
+/// How many objects, how long each phase of a get may last, which idle object is next, and how many gets may wait.
 #[derive(Clone, Copy, Debug)]
 #[cfg_attr(feature = "serde", derive(serde::Deserialize, serde::Serialize))]
 pub struct PoolConfig {
@@ -15,13 +15,16 @@ pub struct PoolConfig {
     /// Which idle object is handed out next.
     #[cfg_attr(feature = "serde", serde(default))]
     pub queue_mode: QueueMode,
+    /// How many gets may wait for a place; none is without a bound. It is this crate's own.
+    #[cfg_attr(feature = "serde", serde(default, skip_serializing_if = "Option::is_none"))]
+    pub max_waiting: Option<usize>,
 }
 
 impl PoolConfig {
-    /// So many objects, no timeouts, and the idle object next that came back first.
+    /// So many objects, no timeouts, the idle object next that came back first, and no bound on those that wait.
     #[must_use]
     pub fn new(max_size: usize) -> Self {
-        PoolConfig { max_size, timeouts: Timeouts::default(), queue_mode: QueueMode::default() }
+        PoolConfig { max_size, timeouts: Timeouts::default(), queue_mode: QueueMode::default(), max_waiting: None }
     }
 }
 

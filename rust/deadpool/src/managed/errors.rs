@@ -26,6 +26,8 @@ pub enum PoolError<E> {
     NoRuntimeSpecified,
     /// A hook refused the new object.
     PostCreateHook(HookError<E>),
+    /// No place was free, and as many gets waited as may. It is this crate's own.
+    Crowded,
     /// The get's entry in the queue, its waker or its object's box found no memory.
     OutOfMemory,
     /// No object number is left.
@@ -40,6 +42,7 @@ error_texts! { PoolError<E: 'static> {
     Self::Closed => "Pool has been closed",
     Self::NoRuntimeSpecified => "No runtime specified",
     Self::PostCreateHook(cause) => "`post_create` hook failed: {cause}\n" from cause,
+    Self::Crowded => "Too many gets wait for a slot",
     Self::OutOfMemory => "Out of memory",
     Self::NumbersExhausted => "Object numbers are exhausted",
 } }

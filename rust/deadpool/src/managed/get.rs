@@ -6,7 +6,7 @@ use crate::parcel::Boxed;
 use crate::timed::{Alarm, in_time, noting_polls, poll_again};
 use crate::waiting::{Asked, Turn, Waiting};
 use std::pin::pin;
-use std::time::Duration;
+use std::time::{Duration, Instant};
 
 type Given<T, M> = Result<T, PoolError<<M as Manager>::Error>>;
 
@@ -15,18 +15,21 @@ pub(super) struct Get<'a, M: Manager> {
     /// What is to be given back, if anything is.
     held: Option<Held>,
     kept: Option<Boxed<Kept<M>>>,
+    /// Since when it has waited for a place, if it has.
+    since: Option<Instant>,
 }
 
 impl<'a, M: Manager> Get<'a, M> {
     /// An object, within these timeouts.
     pub(super) async fn within(pool: &'a Shared<M>, timeouts: &Timeouts) -> Given<Option<Boxed<Kept<M>>>, M> {
-        let mut get = Get { pool, held: None, kept: None };
+        let mut get = Get { pool, held: None, kept: None, since: None };
         let may_wait = timeouts.wait != Some(Duration::ZERO);
         let alarm = get.alarm(timeouts.wait.filter(|_| may_wait))?;
         let cancel = |desk: &mut Core<M>, ticket| _ = desk.make(&Step::Withdraw { ticket }, &mut None);
         let waiting = Waiting { pool, wakers: |state| &mut state.gets, cancel, ticket: None };
         let step = |desk: &mut Core<M>, asked| get.asks(desk, may_wait, asked);
         let (mut held, mut left) = waiting.ask(alarm, step, || Err(PoolError::OutOfMemory)).await?;
+        let waited = get.since.map_or(Duration::ZERO, |since| since.elapsed());
         loop {
             let allowance = match held {
                 Held::Creation => break get.create(timeouts.create).await?,
@@ -44,12 +47,16 @@ impl<'a, M: Manager> Get<'a, M> {
                     None
                 }
             };
+            let _tells = pool.telling_end();
             (held, left) = pool.step(|state| {
                 let reply = get.make(&mut state.desk, &Step::Again { allowance });
                 get.served(reply)
             })?;
         }
         get.held = None;
+        if let Some(kept) = &mut get.kept {
+            kept.waited = waited;
+        }
         Ok(get.kept.take())
     }
 
@@ -61,7 +68,10 @@ impl<'a, M: Manager> Get<'a, M> {
             Some((ticket, expired)) => self.make(desk, &Step::Ask { ticket, expired }),
         };
         match reply {
-            Reply::Waiting(ticket) => Turn::Waits(ticket),
+            Reply::Waiting(ticket) => {
+                self.since.get_or_insert_with(Instant::now);
+                Turn::Waits(ticket)
+            }
             reply => Turn::Ended(self.served(reply)),
         }
     }
@@ -85,6 +95,7 @@ impl<'a, M: Manager> Get<'a, M> {
             Reply::Going => (Held::Place, 0),
             Reply::Exhausted => return Err(PoolError::NumbersExhausted),
             Reply::Full | Reply::Expired => return Err(PoolError::Timeout(TimeoutType::Wait)),
+            Reply::Crowded => return Err(PoolError::Crowded),
             Reply::OutOfMemory => return Err(PoolError::OutOfMemory),
             _ => return Err(PoolError::Closed),
         };
@@ -92,6 +103,7 @@ impl<'a, M: Manager> Get<'a, M> {
         Ok(served)
     }
 
+    #[inline(always)]
     fn alarm(&self, timeout: Option<Duration>) -> Given<Alarm, M> {
         Alarm::after(timeout, self.pool.setup.runtime).ok_or(PoolError::NoRuntimeSpecified)
     }
@@ -115,7 +127,7 @@ impl<'a, M: Manager> Get<'a, M> {
 
     /// The creation ends well, unless there is no memory for the object.
     fn created(&mut self, value: M::Type) -> Given<(), M> {
-        let kept = Kept { value, metrics: Metrics::default(), number: 0 };
+        let kept = Kept { value, metrics: Metrics::default(), waited: Duration::ZERO, number: 0 };
         let mut kept = Boxed::new(kept).map_err(|_| PoolError::OutOfMemory)?;
         let Reply::Number(number) = self.pool.step(|state| state.desk.make(&Step::Created, &mut None)) else {
             return Err(PoolError::Closed);
@@ -145,6 +157,7 @@ impl<'a, M: Manager> Get<'a, M> {
     /// Makes a step that gives up what is held, with the object if there is one, and holds this after it.
     fn give_up(&mut self, step: &Step, held: Option<Held>) {
         self.held = held;
+        let _tells = self.pool.telling_end();
         let kept = self.kept.take();
         self.pool.step(|state| state.desk.make(step, &mut None));
         if let Some(mut kept) = kept {
@@ -154,6 +167,7 @@ impl<'a, M: Manager> Get<'a, M> {
 }
 
 impl<M: Manager> Drop for Get<'_, M> {
+    #[inline]
     fn drop(&mut self) {
         if let Some(held) = self.held {
             self.give_up(&Step::Cancel(held), None);

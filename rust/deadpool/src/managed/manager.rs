@@ -75,6 +75,7 @@ impl Metrics {
         self.recycled.unwrap_or(self.created).elapsed()
     }
 
+    #[inline]
     pub(super) fn recycled_now(&mut self) {
         self.recycled = Some(Instant::now());
         self.recycle_count = self.recycle_count.saturating_add(1);

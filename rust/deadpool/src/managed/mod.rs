@@ -35,7 +35,7 @@ mod config;
 mod errors;
 mod get;
 mod hooks;
-mod journal;
+mod limits;
 mod manager;
 mod object;
 mod pool;
@@ -43,21 +43,23 @@ pub mod reexports;
 
 pub use crate::Status;
 pub use crate::cores::desk::{ObjectId, QueueMode};
+pub use crate::cores::journal::{Report, Tally};
 pub use crate::errors::OutOfMemory;
+pub use crate::journal::Journal;
 pub use builder::{BuildError, PoolBuilder};
 pub use config::{CreatePoolError, PoolConfig, Timeouts};
 pub use errors::{HookError, PoolError, RecycleError, TimeoutType};
 pub use hooks::{Hook, HookFuture, HookResult};
-pub use journal::Journal;
+pub use limits::Limits;
 pub use manager::{Manager, Metrics, RecycleResult};
 pub use object::Object;
 pub use pool::{Pool, RetainResult, WeakPool};
 
-use crate::cores::journal::Journaled;
+use crate::desk::Managed;
 use crate::parcel::Parcel;
 use crate::shared;
 
 /// What both pools have, at the types of this one.
-type Core<M> = Journaled<Parcel<object::Kept<M>>>;
+type Core<M> = Managed<Parcel<object::Kept<M>>>;
 type Shared<M> = shared::Shared<builder::Setup<M>, Core<M>>;
 type Handle<M> = shared::Handle<builder::Setup<M>, Core<M>>;

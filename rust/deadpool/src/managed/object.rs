@@ -5,11 +5,14 @@ use crate::lends::lends_value;
 use crate::parcel::{Boxed, Parcel};
 use std::fmt;
 use std::sync::Arc;
+use std::time::Duration;
 
 /// A value, with what is known of it.
 pub(super) struct Kept<M: Manager> {
     pub(super) value: M::Type,
     pub(super) metrics: Metrics,
+    /// How long its last get has waited for a place.
+    pub(super) waited: Duration,
     pub(super) number: usize,
 }
 
@@ -59,6 +62,7 @@ impl<M: Manager> Object<M> {
     pub fn take(mut this: Self) -> M::Type {
         let mut kept = this.kept.take().expect("an object has its value");
         let reply = this.pool.step(|state| state.desk.make(&Step::Take, &mut None));
+        this.pool.tell_end();
         if let Reply::Taken { detach: true } = reply {
             this.pool.setup.manager.detach(&mut kept.value);
         }
@@ -75,6 +79,11 @@ impl<M: Manager> Object<M> {
         &this.kept().metrics
     }
 
+    /// How long its get waited for a place: zero if it was served at once. What the manager and the hooks took is no part of it.
+    pub fn waited(this: &Self) -> Duration {
+        this.kept().waited
+    }
+
     /// Its pool, if that has a handle left.
     pub fn pool(this: &Self) -> Option<Pool<M>> {
         Pool::upgrade(&this.pool)
@@ -87,7 +96,11 @@ impl<M: Manager> Drop for Object<M> {
         let Some(kept) = self.kept.take() else { return };
         let mut hand = Some(Slot { number: kept.number, value: Parcel::of(kept) });
         let reply = self.pool.step(|state| state.desk.make(&Step::Back, &mut hand));
-        if let (Reply::Detach, Some(mut kept)) = (reply, in_hand(hand)) {
+        let Some(kept) = in_hand(hand) else { return };
+        let _tells = self.pool.telling_end();
+        // (it is dropped before that)
+        let mut kept = kept;
+        if let Reply::Detach = reply {
             self.pool.setup.manager.detach(&mut kept.value);
         }
     }

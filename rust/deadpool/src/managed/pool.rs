@@ -1,13 +1,22 @@
 //! A handle of a pool.
 use super::get::Get;
 use super::object::Kept;
-use super::{Core, Handle, Journal, Manager, Metrics, Object, OutOfMemory, PoolBuilder, PoolError, Shared, Timeouts};
+use super::{
+    Core, Handle, Journal, Limits, Manager, Metrics, Object, OutOfMemory, PoolBuilder, PoolError, Report, Shared,
+    Timeouts,
+};
 use crate::Status;
 use crate::cores::desk::{OwnerDesk, OwnerReply, OwnerStep, Retainer};
+use crate::desk::Desk;
+use crate::ending::{alarm_within, drained, ends_within};
+use crate::errors::Named;
 use crate::parcel::{Boxed, Parcel};
+use crate::timed::{Alarm, poll_again};
 use std::fmt;
+use std::future::Future;
 use std::marker::PhantomData;
 use std::sync::{Arc, Weak};
+use std::time::{Duration, Instant};
 
 /// What became of the idle objects in a retain.
 #[derive(Debug)]
@@ -102,6 +111,15 @@ impl<M: Manager, W: From<Object<M>>> Pool<M, W> {
         Ok(Object { kept, pool: Arc::clone(&self.shared) }.into())
     }
 
+    /// An object, if a place is free. It does not wait for one, but for its manager and hooks, within the pool's timeouts.
+    ///
+    /// # Errors
+    ///
+    /// As of [`Pool::get`]: it is `Timeout(TimeoutType::Wait)` if none is free.
+    pub async fn try_get(&self) -> Result<W, PoolError<M::Error>> {
+        self.timeout_get(&Timeouts { wait: Some(Duration::ZERO), ..self.timeouts() }).await
+    }
+
     /// Sets the limit of an open pool. The idle objects above it are dropped, the one that came back first before the others.
     ///
     /// # Panics
@@ -142,20 +160,27 @@ impl<M: Manager, W: From<Object<M>>> Pool<M, W> {
     /// If no memory is found no object has left.
     pub fn try_retain(
         &self,
-        mut predicate: impl FnMut(&M::Type, Metrics) -> bool,
+        predicate: impl FnMut(&M::Type, Metrics) -> bool,
     ) -> Result<RetainResult<M::Type>, OutOfMemory> {
-        let given = self.shared.step(|state| {
-            let mut keep = Vec::new();
-            while let Some(slot) = state.desk.idle_at(keep.len()) {
-                keep.try_reserve(1).map_err(|_| OutOfMemory)?;
-                let is_kept = slot.value.lend(|kept| predicate(&kept.value, kept.metrics));
-                keep.push(is_kept.unwrap_or_default());
+        retained(&self.shared, predicate)
+    }
+
+    /// Gives up, after each period, the idle objects that are past these limits, as [`Pool::try_retain`] does, until the pool
+    /// has closed or has no handle. It is no handle: a task is spawned with it, or a thread [waits](crate::wait) for it. The
+    /// periods are measured by the pool's timers, or by this crate's thread if it has none.
+    pub fn keeper(&self, limits: Limits, period: Duration) -> impl Future<Output = ()> + Send + use<M, W> {
+        let (pool, runtime) = (Arc::downgrade(&*self.shared), self.shared.setup.runtime);
+        async move {
+            while !ends_within(&pool, alarm_within(period, runtime)).await {
+                if let Some(pool) = pool.upgrade() {
+                    let now = Instant::now();
+                    // (what finds no memory is tried again after a period)
+                    let _ = retained(&pool, |_, metrics| limits.allow(&metrics, now));
+                }
+                // (a period may be zero)
+                poll_again().await;
             }
-            state.desk.retain(&mut Choice(keep.into_iter())).map_err(|_| OutOfMemory)
-        })?;
-        let mut gone: Vec<_> = given.removed.into_iter().flatten().collect();
-        gone.iter_mut().for_each(|kept| self.shared.setup.manager.detach(&mut kept.value));
-        Ok(RetainResult { retained: given.retained, removed: gone.into_iter().map(|kept| kept.open().value).collect() })
+        }
     }
 
     /// The timeouts that the pool was built with.
@@ -168,6 +193,50 @@ impl<M: Manager, W: From<Object<M>>> Pool<M, W> {
         self.shared.close();
     }
 
+    /// Closes the pool, as [`Pool::close`], and waits until nothing is left of it: no object is out, and no get has a place or a
+    /// creation under way. Who has an object of its own waits for good.
+    pub async fn drain(&self) {
+        let _ = drained(&self.shared, Alarm::Unset).await;
+    }
+
+    /// The same, but no longer than this, by the pool's timers, or by this crate's thread if it has none.
+    ///
+    /// # Errors
+    ///
+    /// How the pool stands if something is left then. It stays closed.
+    pub async fn drain_for(&self, most: Duration) -> Result<(), Status> {
+        drained(&self.shared, alarm_within(most, self.shared.setup.runtime)).await
+    }
+
+    /// The name that the pool was built with.
+    #[must_use]
+    pub fn name(&self) -> Option<&str> {
+        self.shared.setup.name.as_deref()
+    }
+
+    /// The error under the pool's name.
+    ///
+    /// ```
+    /// # use deadpool::managed::{Manager, Metrics, RecycleResult};
+    /// # use std::convert::Infallible;
+    /// # struct Lists;
+    /// # impl Manager for Lists {
+    /// #     type Type = Vec<u64>;
+    /// #     type Error = Infallible;
+    /// #     async fn create(&self) -> Result<Vec<u64>, Infallible> { Ok(Vec::new()) }
+    /// #     async fn recycle(&self, _: &mut Vec<u64>, _: &Metrics) -> RecycleResult<Infallible> { Ok(()) }
+    /// # }
+    /// use deadpool::managed::Pool;
+    ///
+    /// let pool: Pool<Lists> = Pool::builder(Lists).name("orders").build().expect("a pool");
+    /// pool.close();
+    /// let error = deadpool::wait(pool.get()).map_err(|error| pool.named(error)).expect_err("it is closed");
+    /// assert_eq!(error.to_string(), "pool orders: Pool has been closed");
+    /// ```
+    pub fn named<E>(&self, error: E) -> Named<E> {
+        Named { name: self.shared.setup.name.clone(), error }
+    }
+
     /// Whether the pool has closed.
     pub fn is_closed(&self) -> bool {
         self.shared.look().desk.is_closed()
@@ -176,10 +245,15 @@ impl<M: Manager, W: From<Object<M>>> Pool<M, W> {
     /// How the pool stands.
     #[must_use]
     pub fn status(&self) -> Status {
-        match self.shared.look().desk.make_for_owner(&OwnerStep::Status) {
-            OwnerReply::Stands(status) => status,
-            reply => unreachable!("{reply:?} is no reply to how the pool stands"),
-        }
+        self.shared.look().desk.status()
+    }
+
+    /// How often each thing has happened since the pool was opened, with how it stands, both of one moment. It is printed as
+    /// Prometheus reads it, with the pool's name as a label.
+    #[must_use]
+    pub fn tally(&self) -> Report<'_> {
+        let desk = &mut self.shared.look().desk;
+        Report { name: self.name().unwrap_or_default(), tally: desk.tally(), status: desk.status() }
     }
 
     /// The manager.
@@ -194,8 +268,15 @@ impl<M: Manager, W: From<Object<M>>> Pool<M, W> {
     }
 
     /// The steps that the pool has made, of which [`PoolBuilder::journal`] says how many are noted.
+    ///
+    /// # Panics
+    ///
+    /// If no memory is found for a copy.
+    #[must_use]
     pub fn journal(&self) -> Journal {
-        Journal::read(&self.shared.look().desk)
+        let copy = self.shared.look().desk.journal();
+        let copy = copy.expect("memory for a copy of the journal");
+        Journal::of(&copy, copy.full)
     }
 }
 
@@ -206,10 +287,32 @@ impl<M: Manager, W: From<Object<M>>> Clone for Pool<M, W> {
     }
 }
 
+/// Its name and how it stands, as [`Pool::status`] says, unless a step is under way.
 impl<M: Manager, W: From<Object<M>>> fmt::Debug for Pool<M, W> {
     fn fmt(&self, f: &mut fmt::Formatter<'_>) -> fmt::Result {
-        f.debug_struct("Pool").finish_non_exhaustive()
+        let mut told = f.debug_struct("Pool");
+        self.name().iter().for_each(|name| _ = told.field("name", name));
+        self.shared.debug(&mut told)
     }
+}
+
+/// Gives up the idle objects of which a predicate says no.
+fn retained<M: Manager>(
+    pool: &Shared<M>,
+    mut predicate: impl FnMut(&M::Type, Metrics) -> bool,
+) -> Result<RetainResult<M::Type>, OutOfMemory> {
+    let given = pool.step(|state| {
+        let mut keep = Vec::new();
+        while let Some(slot) = state.desk.idle_at(keep.len()) {
+            keep.try_reserve(1).map_err(|_| OutOfMemory)?;
+            let is_kept = slot.value.lend(|kept| predicate(&kept.value, kept.metrics));
+            keep.push(is_kept.unwrap_or_default());
+        }
+        state.desk.retain(&mut Choice(keep.into_iter())).map_err(|_| OutOfMemory)
+    })?;
+    let mut gone: Vec<_> = given.removed.into_iter().flatten().collect();
+    gone.iter_mut().for_each(|kept| pool.setup.manager.detach(&mut kept.value));
+    Ok(RetainResult { retained: given.retained, removed: gone.into_iter().map(|kept| kept.open().value).collect() })
 }
 
 /// A reference to a pool that is no handle.

@@ -16,11 +16,12 @@ mod object;
 mod pool;
 
 pub use crate::Status;
+pub use crate::journal::Journal;
 pub use config::{PoolConfig, PoolError};
 pub use object::Object;
 pub use pool::Pool;
 
-use crate::cores::unmanaged;
+use crate::desk::Unmanaged;
 use crate::parcel::Parcel;
 
-type Core<T> = unmanaged::Core<Parcel<T>>;
+type Core<T> = Unmanaged<Parcel<T>>;

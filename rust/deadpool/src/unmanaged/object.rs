@@ -21,6 +21,7 @@ impl<T> Object<T> {
     pub fn take(mut this: Self) -> T {
         let value = this.value.take().expect("an object has its value");
         this.pool.step(|state| state.desk.make(&Step::Take, &mut None));
+        this.pool.tell_end();
         value.open()
     }
 }
@@ -31,7 +32,10 @@ impl<T> Drop for Object<T> {
         let Some(value) = self.value.take() else { return };
         let mut hand = Some(Parcel::of(value));
         self.pool.step(|state| state.desk.make(&Step::Back, &mut hand));
-        drop(hand.and_then(|parcel| parcel.take()));
+        if let Some(value) = hand.and_then(|parcel| parcel.take()) {
+            let _tells = self.pool.telling_end();
+            drop(value);
+        }
     }
 }
 

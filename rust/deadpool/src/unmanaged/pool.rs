@@ -1,7 +1,9 @@
 //! A handle of a pool.
-use super::{Core, Object, PoolConfig, PoolError};
+use super::{Core, Journal, Object, PoolConfig, PoolError};
 use crate::Status;
 use crate::cores::unmanaged::{Reply, Step};
+use crate::desk::Desk;
+use crate::ending::{alarm_within, drained};
 use crate::parcel::{Boxed, Parcel};
 use crate::rattle::Global;
 use crate::shared::Handle;
@@ -41,10 +43,11 @@ impl<T> Pool<T> {
     ///
     /// # Errors
     ///
-    /// `OutOfMemory`, if no memory is found for as many objects.
+    /// `OutOfMemory`, if no memory is found for as many objects and entries.
     pub fn try_from_config(config: &PoolConfig) -> Result<Self, PoolError> {
-        let desk = Core::new(Global, config.max_size).map_err(|_| PoolError::OutOfMemory)?;
-        Ok(Pool { shared: Handle::new(*config, desk, false) })
+        let desk = Core::new(Global, config.max_size, config.journal).map_err(|_| PoolError::OutOfMemory)?;
+        let desk = desk.bounded(config.max_waiting);
+        Ok(Pool { shared: Handle::new(*config, desk, config.journal > 0) })
     }
 
     /// An object, within the configured timeout.
@@ -150,6 +153,20 @@ impl<T> Pool<T> {
         self.shared.close();
     }
 
+    /// Closes the pool, as [`Pool::close`], and waits until no object is out. Who has an object of its own waits for good.
+    pub async fn drain(&self) {
+        let _ = drained(&self.shared, Alarm::Unset).await;
+    }
+
+    /// The same, but no longer than this, by the pool's timers, or by this crate's thread if it has none.
+    ///
+    /// # Errors
+    ///
+    /// How the pool stands if an object is out then. It stays closed.
+    pub async fn drain_for(&self, most: Duration) -> Result<(), Status> {
+        drained(&self.shared, alarm_within(most, self.shared.setup.runtime)).await
+    }
+
     /// Whether the pool has closed.
     pub fn is_closed(&self) -> bool {
         self.shared.look().desk.is_closed()
@@ -159,6 +176,28 @@ impl<T> Pool<T> {
     #[must_use]
     pub fn status(&self) -> Status {
         self.shared.look().desk.status()
+    }
+
+    /// The steps that the pool has made, of which [`PoolConfig::journal`] says how many are noted. An object has no name there.
+    ///
+    /// ```
+    /// use deadpool::unmanaged::{Pool, PoolConfig, PoolError};
+    ///
+    /// let pool = Pool::from_config(&PoolConfig { journal: 100, ..PoolConfig::new(1) });
+    /// assert!(pool.try_add("a letter").is_ok());
+    /// drop(pool.try_get()?);
+    /// assert_eq!(pool.journal().entries, ["add at_once _ stored", "get at_once object _", "back _ kept"]);
+    /// # Ok::<(), PoolError>(())
+    /// ```
+    ///
+    /// # Panics
+    ///
+    /// If no memory is found for a copy.
+    #[must_use]
+    pub fn journal(&self) -> Journal {
+        let copy = self.shared.look().desk.journal();
+        let copy = copy.expect("memory for a copy of the journal");
+        Journal::of(&copy, copy.full)
     }
 }
 
@@ -195,9 +234,10 @@ impl<T> Clone for Pool<T> {
     }
 }
 
+/// How it stands, as [`Pool::status`] says, unless a step is under way.
 impl<T> fmt::Debug for Pool<T> {
     fn fmt(&self, f: &mut fmt::Formatter<'_>) -> fmt::Result {
-        f.debug_struct("Pool").finish_non_exhaustive()
+        self.shared.debug(&mut f.debug_struct("Pool"))
     }
 }
 
@@ -212,6 +252,7 @@ fn got<T>(desk: &mut Core<T>, may_wait: bool, asked: Asked) -> Turn<Result<Optio
     Turn::Ended(match reply {
         Reply::Waiting(ticket) => return Turn::Waits(ticket),
         Reply::Full | Reply::Expired => Err(PoolError::Timeout),
+        Reply::Crowded => Err(PoolError::Crowded),
         Reply::OutOfMemory => Err(PoolError::OutOfMemory),
         _ => hand.map(|parcel| parcel.take()).ok_or(PoolError::Closed),
     })
@@ -228,6 +269,7 @@ fn stored<T>(desk: &mut Core<T>, step: &Step, value: &mut Option<Boxed<T>>) -> T
         Reply::Waiting(ticket) => return Turn::Waits(ticket),
         Reply::Stored => Ok(()),
         Reply::Full => Err(PoolError::Timeout),
+        Reply::Crowded => Err(PoolError::Crowded),
         Reply::OutOfMemory => Err(PoolError::OutOfMemory),
         _ => Err(PoolError::Closed),
     })

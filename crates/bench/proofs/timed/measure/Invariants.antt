@@ -1,3 +1,4 @@
+-- The names that `measure` picks for the pool with timeouts that it measures: those of its blanks.
 use Rattle.bench.proofs.timed.measure.Given as goal
 
 abbrev pub ghosts-measure_pool : goal.ghosts-measure_pool

@@ -1,3 +1,4 @@
+-- While keys are written into a caller's block: the first ones are those of the idle objects, the rest is as it was.
 use Rattle.deadpool_c.proofs.{Words.◌≡◌, Words.◌≤◌, Words.length, Words.take, Words.drop, Words.idle_keys}
 use Rattle.deadpool_c.proofs.{Steps.InBlock}
 use Rattle.deadpool_c.proofs.managed_owner.write_keys.Given as goal

@@ -1,3 +1,4 @@
+-- While an unmanaged pool's keys are written into a caller's block: the first are the idle ones, the rest as it was.
 use Rattle.deadpool_c.proofs.{Words.◌≡◌, Words.◌≤◌, Words.length, Words.take, Words.drop, Steps.InBlock}
 use Rattle.deadpool_c.proofs.unmanaged.write_keys.Given as goal
 

@@ -1,3 +1,4 @@
+-- A review keeps, gives up and notes objects as `Reviews` says, and has memory for each.
 use Rattle.deadpool_desk.proofs.Names.{◌<◌, ◌≤◌, ◌∙◌, length, sym, arith, rules}
 use Rattle.deadpool_desk.proofs.Reviewing.{review_begins, review_keeps, review_gives_up, review_goes_on, review_ends}
 use Rattle.deadpool_desk.proofs.review.review.Goals as goal

@@ -1,3 +1,4 @@
+-- While idle objects are reviewed: those seen so far are kept, given up and noted, with memory for all.
 use Rattle.deadpool_desk.proofs.Names.{◌≡◌, ◌≤◌, length, vec_len, vec_capacity}
 use Rattle.deadpool_desk.proofs.Reviewing.{IsReviewing}
 use Rattle.deadpool_desk.proofs.review.review.Given as goal

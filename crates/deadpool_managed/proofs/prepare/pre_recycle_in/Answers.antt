@@ -1,3 +1,4 @@
+-- An object that was served now is prepared from the first hook on, in its place.
 use Rattle.deadpool_managed.proofs.prepare.pre_recycle_in.Goals as goal
 
 pub returns-in-Some-clause-gives : goal.returns-in-Some-clause-gives

@@ -1,3 +1,4 @@
+-- A value is read as a duration exactly as `read_duration` reads it.
 use Rattle.deadpool_parts.proofs.Words.{arith, common_steps}
 use Rattle.serde_json.proofs.Views.{members_len-members_view}
 use Rattle.deadpool_parts.proofs.config_json.duration_of.Goals as goal

@@ -1,3 +1,4 @@
+-- One that is put in stands before the first with a greater number, and the place is within the table.
 use Rattle.deadpool_parts.proofs.Words.{rules, ◌≡◌, ◌∙◌, nat_lt, length, vec_len, arith, not, position_or_len}
 use Rattle.deadpool_parts.proofs.Words.{prefix_len-le-length}
 use Rattle.deadpool_parts.proofs.{Places.place_or_end, Numbered.inserted_at_place}

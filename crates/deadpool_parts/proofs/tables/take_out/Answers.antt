@@ -1,3 +1,4 @@
+-- The one that is taken out is the first with the number, and the table is without it then.
 use Rattle.deadpool_parts.proofs.{Words.◌≡◌, Words.◌==◌, Words.Some, Words.None, Words.sym, Words.position}
 use Rattle.deadpool_parts.proofs.{Places.found_at_place, Places.nothing_found, Numbered.removed_at_place}
 use Rattle.deadpool_parts.proofs.{Numbered.none_there}

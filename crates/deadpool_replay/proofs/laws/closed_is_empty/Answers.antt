@@ -1,3 +1,4 @@
+-- The law that a closed pool has limit 0 and nothing idle.
 use Rattle.deadpool_replay.proofs.RunsWell.{may, IsEmptyIfClosed, each_state}
 use Rattle.deadpool_replay.proofs.laws.closed_is_empty.Goals as goal
 

@@ -1,3 +1,4 @@
+-- The law that no more objects are idle than the limit.
 use Rattle.deadpool_replay.proofs.RunsWell.{may, HasFewIdle, each_state}
 use Rattle.deadpool_replay.proofs.laws.idle_within_limit.Goals as goal
 

@@ -1,3 +1,4 @@
+-- The law that a new object has the next number, and no number returns.
 use Rattle.deadpool_replay.proofs.RunsWell.{may, CountsOn, each_step, none_returns}
 use Rattle.deadpool_replay.proofs.laws.new_object_has_next.Goals as goal
 

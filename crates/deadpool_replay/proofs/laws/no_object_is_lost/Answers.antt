@@ -1,3 +1,4 @@
+-- The law that an object leaves the pool only by a move that may take it.
 use Rattle.deadpool_replay.proofs.RunsWell.{may_leave, may, OthersStayInPool, each_move, others_stay}
 use Rattle.deadpool_replay.proofs.laws.no_object_is_lost.Goals as goal
 

@@ -1,3 +1,4 @@
+-- The law that only its own move takes a get out of the queue, and no move changes another's get.
 use Rattle.deadpool_replay.proofs.RunsWell.{may, OthersStayQueued, OthersStand, each_move, others_stay_queued}
 use Rattle.deadpool_replay.proofs.laws.no_waiter_is_lost.Goals as goal
 

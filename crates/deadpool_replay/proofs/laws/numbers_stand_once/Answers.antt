@@ -1,3 +1,4 @@
+-- The law that no object's number stands twice.
 use Rattle.deadpool_replay.proofs.RunsWell.{may, IsNumbered, each_state}
 use Rattle.deadpool_replay.proofs.laws.numbers_stand_once.Goals as goal
 

@@ -1,3 +1,4 @@
+-- The law that an object given is out, and one kept at its return is idle.
 use Rattle.deadpool_replay.proofs.RunsWell.{may, IsOutIfGiven, IsIdleIfKept, each_reply}
 use Rattle.deadpool_replay.proofs.laws.object_is_where_said.Goals as goal
 

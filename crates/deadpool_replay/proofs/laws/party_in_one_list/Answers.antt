@@ -1,3 +1,4 @@
+-- The law that no party stands in two lists, nor twice in one.
 use Rattle.deadpool_replay.proofs.RunsWell.{may, IsListedOnce, each_state}
 use Rattle.deadpool_replay.proofs.OneList.{listed_once}
 use Rattle.deadpool_replay.proofs.laws.party_in_one_list.Goals as goal

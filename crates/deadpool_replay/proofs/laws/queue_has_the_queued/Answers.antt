@@ -1,3 +1,4 @@
+-- The law that those in the queue are those that stand as queued.
 use Rattle.deadpool_replay.proofs.RunsWell.{may, MarksQueued, each_state}
 use Rattle.deadpool_replay.proofs.laws.queue_has_the_queued.Goals as goal
 

@@ -1,3 +1,4 @@
+-- A newcomer stands last in the queue, and the others keep their order until they leave.
 use Rattle.deadpool_replay.proofs.RunsWell.{may, KeepsQueue, each_step}
 use Rattle.deadpool_replay.proofs.laws.queue_keeps_order.Goals as goal
 

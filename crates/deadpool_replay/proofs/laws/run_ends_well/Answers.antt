@@ -1,3 +1,4 @@
+-- The law that a run keeps the invariant.
 use Rattle.deadpool_replay.proofs.RunsWell.{may, ends_well}
 use Rattle.deadpool_replay.proofs.laws.run_ends_well.Goals as goal
 

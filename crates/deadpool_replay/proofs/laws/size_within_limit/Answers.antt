@@ -1,3 +1,4 @@
+-- The law that the size stays within a limit that no move sets.
 use Rattle.deadpool_replay.proofs.RunsWell.{may, stays_within}
 use Rattle.deadpool_replay.proofs.laws.size_within_limit.Goals as goal
 

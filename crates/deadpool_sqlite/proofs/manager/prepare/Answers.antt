@@ -1,3 +1,4 @@
+-- A batch that fails, or leaves a transaction open, is why a connection is not handed out.
 use Rattle.std.proofs.Common.{rules, inr, refl}
 use Rattle.deadpool_sqlite.proofs.Outcomes.{batch_fails}
 use Rattle.deadpool_sqlite.proofs.manager.prepare.Goals as goal

@@ -1,3 +1,4 @@
+-- A connection whose query fails is refused for that reason.
 use Rattle.std.proofs.Common.{rules}
 use Rattle.deadpool_sqlite.proofs.Outcomes.{query_fails}
 use Rattle.deadpool_sqlite.proofs.recycling.reuse.Goals as goal

@@ -1,3 +1,4 @@
+-- A rollback ends what is open and keeps what was committed.
 use Rattle.deadpool_sqlite.proofs.Texts.{failed_keeps, rollback_keeps, rollback_undoes}
 use Rattle.deadpool_sqlite.proofs.recycling.roll_back.Goals as goal
 

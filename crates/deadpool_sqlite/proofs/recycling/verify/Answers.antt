@@ -1,3 +1,4 @@
+-- The query that verifies a connection keeps what was committed, and its answer says that the connection is open.
 use Rattle.deadpool_sqlite.proofs.Texts.{answer_keeps, answer_is_open, no_answer_keeps}
 use Rattle.deadpool_sqlite.proofs.recycling.verify.Goals as goal
 

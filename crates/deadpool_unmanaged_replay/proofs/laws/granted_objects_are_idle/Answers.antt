@@ -1,3 +1,4 @@
+-- The law that an idle object stands ready for each get that was granted one.
 use Rattle.deadpool_unmanaged_replay.proofs.{Words.KeepsPromises, Well.each_state}
 use Rattle.deadpool_unmanaged_replay.proofs.laws.granted_objects_are_idle.Goals as goal
 

@@ -1,3 +1,4 @@
+-- The law that only its own move takes a party out of a queue, and no move changes another party.
 use Rattle.deadpool_unmanaged_replay.proofs.{Words.OthersStayQueued, Words.OthersStand, Well.each_move}
 use Rattle.deadpool_unmanaged_replay.proofs.{Well.moved_queued, Well.moved_parties}
 use Rattle.deadpool_unmanaged_replay.proofs.laws.no_waiter_is_lost.Goals as goal

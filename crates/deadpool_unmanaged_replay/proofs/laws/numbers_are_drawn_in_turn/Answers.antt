@@ -1,3 +1,4 @@
+-- The law that each move draws the next number or none, and no number returns.
 use Rattle.deadpool_unmanaged_replay.proofs.{Words.CountsOn, Well.each_step, Well.none_returns}
 use Rattle.deadpool_unmanaged_replay.proofs.laws.numbers_are_drawn_in_turn.Goals as goal
 

@@ -1,3 +1,4 @@
+-- The law that those in a queue are those that stand as queued there.
 use Rattle.deadpool_unmanaged_replay.proofs.{Words.HasTheQueued, Well.each_state}
 use Rattle.deadpool_unmanaged_replay.proofs.laws.queues_have_the_queued.Goals as goal
 

@@ -1,3 +1,4 @@
+-- There is room among the objects that are out for one more.
 use Rattle.deadpool_unmanaged_replay.proofs.{Basics.◌≡◌, Basics.◌≤◌, Basics.length, Basics.vec_len, Basics.vec_capacity}
 use Rattle.deadpool_unmanaged_replay.proofs.{Basics.arith, Basics.rules, Words.with_item, Lawful.length-with_item}
 use Rattle.deadpool_unmanaged_replay.proofs.trial.hand_out.Goals as goal

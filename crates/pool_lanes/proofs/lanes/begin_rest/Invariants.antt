@@ -1,3 +1,4 @@
+-- While new lanes are begun: the old ones stay, and each new one shows its part in the last column.
 use Rattle.pool_lanes.proofs.Words.{◌≡◌, ℕ, ◌+◌, ◌<◌, ◌≤◌, [], ◌∷◌, length, Some, slice_get, lane_at}
 use Rattle.pool_lanes.proofs.lanes.begin_rest.Given as goal
 

@@ -1,3 +1,4 @@
+-- Each lane is extended by its part of a column.
 use Rattle.pool_lanes.proofs.Words.{rules, arith, ◌≡◌, ◌∙◌, [], sym, subst, length-set, get_or_default, lane_at}
 use Rattle.pool_lanes.proofs.Words.{Extends}
 use Rattle.pool_lanes.proofs.GrownLanes.{rest_more, done_more}

@@ -1,3 +1,4 @@
+-- While lanes are extended: those before have their part of the column, the rest is as it was.
 use Rattle.pool_lanes.proofs.Words.{◌≡◌, ℕ, ◌<◌, ◌≤◌, length, Some, slice_get, Extends, lane_at}
 use Rattle.pool_lanes.proofs.lanes.extend_all.Given as goal
 

@@ -1,3 +1,4 @@
+-- Each party's shape is that of how it stands and of the object that it was given.
 use Rattle.pool_shapes.proofs.Words.{◌∙◌, None, arith, rules, length-append, slice_get-get_or, slice_get_within}
 use Rattle.pool_shapes.proofs.Words.{look_of, shape_of}
 use Rattle.pool_shapes.proofs.Columns.{one_more}

@@ -1,3 +1,4 @@
+-- While parties are shown: those so far have their shape, and the trial is as it was.
 use Rattle.pool_shapes.proofs.{Words.◌≡◌, Words.length, Words.look_of, Words.shape_of, Columns.IsDone}
 use Rattle.pool_shapes.proofs.parties.show_parties.Given as goal
 

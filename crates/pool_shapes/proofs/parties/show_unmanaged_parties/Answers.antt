@@ -1,3 +1,4 @@
+-- Each party of an unmanaged pool has the shape of how it stands and of the object that it was given.
 use Rattle.pool_shapes.proofs.Words.{◌∙◌, None, arith, rules, length-append, slice_get-get_or, slice_get_within}
 use Rattle.pool_shapes.proofs.Words.{unmanaged_look_of as look_of, unmanaged_shape_of}
 use Rattle.pool_shapes.proofs.Columns.{one_more}

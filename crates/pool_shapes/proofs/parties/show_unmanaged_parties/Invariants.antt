@@ -1,3 +1,4 @@
+-- While an unmanaged pool's parties are shown: those so far have their shape, and the trial is as it was.
 use Rattle.pool_shapes.proofs.{Words.◌≡◌, Words.length, Words.unmanaged_look_of as look_of, Words.unmanaged_shape_of}
 use Rattle.pool_shapes.proofs.{Columns.IsDone}
 use Rattle.pool_shapes.proofs.parties.show_unmanaged_parties.Given as goal

@@ -15,6 +15,7 @@ fn has_text(alloc: Global, entries: Vec<Entry>, text: &str) -> Result<(), Fail> 
         limit: 3,
         mode: QueueMode::Lifo,
         min_idle: 2,
+        max_waiting: None,
         entries,
         full: false,
     };
@@ -43,8 +44,16 @@ enter going
 enter exhausted
 enter closed
 enter at_once full
+enter crowded
 enter waiting 0
 enter out_of_memory";
+
+#[test]
+fn a_bound_in_the_first_line(rt: HostRuntime) -> Result<(), Fail> {
+    let pool: Journaled<u64> = Journaled::new(rt.alloc(), 1, QueueMode::Fifo, 0, 0)?;
+    let shown = pool.bounded(Some(5)).journal()?.to_string(rt.alloc())?;
+    expect("the text", shown.as_str(), "opened 1 fifo 0 5")
+}
 
 #[test]
 fn new_gets(rt: HostRuntime) -> Result<(), Fail> {
@@ -60,6 +69,7 @@ fn new_gets(rt: HostRuntime) -> Result<(), Fail> {
         made(Step::Enter { wait: true }, Reply::Exhausted),
         made(Step::Enter { wait: true }, Reply::Closed),
         made(Step::Enter { wait: false }, Reply::Full),
+        made(Step::Enter { wait: true }, Reply::Crowded),
         made(Step::Enter { wait: true }, Reply::Waiting(ticket)),
         made(Step::Enter { wait: true }, Reply::OutOfMemory),
     ]?;

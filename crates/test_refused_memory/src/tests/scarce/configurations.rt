@@ -22,11 +22,12 @@ fn config() -> PoolConfig {
         },
         queue_mode: QueueMode::Lifo,
         min_idle: 1,
+        max_waiting: Some(3),
     }
 }
 
 const TEXT: &str =
-    r#"{"max_size":42,"min_idle":1,"queue_mode":"Lifo","timeouts":{"create":null,"recycle":{"nanos":5,"secs":0},"wait":{"nanos":0,"secs":1}}}"#;
+    r#"{"max_size":42,"max_waiting":3,"min_idle":1,"queue_mode":"Lifo","timeouts":{"create":null,"recycle":{"nanos":5,"secs":0},"wait":{"nanos":0,"secs":1}}}"#;
 
 // Whether a configuration was written, as this text. If it was not, it was refused for want of memory.
 fn is_written(

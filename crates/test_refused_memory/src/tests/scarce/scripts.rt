@@ -3,7 +3,8 @@
 use std::alloc::Global;
 use std::test::Fail;
 use test_scripts::{
-    FIRST_PATH, MIN_IDLE, OWN_STEPS, PREPARATION, TIMEOUTS, UNMANAGED, is_listed, script_of,
+    FIRST_PATH, MAX_WAITING, MIN_IDLE, OWN_STEPS, PREPARATION, TIMEOUTS, UNMANAGED, is_listed,
+    script_of,
 };
 
 // Worked scripts over managed pools.
@@ -11,14 +12,21 @@ const WORKED: &str = "three-gets-and-returns numbers-exhausted gives-up-all-that
     post-create-refuses-odd-values pre-recycle-refuses-in-turn refused-creation-passes-its-place-on
     cancelled-while-granted creation-timeout-of-zero granted-before-the-clock-is-asked
     timeouts-without-a-runtime wait-ends-at-its-deadline close going-over-a-close grow-shrink-grow
-    growth-grants-a-waiter shrink-and-grow-with-objects-out take floor-under-shrink-and-retain";
+    growth-grants-a-waiter shrink-and-grow-with-objects-out take floor-under-shrink-and-retain late-get-makes-room";
 
 // Worked scripts over unmanaged pools.
-const WORKED_UNMANAGED: &str = "add-and-remove no-runtime";
+const WORKED_UNMANAGED: &str = "add-and-remove no-runtime one-more-is-refused";
 
 /// Scripts over managed pools.
 pub fn managed(alloc: Global) -> Result<Vec<&'static str>, Fail> {
-    let texts = [FIRST_PATH, PREPARATION, TIMEOUTS, OWN_STEPS, MIN_IDLE];
+    let texts = [
+        FIRST_PATH,
+        PREPARATION,
+        TIMEOUTS,
+        OWN_STEPS,
+        MIN_IDLE,
+        MAX_WAITING,
+    ];
     chosen(alloc, &texts, WORKED, OWN)
 }
 

@@ -2,7 +2,7 @@
 use super::player::Player;
 use deadpool_parts::Runtime;
 use deadpool_unmanaged_replay::{Move, Reply, Trial};
-use pool_scripts::{PoolLine, UnmanagedPool, parse_pool, parse_unmanaged, write_unmanaged};
+use pool_scripts::{PoolLine, parse_pool, parse_unmanaged, write_unmanaged};
 use std::alloc::{AllocError, Global};
 use std::random::RandomSource;
 use std::test::Fail;
@@ -41,8 +41,8 @@ impl UnmanagedPlayer {
 impl Player for UnmanagedPlayer {
     fn open<R: RandomSource + AllocGlobal>(rt: &R, line: &'static str) -> Result<Self, Fail> {
         let alloc = rt.alloc();
-        let (max_size, runtime) = opening_of(alloc, line)?;
-        let trial = Trial::new(alloc, max_size, runtime, PARTIES)?;
+        let (max_size, max_waiting, runtime) = opening_of(alloc, line)?;
+        let trial = Trial::new(alloc, max_size, runtime, PARTIES)?.bounded(max_waiting);
         Ok(UnmanagedPlayer { alloc, trial })
     }
 
@@ -53,11 +53,15 @@ impl Player for UnmanagedPlayer {
         left: usize,
     ) -> Result<Option<Self>, Fail> {
         let alloc = rt.alloc();
-        let (max_size, runtime) = opening_of(alloc, line)?;
+        let (max_size, max_waiting, runtime) = opening_of(alloc, line)?;
         hoard.take(left)?;
         let opened = Trial::new(alloc, max_size, runtime, PARTIES);
         hoard.let_go();
-        Ok(opened.ok().map(|trial| UnmanagedPlayer { alloc, trial }))
+        let Ok(trial) = opened else {
+            return Ok(None);
+        };
+        let trial = trial.bounded(max_waiting);
+        Ok(Some(UnmanagedPlayer { alloc, trial }))
     }
 
     fn play(&mut self, line: &'static str) -> Result<String, Fail> {
@@ -92,10 +96,10 @@ impl Player for UnmanagedPlayer {
     }
 }
 
-// What a pool line says: for how many objects, and whether timeouts are served.
-fn opening_of(alloc: Global, line: &str) -> Result<(usize, Option<Runtime>), Fail> {
+// What a pool line says: for how many objects, how many may wait, and whether timeouts are served.
+fn opening_of(alloc: Global, line: &str) -> Result<(usize, Option<usize>, Option<Runtime>), Fail> {
     match parse_pool(alloc, line.as_bytes()) {
-        Ok(PoolLine::Unmanaged(UnmanagedPool { max_size, runtime })) => Ok((max_size, runtime)),
+        Ok(PoolLine::Unmanaged(pool)) => Ok((pool.max_size, pool.max_waiting, pool.runtime)),
         _ => Err(Fail::new("not an unmanaged pool")),
     }
 }

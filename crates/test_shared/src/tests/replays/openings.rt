@@ -35,8 +35,15 @@ fn parse_words(words: &str) -> Result<Opening, Fail> {
     config.queue_mode = next_mode(&mut words)?;
     let runtime = runtime_of(next_word(&mut words)?)?;
     let first_number: usize = next_number(&mut words)?;
-    if let Some(min_idle) = words.next() {
-        config.min_idle = parse_number(min_idle)?;
+    let mut further = words.next();
+    if let Some(word) = further {
+        if word != "most" {
+            config.min_idle = parse_number(word)?;
+            further = words.next();
+        }
+    }
+    if further.is_some() {
+        config.max_waiting = Some(next_number(&mut words)?);
     }
     begins_at_zero(first_number)?;
     Ok(Opening { config, runtime })

@@ -15,19 +15,30 @@ const TIMEOUTS: [&'static str; 6] = [
     "null",
 ];
 
+// From so many on, any number of gets may wait.
+const UNBOUNDED: u64 = 3;
+
 /// The line that opens a pool. Timeouts are configured only if a clock serves them.
 pub fn throw_opening(alloc: Global, dice: &mut Dice) -> Result<String, AllocError> {
     let limit = dice.roll(5);
     let is_fifo = dice.roll(2) == 0;
     let min_idle = dice.roll(3);
+    let most = dice.roll(4);
     if dice.roll(2) == 0 {
         let mode = if is_fifo { "fifo" } else { "lifo" };
-        return format!(in alloc; "pool {limit} {mode} none 0 {min_idle}");
+        let mut line = format!(in alloc; "pool {limit} {mode} none 0 {min_idle}")?;
+        if most < UNBOUNDED {
+            write!(line, " most {most}")?;
+        }
+        return Ok(line);
     }
     let mode = if is_fifo { "Fifo" } else { "Lifo" };
     let mut line = format!(in alloc;
         "config clock 0 {{\"max_size\":{limit},\"queue_mode\":\"{mode}\",\"min_idle\":{min_idle},"
     )?;
+    if most < UNBOUNDED {
+        write!(line, "\"max_waiting\":{most},")?;
+    }
     line.push_str(r#""timeouts":{"#)?;
     for phase in [r#""wait":"#, r#","create":"#, r#","recycle":"#] {
         line.push_str(phase)?;

@@ -69,12 +69,12 @@ where
     R: Wait + Drop,
     L: Ledgers,
 {
-    let status = pool.status();
+    let (tally, status) = pool.tally();
     let counts = (status.max_size, status.available, status.waiting);
     expect(
-        "limit, available, waiting, and the sum",
-        (counts, total(pool)?),
-        ((3, status.size, 0), 100),
+        "limit, available, waiting, gets, and the sum",
+        (counts, tally.gets, total(pool)?),
+        ((3, status.size, 0), 100, 100),
     )
 }
 

@@ -45,6 +45,10 @@ tryadd 5 => added 0, wakes 0
 back 0 => kept, wakes 0
 close => ok, wakes 1
 
+# one-more-is-refused
+tryadd 1 => added 0, wakes 0
+close => ok, wakes 2 3
+
 # no-room-in-a-pool-of-none
 close => ok, wakes 0";
 

@@ -27,6 +27,8 @@ pub struct Core<T> {
     gate: Gate,
     next: usize,
     min_idle: usize,
+    // How many gets may wait. So many as the greatest number never do.
+    max_waiting: usize,
 }
 
 // The next idle object leaves the ring.
@@ -56,9 +58,16 @@ impl<T> Core<T> {
             places: Places::new(limit),
             mode,
             min_idle,
+            max_waiting: usize::MAX,
             next: first_number,
             handles: 1,
         })
+    }
+
+    /// The pool with a bound on the gets that wait for a place, or with none, before any waits.
+    #[inline]
+    pub fn bounded(self, max_waiting: Option<usize>) -> Self {
+        Core { max_waiting: max_waiting.unwrap_or(usize::MAX), ..self }
     }
 
     /// What is true of every core. The call does nothing.
@@ -114,12 +123,14 @@ impl<T> Core<T> {
             self.places.going += 1;
             return self.serve(None, hand);
         }
-        match self.gate.enter(room, wait) {
+        let may_join = self.may_join(wait);
+        match self.gate.enter(room, may_join) {
             Entry::Granted => {
                 self.places.going += 1;
                 self.serve(None, hand)
             }
             Entry::Closed => Reply::Closed,
+            Entry::Full if wait => Reply::Crowded,
             Entry::Full => Reply::Full,
             Entry::Waiting(ticket) => Reply::Waiting(ticket),
             Entry::OutOfMemory => Reply::OutOfMemory,

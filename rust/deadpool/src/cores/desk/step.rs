@@ -56,6 +56,8 @@ pub enum Reply {
     Closed,
     /// No place is free, and the get does not wait.
     Full,
+    /// No place is free, and as many gets wait as may.
+    Crowded,
     /// The get waits, under this ticket.
     Waiting(Ticket),
     /// The entry in the queue found no memory.

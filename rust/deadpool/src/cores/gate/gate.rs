@@ -2,6 +2,7 @@
 //! The line at a pool: those that found no place, in order of arrival, and what each of them was answered.
 
 mod store;
+mod within;
 
 use crate::rattle::Global;
 use store::{Change, Node, NodeStore};
@@ -73,7 +74,7 @@ pub enum Withdrawn {
 /// once, wherever it stands; `touched` says how many accesses to nodes a call made. Only `enter` takes memory.
 #[repr(C)]
 pub struct Gate {
-    first_untold: Option<usize>,
+    first_unnotified: Option<usize>,
     first_waiting: Option<usize>,
     granted: usize,
     waiting: usize,
@@ -112,7 +113,7 @@ impl Gate {
             first: None,
             last: None,
             first_waiting: None,
-            first_untold: None,
+            first_unnotified: None,
             granted: 0,
             waiting: 0,
             is_closed: false,
@@ -142,7 +143,7 @@ impl Gate {
         self.last = Some(key);
         self.first = Some(self.first.unwrap_or(key));
         self.first_waiting = Some(self.first_waiting.unwrap_or(key));
-        self.first_untold = Some(self.first_untold.unwrap_or(key));
+        self.first_unnotified = Some(self.first_unnotified.unwrap_or(key));
         self.waiting += 1;
         Entry::Waiting(Ticket { number: key })
     }
@@ -189,7 +190,7 @@ impl Gate {
         self.first = move_on(self.first, key, node.next);
         self.last = move_on(self.last, key, node.previous);
         self.first_waiting = move_on(self.first_waiting, key, node.next);
-        self.first_untold = move_on(self.first_untold, key, node.next);
+        self.first_unnotified = move_on(self.first_unnotified, key, node.next);
         self.granted -= usize::from(node.granted);
         self.waiting -= usize::from(!node.granted);
         Some(node.granted)
@@ -258,20 +259,20 @@ impl Gate {
     #[inline]
     pub fn take_wake(&mut self) -> Option<Ticket> {
         self.accesses_before = self.store.accesses();
-        let key = self.first_untold?;
+        let key = self.first_unnotified?;
         if !self.is_closed && self.first_waiting == Some(key) {
             return None;
         }
         let node = self.store.read(key)?;
         self.store.write(key, Change::Told);
-        self.first_untold = node.next;
+        self.first_unnotified = node.next;
         Some(Ticket { number: key })
     }
 
     /// Whether `take_wake` would name somebody. It looks at no waiter.
     #[inline]
     pub fn is_wake_due(&self) -> bool {
-        let Some(key) = self.first_untold else {
+        let Some(key) = self.first_unnotified else {
             return false;
         };
         self.is_closed || self.first_waiting != Some(key)
@@ -296,7 +297,7 @@ impl Gate {
     }
 
     /// How many accesses to nodes the last call on `&mut self` made: reads, writes of one field, nodes put in and nodes
-    /// taken out. Calls on `&self` make none, and leave this as it is.
+    /// taken out. Calls on `&self` make none, and leave this as it is. So does a `settle_within` while nobody waits.
     #[inline]
     pub fn touched(&self) -> u128 {
         self.store.accesses().saturating_sub(self.accesses_before)

@@ -6,15 +6,17 @@ use crate::cores::desk::{
     Core, Desk, OwnerDesk, OwnerReply, OwnerStep, QueueMode, Reply, RetainResult, Retainer, Slot, Step,
 };
 use crate::cores::journal::log::{Log, number_in};
+use crate::cores::journal::tally::Tally;
 use crate::cores::journal::{Entry, Journal};
 use crate::rattle::{AllocError, Global};
 
-/// A pool's state with a journal: at most so many entries, one for each step, and a mark that a step found no room.
+/// A pool's state with a journal: at most so many entries, one for each step, and a mark that a step found no room; and
+/// a tally of all steps.
 ///
 /// Until the mark is set, the entries, replayed from the state that the pool opened with, are the state, objects by
-/// number. Each step is that of `Core` and adds its entry, or sets the mark. Of the steps, an entry into the queue, a
-/// resize and a retain may take memory, as they do without a journal; the notes of a retain take some too, but not if
-/// there is no room for its entry.
+/// number. Each step is that of `Core`, is counted, and adds its entry, or sets the mark. Of the steps, an entry into
+/// the queue, a resize and a retain may take memory, as they do without a journal; the notes of a retain take some too,
+/// but not if there is no room for its entry.
 #[repr(C)]
 pub struct Journaled<T> {
     core: Core<T>,
@@ -22,11 +24,20 @@ pub struct Journaled<T> {
     limit: usize,
     mode: QueueMode,
     min_idle: usize,
+    max_waiting: Option<usize>,
+    tally: Tally,
+}
+
+// How many objects there are.
+#[inline]
+fn size_of<T>(core: &Core<T>) -> usize {
+    core.counts().size
 }
 
 impl<T> Journaled<T> {
     /// A pool with nothing idle and one handle, whose first object gets the number 0, and room for so many entries.
-    /// With none the journal takes no memory, and the first step sets the mark. `min_idle` is as in `Core::new`.
+    /// With none the journal takes no memory, and the first step sets the mark. `min_idle` is as in `Core::new`. Any
+    /// number of gets may wait.
     #[inline]
     pub fn new(
         alloc: Global,
@@ -37,7 +48,14 @@ impl<T> Journaled<T> {
     ) -> Result<Journaled<T>, AllocError> {
         let core = Core::new(alloc, limit, mode, 0, min_idle)?;
         let log = Log::new(alloc, most_entries)?;
-        Ok(Journaled { core, limit, mode, min_idle, log })
+        let tally = Tally::new();
+        Ok(Journaled { core, limit, mode, min_idle, max_waiting: None, log, tally })
+    }
+
+    /// The pool, before its first step, with a bound on the gets that wait for a place, or with none.
+    #[inline]
+    pub fn bounded(self, max_waiting: Option<usize>) -> Self {
+        Journaled { core: self.core.bounded(max_waiting), max_waiting, ..self }
     }
 
     /// A copy of the journal. It is no step.
@@ -47,6 +65,7 @@ impl<T> Journaled<T> {
             limit: self.limit,
             mode: self.mode,
             min_idle: self.min_idle,
+            max_waiting: self.max_waiting,
             entries: self.log.entries()?,
             full: self.log.is_full(),
         })
@@ -74,6 +93,12 @@ impl<T> Journaled<T> {
     #[inline]
     pub fn is_closed(&self) -> bool {
         self.core.is_closed()
+    }
+
+    /// Whether the pool has closed and nothing is left in it. It is no step.
+    #[inline]
+    pub fn is_drained(&self) -> bool {
+        self.core.is_drained()
     }
 
     /// Whether just one pool handle is left, which takes the idle objects with it. It is no step.
@@ -106,6 +131,12 @@ impl<T> Journaled<T> {
         self.core.next_ticket()
     }
 
+    /// How often each thing has happened since the pool was opened. It is no step.
+    #[inline]
+    pub fn tally(&self) -> Tally {
+        self.tally
+    }
+
     /// The next get in the queue that is due to be woken, and that was not named before. It is no step, and nothing is
     /// noted.
     #[inline]
@@ -126,6 +157,7 @@ impl<T> Desk<T> for Journaled<T> {
         let taken = number_in(hand);
         let reply = self.core.make(step, hand);
         self.log.add_step(step, taken, hand, &reply);
+        self.tally.count(step, &reply);
         reply
     }
 }
@@ -133,20 +165,29 @@ impl<T> Desk<T> for Journaled<T> {
 impl<T> OwnerDesk<T> for Journaled<T> {
     #[inline(always)]
     fn make_for_owner(&mut self, step: &OwnerStep) -> OwnerReply {
+        let size = size_of(&self.core);
         let reply = self.core.make_for_owner(step);
         self.log.add_owner_step(step, &reply);
+        let gone = size.saturating_sub(size_of(&self.core));
+        self.tally.count_for_owner(step, gone);
         reply
     }
 
     #[inline]
     fn retain<R: Retainer<T>>(&mut self, retainer: &mut R) -> Result<RetainResult<R::Left>, AllocError> {
+        let size = size_of(&self.core);
         if !self.log.has_room() {
             self.log.mark_full();
-            return self.core.retain(retainer);
+            let result = self.core.retain(retainer);
+            let gone = size.saturating_sub(size_of(&self.core));
+            self.tally.count_retain(&result, gone);
+            return result;
         }
         match self.core.retain_noting(retainer) {
             Ok((result, noted)) => {
                 self.log.add(Entry::Retain(Ok(noted)));
+                let fewer = size.saturating_sub(size_of(&self.core));
+                self.tally.count_not_retained(fewer);
                 Ok(result)
             }
             Err(e) => {

@@ -14,6 +14,9 @@ impl fmt::Display for Journal {
         };
         let min_idle = self.min_idle;
         write!(f, "opened {limit} {mode} {min_idle}")?;
+        if let Some(max_waiting) = self.max_waiting {
+            write!(f, " {max_waiting}")?;
+        }
         for entry in &self.entries {
             write!(f, "\n{entry}")?;
         }
@@ -90,6 +93,7 @@ fn write_reply(f: &mut fmt::Formatter<'_>, number: Option<usize>, reply: &Reply)
         Reply::Exhausted => f.write_str("exhausted"),
         Reply::Closed => f.write_str("closed"),
         Reply::Full => f.write_str("full"),
+        Reply::Crowded => f.write_str("crowded"),
         Reply::Waiting(ticket) => write!(f, "waiting {}", ticket.number()),
         Reply::OutOfMemory => f.write_str("out_of_memory"),
         Reply::Expired => f.write_str("expired"),

@@ -50,13 +50,21 @@ pub struct PoolConfig {
     /// How many objects a shrink and a retain leave idle, if as many are. It may be above
     /// `max_size`.
     pub min_idle: usize,
+    /// How many gets may wait for a place. One more is refused at once. None is no bound.
+    pub max_waiting: Option<usize>,
 }
 
 impl PoolConfig {
     /// A pool of at most `max_size` objects, first in first out.
     #[inline]
     pub fn new(max_size: usize) -> Self {
-        PoolConfig { max_size, timeouts: Timeouts::new(), queue_mode: QueueMode::default(), min_idle: 0 }
+        PoolConfig {
+            max_size,
+            timeouts: Timeouts::new(),
+            queue_mode: QueueMode::default(),
+            min_idle: 0,
+            max_waiting: None,
+        }
     }
 
     /// A pool for a machine with `count` processors: twice as many objects.

@@ -8,5 +8,5 @@ mod status;
 pub mod tables;
 
 pub use moment::{Clock, Moment, NoTime, Runtime};
-pub use replies::{HandleReply, StepReply};
+pub use replies::HandleReply;
 pub use status::Status;

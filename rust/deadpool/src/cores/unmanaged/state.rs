@@ -2,18 +2,15 @@
 //! The core of an unmanaged pool: a line for objects, a line for room, and the idle objects; and each step that a get,
 //! an add or an object makes.
 //!
-//! `line` settles one of the two lines. `counted` has what a core says of itself, and `owner` the steps of the pool's
-//! owner.
+//! `counted` has what a core says of itself, and `owner` the steps of the pool's owner.
 
 use crate::rattle::Vec;
 mod counted;
-mod line;
 mod owner;
 
 use crate::cores::gate::gate::{Ask, Entry, Gate, Ticket, Withdrawn};
 use crate::cores::unmanaged::{Reply, Step};
 use crate::rattle::{AllocError, Global};
-use line::settle;
 
 /// The state of an unmanaged pool on one thread. A step that puts something in or gives something back ends with the
 /// settling: the earliest gets that wait are granted the objects that are free, and the earliest adds the free room. So
@@ -32,6 +29,8 @@ pub struct Core<T> {
     // How many objects are out.
     outside: usize,
     handles: u64,
+    // How many gets may wait, and how many adds. So many as the greatest number never do.
+    max_waiting: usize,
 }
 
 // The next object goes out.
@@ -48,7 +47,7 @@ fn store<T>(idle: &mut Vec<T>, gets: &mut Gate, hand: &mut Option<T>) {
         unreachable!();
     };
     match idle.push(value) {
-        Ok(()) => settle(gets, idle.len()),
+        Ok(()) => gets.settle_within(idle.len(), 0),
         Err(_) => unreachable!(),
     }
 }
@@ -72,7 +71,21 @@ impl<T> Core<T> {
     // An open pool with these objects idle and one handle.
     #[inline]
     fn open(alloc: Global, idle: Vec<T>, limit: usize) -> Core<T> {
-        Core { gets: Gate::new(alloc), adds: Gate::new(alloc), idle, limit, outside: 0, handles: 1 }
+        Core {
+            gets: Gate::new(alloc),
+            adds: Gate::new(alloc),
+            idle,
+            limit,
+            outside: 0,
+            handles: 1,
+            max_waiting: usize::MAX,
+        }
+    }
+
+    /// The pool with a bound on the gets that wait, and on the adds, or with none, before any waits.
+    #[inline]
+    pub fn bounded(self, max_waiting: Option<usize>) -> Self {
+        Core { max_waiting: max_waiting.unwrap_or(usize::MAX), ..self }
     }
 
     /// What is true of every core. The call does nothing.
@@ -121,7 +134,8 @@ impl<T> Core<T> {
     #[inline(always)]
     fn get_enter(&mut self, wait: bool, hand: &mut Option<T>) -> Reply {
         let objects = self.free_objects();
-        match self.gets.enter(objects, wait) {
+        let may_join = self.get_may_join(wait);
+        match self.gets.enter(objects, may_join) {
             Entry::Granted => match take_last(&mut self.idle) {
                 Some(value) => {
                     *hand = Some(value);
@@ -131,6 +145,7 @@ impl<T> Core<T> {
                 None => unreachable!(),
             },
             Entry::Closed => Reply::Closed,
+            Entry::Full if wait => Reply::Crowded,
             Entry::Full => Reply::Full,
             Entry::Waiting(ticket) => Reply::Waiting(ticket),
             Entry::OutOfMemory => Reply::OutOfMemory,
@@ -168,7 +183,7 @@ impl<T> Core<T> {
         if let Withdrawn::Unknown = self.gets.withdraw(ticket) {
             return Reply::Unknown;
         }
-        settle(&mut self.gets, self.idle.len());
+        self.gets.settle_within(self.idle.len(), 0);
         Reply::Done
     }
 
@@ -176,12 +191,14 @@ impl<T> Core<T> {
     #[inline(always)]
     fn add_enter(&mut self, wait: bool, hand: &mut Option<T>) -> Reply {
         let room = self.free_room();
-        match self.adds.enter(room, wait) {
+        let may_join = self.add_may_join(wait);
+        match self.adds.enter(room, may_join) {
             Entry::Granted => {
                 store(&mut self.idle, &mut self.gets, hand);
                 Reply::Stored
             }
             Entry::Closed => Reply::Closed,
+            Entry::Full if wait => Reply::Crowded,
             Entry::Full => Reply::Full,
             Entry::Waiting(ticket) => Reply::Waiting(ticket),
             Entry::OutOfMemory => Reply::OutOfMemory,
@@ -208,7 +225,7 @@ impl<T> Core<T> {
         if let Withdrawn::Unknown = self.adds.withdraw(ticket) {
             return Reply::Unknown;
         }
-        settle(&mut self.adds, self.limit - self.idle.len() - self.outside);
+        self.adds.settle_within(self.limit - self.idle.len() - self.outside, 0);
         Reply::Done
     }
 
@@ -220,7 +237,7 @@ impl<T> Core<T> {
         }
         self.outside -= 1;
         if self.gets.is_closed() || self.handles == 0 {
-            settle(&mut self.adds, self.limit - self.idle.len() - self.outside);
+            self.adds.settle_within(self.limit - self.idle.len() - self.outside, 0);
             return Reply::Dropped;
         }
         store(&mut self.idle, &mut self.gets, hand);
@@ -234,7 +251,7 @@ impl<T> Core<T> {
             return Reply::Unknown;
         }
         self.outside -= 1;
-        settle(&mut self.adds, self.limit - self.idle.len() - self.outside);
+        self.adds.settle_within(self.limit - self.idle.len() - self.outside, 0);
         Reply::Taken
     }
 }

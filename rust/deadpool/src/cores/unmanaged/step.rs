@@ -35,6 +35,8 @@ pub enum Reply {
     Closed,
     /// Nothing is free, and who asks does not wait.
     Full,
+    /// Nothing is free, and as many wait for it as may.
+    Crowded,
     /// Who asks waits, under this ticket.
     Waiting(Ticket),
     /// The entry in the queue found no memory.

@@ -1,3 +1,4 @@
+-- The beginning of a history may go to another thread: it has no key of memory that is shared.
 use denote.RattleType.{RattleType}
 use denote.Param.Send.{IsSend}
 use Rattle.deadpool_chronicle.specs.declared.blank.Chronicle.{Ghosts}

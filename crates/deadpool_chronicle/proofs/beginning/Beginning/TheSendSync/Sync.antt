@@ -1,3 +1,4 @@
+-- Threads may share the beginning of a history: a borrow of it has no key either.
 use denote.RattleType.{RattleType}
 use denote.Param.Send.{IsSync, sendable}
 use denote.Struct.Owning.{shape}

@@ -1,3 +1,4 @@
+-- A blank for a history may go to another thread: it has no key of memory that is shared.
 use denote.Param.Send.{IsSend}
 use Rattle.deadpool_chronicle.specs.contracts.blank.Blank.{the_row}
 use Rattle.deadpool_chronicle.proofs.Sent.{blank_keyless}

@@ -1,3 +1,4 @@
+-- What a core counts is what its lists are long.
 use Rattle.deadpool_desk.proofs.Names.{refl, ◌∙◌, granted_count-length, waiting_count-length}
 use Rattle.deadpool_desk.proofs.state.Core.counts.Goals as goal
 

@@ -1,3 +1,4 @@
+-- A retain leaves no more idle than there were, so the core's invariant stays.
 use Rattle.deadpool_desk.proofs.Names.{length, arith, rules}
 use Rattle.deadpool_desk.proofs.Reviewing.{reviews_fewer}
 use Rattle.deadpool_desk.proofs.state.Core.retain_noting.Goals as goal
@@ -15,5 +16,5 @@ invariant_of-self-2 g c =
       small = search rules;
       held = search rules;
       numbered = search rules;
-      settled = record { nobody_waits = was.nobody_waits; within = omega (arith, fewer, was.within); once = was.once };
+      settled = record { within = omega (arith, fewer, was.within); served = was.served; few = was.few };
     }

@@ -1,3 +1,4 @@
+-- A status is that of the core's lists, and none of its sums overflows.
 use Rattle.deadpool_desk.proofs.Names.{refl, ◌≡◌, ◌+◌, ◌-◌, length, min, arith, ◌∙◌, granted_tickets, waiting_tickets}
 use Rattle.deadpool_desk.proofs.Names.{largest_usize, granted_count-length, waiting_count-length, length-both_tickets}
 use Rattle.deadpool_desk.proofs.state.Core.status.Goals as goal

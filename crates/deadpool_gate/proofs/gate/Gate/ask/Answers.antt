@@ -1,3 +1,4 @@
+-- A gate that knows no such ticket stays as it is.
 use Rattle.std.proofs.Common.{◌≡◌, ℕ, List, None, ap, ◌∙◌}
 use Rattle.std.specs.Option.{option_map}
 use Rattle.deadpool_gate.specs.Gate.{Waiter, Line, find_waiter, without_waiter}

@@ -1,5 +1,6 @@
+-- A gate that is closed keeps its line, and its invariant.
 use Rattle.std.proofs.Common.{true, refl}
-use Rattle.deadpool_gate.proofs.GateFields.{KeepsLinks, IsHeld-shows, Shows-kept, Shows-seen}
+use Rattle.deadpool_gate.proofs.GateFields.{KeepsLinks, GateInvariant-shows, Shows-kept, Shows-seen}
 use Rattle.deadpool_gate.proofs.GateLine.{IsLine-closed}
 use Rattle.deadpool_gate.proofs.gate.Gate.close.Goals as goal
 
@@ -12,9 +13,9 @@ invariant_of-self c =
       first = refl;
       last = refl;
       first_waiting = refl;
-      first_untold = refl;
+      first_unnotified = refl;
       granted = refl;
       waiting = refl;
     } in
-    IsHeld-shows _ _ (Shows-kept c.self.inside closed c.args.self.now.waiters keeps
+    GateInvariant-shows _ _ (Shows-kept c.self.inside closed c.args.self.now.waiters keeps
     (IsLine-closed c.self.inside.is_closed _ shows.line) shows)

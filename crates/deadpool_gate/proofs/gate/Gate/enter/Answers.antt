@@ -1,3 +1,4 @@
+-- Whoever joins is the last of the line, and one that finds no memory leaves the line as it was.
 use Rattle.std.proofs.Common.{◌+◌, ◌++◌, ◌∷◌, [], Option, Some, None, ap, refl}
 use Rattle.std.specs.Option.{IfNone}
 use Rattle.deadpool_gate.specs.declared.gate.Entry.{Entry}
@@ -5,7 +6,8 @@ use Rattle.deadpool_gate.specs.declared.gate.Entry.TheVariants as entry
 use Rattle.deadpool_gate.specs.declared.gate.Gate.TheInside.{Inside}
 use Rattle.deadpool_gate.specs.Gate.{arrived, Joins}
 use Rattle.deadpool_gate.specs.GateFields.{Shows, waiters_of}
-use Rattle.deadpool_gate.proofs.GateFields.{Joining, KeepsLinks, IsHeld-shows, Shows-is, Shows-joined, Shows-kept}
+use Rattle.deadpool_gate.proofs.GateFields.{Joining, KeepsLinks, GateInvariant-shows}
+use Rattle.deadpool_gate.proofs.GateFields.{Shows-is, Shows-joined, Shows-kept}
 use Rattle.deadpool_gate.proofs.GateFields.{Shows-seen}
 use Rattle.deadpool_gate.proofs.GateLinks.{Stores-unlisted}
 use Rattle.deadpool_gate.proofs.gate.Gate.enter.Goals as goal
@@ -27,14 +29,14 @@ shows_refused c =
       first = refl;
       last = refl;
       first_waiting = refl;
-      first_untold = refl;
+      first_unnotified = refl;
       granted = refl;
       waiting = refl;
     } in
     Shows-kept c.self.inside (refused c) c.args.self.now.waiters keeps shows.line shows
 
 pub invariant_of-self-in_default : goal.invariant_of-self-in_default
-invariant_of-self-in_default c = IsHeld-shows (refused c) _ (shows_refused c)
+invariant_of-self-in_default c = GateInvariant-shows (refused c) _ (shows_refused c)
 
 pub returns-in_default-clause-joins : goal.returns-in_default-clause-joins
 returns-in_default-clause-joins c = no_answer _ _ (Shows-is (refused c) _ (shows_refused c))
@@ -47,7 +49,7 @@ after c = record c.self.inside {
   first = Some c.unwrap_or.result;
   last = Some c.in-Ok.key;
   first_waiting = Some c.unwrap_or-2.result;
-  first_untold = Some c.unwrap_or-3.result;
+  first_unnotified = Some c.unwrap_or-3.result;
   waiting = c.self.inside.waiting + 1;
 }
 
@@ -64,7 +66,7 @@ shows_after c =
       first = ap Some c.unwrap_or.ensures;
       last = refl;
       first_waiting = ap Some c.unwrap_or-2.ensures;
-      first_untold = ap Some c.unwrap_or-3.ensures;
+      first_unnotified = ap Some c.unwrap_or-3.ensures;
       granted = refl;
       waiting = refl;
     } in
@@ -72,7 +74,7 @@ shows_after c =
     (Shows-seen _ _ c.self.view_is c.self.invariant)
 
 pub invariant_of-self-2 : goal.invariant_of-self-2
-invariant_of-self-2 c = IsHeld-shows (after c) _ (shows_after c)
+invariant_of-self-2 c = GateInvariant-shows (after c) _ (shows_after c)
 
 pub returns-clause-joins : goal.returns-clause-joins
 returns-clause-joins c =

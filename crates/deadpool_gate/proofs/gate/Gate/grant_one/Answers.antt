@@ -1,10 +1,11 @@
+-- The first that waits is granted a place, as `grant 1` does to the line, and the links and counts follow.
 use Rattle.std.proofs.Common.{◌≡◌, ◌+◌, ◌-◌, refl, sym}
 use Rattle.deadpool_gate.specs.declared.gate.Gate.TheInside.{Inside}
 use Rattle.deadpool_gate.specs.declared.gate.store.Change.TheVariants as change
 use Rattle.deadpool_gate.specs.Gate.{grant_next}
 use Rattle.deadpool_gate.specs.GateFields.{Shows}
 use Rattle.deadpool_gate.specs.GateNodes.{changed}
-use Rattle.deadpool_gate.proofs.GateFields.{IsHeld-shows, Shows-is, Shows-seen}
+use Rattle.deadpool_gate.proofs.GateFields.{GateInvariant-shows, Shows-is, Shows-seen}
 use Rattle.deadpool_gate.proofs.GateTurns.{Changing, Granting, Shows-granted, Shows-none_waiting, Shows-first_waiting}
 use Rattle.deadpool_gate.proofs.GateTurns.{Shows-one_waits}
 use Rattle.deadpool_gate.proofs.gate.Gate.grant_one.Goals as goal
@@ -52,12 +53,12 @@ shows_after c =
       last = refl;
     } in
     let granting : Granting c.self.inside (after c) c.in-Some-read.node.next =
-    record { first_waiting = refl; first_untold = refl; granted = refl; waiting = refl } in
+    record { first_waiting = refl; first_unnotified = refl; granted = refl; waiting = refl } in
     Shows-granted c.self.inside (after c) c.args.self.now.waiters c.in-Some.key c.in-Some-read.node c.in-Some.is
     c.in-Some-read.ensures.node changing granting (Shows-seen _ _ c.self.view_is c.self.invariant)
 
 pub invariant_of-self-2 : goal.invariant_of-self-2
-invariant_of-self-2 c = IsHeld-shows (after c) _ (shows_after c)
+invariant_of-self-2 c = GateInvariant-shows (after c) _ (shows_after c)
 
 pub returns-clause-waiters : goal.returns-clause-waiters
 returns-clause-waiters c = Shows-is (after c) _ (shows_after c)

@@ -1,3 +1,4 @@
+-- A waiter is found by its ticket and has a place exactly if the line says so.
 use Rattle.std.proofs.Common.{◌≡◌, ◌∙◌, sym, Some, None}
 use Rattle.slab.specs.Slab.{get}
 use Rattle.deadpool_gate.proofs.GateFields.{Shows-seen, Shows-find}

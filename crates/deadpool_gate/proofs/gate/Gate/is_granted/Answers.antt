@@ -1,3 +1,4 @@
+-- The store finds under a key the waiter that the line has there, and whether it was granted a place.
 use Rattle.std.proofs.Common.{refl}
 use Rattle.deadpool_gate.proofs.GateFields.{Shows-seen, Shows-find}
 use Rattle.deadpool_gate.proofs.gate.Gate.is_granted.Goals as goal

@@ -1,11 +1,12 @@
+-- Somebody is due to be told exactly if `take_wake` would name somebody.
 use Rattle.std.proofs.Common.{◌≡◌, ℕ, Bool, Option, Some, None, not, false, eqb, ap, sym, ◌∙◌, inl, inr}
 use Rattle.std.specs.Prelude.{is_some}
 use Rattle.std.specs.List.{find}
 use Rattle.std.specs.Option.{option_map, option_eq}
 use Rattle.std.proofs.lemmas.Bool.{cases_Bool, both_ways}
-use Rattle.deadpool_gate.specs.Gate.{Waiter, Line, due_ticket, is_due, granted_tickets, untold_tickets}
+use Rattle.deadpool_gate.specs.Gate.{Waiter, Line, due_ticket, is_due, granted_tickets, unnotified_tickets}
 use Rattle.deadpool_gate.specs.Waking.{next_due}
-use Rattle.deadpool_gate.specs.GateFields.{line_of, IsHeld}
+use Rattle.deadpool_gate.specs.GateFields.{line_of, GateInvariant}
 use Rattle.deadpool_gate.specs.declared.gate.Gate.TheInside.{Inside}
 use Rattle.deadpool_gate.proofs.GateFields.{Shows-seen}
 use Rattle.deadpool_gate.proofs.GateTurns.{Shows-all_told, Shows-none_due, Shows-due}
@@ -14,9 +15,9 @@ use Rattle.deadpool_gate.proofs.Pointers.{points_there, points_elsewhere}
 use Rattle.deadpool_gate.proofs.gate.Gate.is_wake_due.Goals as goal
 
 -- who is due is so by the tickets alone
-by_tickets : (g : Inside) (line : Line) (said : Bool) → line_of g ≡ line → IsHeld g
+by_tickets : (g : Inside) (line : Line) (said : Bool) → line_of g ≡ line → GateInvariant g
     → said ≡ is_some (due_ticket line.is_closed line.waiters)
-    → said ≡ is_some (next_due (not line.is_closed) (granted_tickets line.waiters) (untold_tickets line.waiters))
+    → said ≡ is_some (next_due (not line.is_closed) (granted_tickets line.waiters) (unnotified_tickets line.waiters))
 by_tickets g line said seen held due =
     due ∙ ap is_some (due_ticket-next_due line.is_closed line.waiters (Shows-seen g line seen held).line.apart)
 

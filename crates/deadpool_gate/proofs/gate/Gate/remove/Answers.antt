@@ -1,9 +1,11 @@
+-- A waiter that is taken out leaves the line, the links around it are joined, and the counts follow.
 use Rattle.std.proofs.Common.{◌≡◌, ◌-◌, ℕ, Bool, true, false, not, refl, ap, sym, arith}
 use Rattle.deadpool_gate.specs.declared.gate.Gate.TheInside.{Inside}
 use Rattle.deadpool_gate.specs.Gate.{without_waiter}
 use Rattle.deadpool_gate.specs.GateFields.{Shows}
 use Rattle.deadpool_gate.proofs.Counts.{one_if}
-use Rattle.deadpool_gate.proofs.GateFields.{IsCounted, KeepsLinks, Leaving, IsHeld-shows, Shows-counted, Shows-find}
+use Rattle.deadpool_gate.proofs.GateFields.{TrialInvariant, KeepsLinks, Leaving}
+use Rattle.deadpool_gate.proofs.GateFields.{GateInvariant-shows, Shows-counted, Shows-find}
 use Rattle.deadpool_gate.proofs.GateFields.{Shows-is, Shows-kept, Shows-left, Shows-seen}
 use Rattle.deadpool_gate.proofs.GateLinks.{Stores-unlisted}
 use Rattle.deadpool_gate.proofs.GateListed.{remove_first_none}
@@ -26,7 +28,7 @@ returns-in_err-node-clause-waiters c =
       first = refl;
       last = refl;
       first_waiting = refl;
-      first_untold = refl;
+      first_unnotified = refl;
       granted = refl;
       waiting = refl;
     } in
@@ -40,7 +42,7 @@ one_if_is false n set clear = clear refl
 
 pub overflow_sub-self : goal.overflow_sub-self
 overflow_sub-self c =
-    let counted : IsCounted c.self.inside c.in_ok-node.node =
+    let counted : TrialInvariant c.self.inside c.in_ok-node.node =
     Shows-counted c.self.inside c.args.self.now.waiters c.args.key c.in_ok-node.node
     (Shows-seen _ _ c.self.view_is c.self.invariant) c.in_ok-node.ensures.node in
     rw (one_if_is c.in_ok-node.node.granted _ (λ set. rw set at c.from.ensures) (λ clear. rw clear at c.from.ensures))
@@ -48,7 +50,7 @@ overflow_sub-self c =
 
 pub overflow_sub-self-2 : goal.overflow_sub-self-2
 overflow_sub-self-2 c =
-    let counted : IsCounted c.self.inside c.in_ok-node.node =
+    let counted : TrialInvariant c.self.inside c.in_ok-node.node =
     Shows-counted c.self.inside c.args.self.now.waiters c.args.key c.in_ok-node.node
     (Shows-seen _ _ c.self.view_is c.self.invariant) c.in_ok-node.ensures.node in
     rw (one_if_is (not c.in_ok-node.node.granted) _ (λ set. rw set at c.from-2.ensures)
@@ -62,7 +64,7 @@ after c = record {
   first = c.move_on-self-inside.result;
   last = c.move_on-self-inside-2.result;
   first_waiting = c.move_on-self-inside-3.result;
-  first_untold = c.move_on-self-inside-4.result;
+  first_unnotified = c.move_on-self-inside-4.result;
   granted = c.self.inside.granted - c.from.result;
   waiting = c.self.inside.waiting - c.from-2.result;
   is_closed = c.self.inside.is_closed;
@@ -71,7 +73,7 @@ after c = record {
 shows_after : (c : goal.After-self-6-1) → Shows (after c) (without_waiter c.args.key c.args.self.now.waiters)
 shows_after c =
     let shows = Shows-seen _ _ c.self.view_is c.self.invariant in
-    let counted : IsCounted c.self.inside c.in_ok-node.node =
+    let counted : TrialInvariant c.self.inside c.in_ok-node.node =
     Shows-counted c.self.inside c.args.self.now.waiters c.args.key c.in_ok-node.node shows
     c.in_ok-node.ensures.node in
     let leaving : Leaving c.self.inside (after c) c.take.new.self.nodes c.link.new.store.nodes c.args.key
@@ -86,7 +88,7 @@ shows_after c =
       first = c.move_on-self-inside.ensures;
       last = c.move_on-self-inside-2.ensures;
       first_waiting = c.move_on-self-inside-3.ensures;
-      first_untold = c.move_on-self-inside-4.ensures;
+      first_unnotified = c.move_on-self-inside-4.ensures;
       granted = omega (
         arith,
         counted.granted,
@@ -104,7 +106,7 @@ shows_after c =
     c.in_ok-node.node c.in_ok-node.ensures.node leaving shows
 
 pub invariant_of-self-2 : goal.invariant_of-self-2
-invariant_of-self-2 c = IsHeld-shows (after c) _ (shows_after c)
+invariant_of-self-2 c = GateInvariant-shows (after c) _ (shows_after c)
 
 pub returns-clause-was : goal.returns-clause-was
 returns-clause-was c =

@@ -1,7 +1,8 @@
+-- After as many grants as there is room, the first of those that waited have a place, in their order.
 use Rattle.std.proofs.Common.{◌≡◌, rules}
 use Rattle.deadpool_gate.specs.Gate.{grant}
 use Rattle.deadpool_gate.proofs.GateFields.{Shows-seen}
-use Rattle.deadpool_gate.proofs.GateTickets.{untold_tickets-grant}
+use Rattle.deadpool_gate.proofs.GateTickets.{unnotified_tickets-grant}
 use Rattle.deadpool_gate.proofs.GatePlaces.{granted_tickets-grant, waiting_tickets-grant}
 use Rattle.deadpool_gate.proofs.gate.Gate.settle.Goals as goal
 
@@ -16,7 +17,7 @@ returns-clause-left c =
     let after : c.loop-given.self.waiters ≡ grant c.if-self.count c.args.self.now.waiters = search rules in
     rw after (waiting_tickets-grant c.if-self.count c.args.self.now.waiters)
 
-pub returns-clause-untold : goal.returns-clause-untold
-returns-clause-untold c =
+pub returns-clause-unnotified : goal.returns-clause-unnotified
+returns-clause-unnotified c =
     let after : c.loop-given.self.waiters ≡ grant c.if-self.count c.args.self.now.waiters = search rules in
-    rw after (untold_tickets-grant c.if-self.count c.args.self.now.waiters)
+    rw after (unnotified_tickets-grant c.if-self.count c.args.self.now.waiters)

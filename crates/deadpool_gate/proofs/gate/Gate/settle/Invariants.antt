@@ -1,3 +1,4 @@
+-- While places are granted: the line is as after so many grants, and each took two accesses at most.
 use Rattle.std.proofs.Common.{◌≡◌, ◌*◌}
 use Rattle.deadpool_gate.specs.Gate.{grant, RisesAtMost}
 use Rattle.deadpool_gate.proofs.gate.Gate.settle.Given as goal

@@ -1,3 +1,4 @@
+-- The one that is named is the earliest who is due and was not told, and counts as told then.
 use Rattle.std.proofs.Common.{◌≡◌, ◌≢◌, ℕ, Option, Some, None, not, false, refl, ap, sym, ◌∙◌}
 use Rattle.std.specs.List.{find}
 use Rattle.std.specs.Option.{option_map}
@@ -5,16 +6,16 @@ use Rattle.std.proofs.lemmas.Bool.{both_ways}
 use Rattle.deadpool_gate.specs.declared.gate.Gate.TheInside.{Inside}
 use Rattle.deadpool_gate.specs.declared.gate.store.Change.TheVariants as change
 use Rattle.deadpool_gate.specs.Gate.{Waiter, Line, tell_next, due_ticket, is_due, with_word, granted_tickets}
-use Rattle.deadpool_gate.specs.Gate.{untold_tickets}
-use Rattle.deadpool_gate.specs.Waking.{next_due, still_untold}
-use Rattle.deadpool_gate.specs.GateFields.{line_of, waiters_of, IsHeld}
+use Rattle.deadpool_gate.specs.Gate.{unnotified_tickets}
+use Rattle.deadpool_gate.specs.Waking.{next_due, still_unnotified}
+use Rattle.deadpool_gate.specs.GateFields.{line_of, waiters_of, GateInvariant}
 use Rattle.deadpool_gate.specs.GateNodes.{changed}
-use Rattle.deadpool_gate.proofs.GateFields.{IsHeld-shows, Shows-is, Shows-seen}
+use Rattle.deadpool_gate.proofs.GateFields.{GateInvariant-shows, Shows-is, Shows-seen}
 use Rattle.deadpool_gate.proofs.GateTurns.{Changing, Telling, TellsNext, Shows-told, Shows-all_told, Shows-none_due}
-use Rattle.deadpool_gate.proofs.GateTurns.{Shows-first_untold}
+use Rattle.deadpool_gate.proofs.GateTurns.{Shows-first_unnotified}
 use Rattle.deadpool_gate.proofs.GateListed.{change_first_none}
 use Rattle.deadpool_gate.proofs.GateTickets.{granted_tickets-told, waiting_tickets-told}
-use Rattle.deadpool_gate.proofs.GateWaking.{due_ticket-next_due, untold_tickets-tell_next}
+use Rattle.deadpool_gate.proofs.GateWaking.{due_ticket-next_due, unnotified_tickets-tell_next}
 use Rattle.deadpool_gate.proofs.Pointers.{points_there, points_elsewhere}
 use Rattle.deadpool_gate.proofs.gate.Gate.take_wake.Goals as goal
 use Rattle.deadpool_gate.proofs.gate.Gate.take_wake.Goals.{else-not-self-via-then-not-self+else-eq}
@@ -34,9 +35,9 @@ module _ (g : Inside) (line : Line) (seen : line_of g ≡ line)
       ∙ sym (change_first_none (is_due line.is_closed) with_word line.waiters nobody)
 
 -- who is named is so by the tickets alone
-by_tickets : (g : Inside) (line : Line) (named : Option ℕ) → line_of g ≡ line → IsHeld g
+by_tickets : (g : Inside) (line : Line) (named : Option ℕ) → line_of g ≡ line → GateInvariant g
     → named ≡ due_ticket line.is_closed line.waiters
-    → named ≡ next_due (not line.is_closed) (granted_tickets line.waiters) (untold_tickets line.waiters)
+    → named ≡ next_due (not line.is_closed) (granted_tickets line.waiters) (unnotified_tickets line.waiters)
 by_tickets g line named seen held is =
     is ∙ due_ticket-next_due line.is_closed line.waiters (Shows-seen g line seen held).line.apart
 
@@ -68,7 +69,7 @@ returns-then-eq-clause-waiters c =
 
 has_node : (c : goal.After-from_residual-in_err-node) → ⊥
 has_node c =
-    Shows-first_untold c.self.inside c.args.self.now.waiters c.in_ok-key.key
+    Shows-first_unnotified c.self.inside c.args.self.now.waiters c.in_ok-key.key
     (Shows-seen _ _ c.self.view_is c.self.invariant) c.in_ok-key.was (sym c.in_err-node.ensures.node)
 
 pub returns-in_err-node-clause-ticket : goal.returns-in_err-node-clause-ticket
@@ -82,7 +83,7 @@ abbrev after : goal.After-self-2-1 → Inside
 after c = record c.self.inside {
   store = c.write.new.self;
   accesses_before = c.accesses-self-inside.result;
-  first_untold = c.in_ok-node.node.next;
+  first_unnotified = c.in_ok-node.node.next;
 }
 
 tells : (c : goal.After-self-2-1) → TellsNext c.self.inside (after c) c.args.self.now.waiters c.in_ok-key.key
@@ -96,7 +97,7 @@ tells c =
       last = refl;
     } in
     let telling : Telling c.self.inside (after c) c.in_ok-node.node.next =
-    record { first_waiting = refl; first_untold = refl; granted = refl; waiting = refl } in
+    record { first_waiting = refl; first_unnotified = refl; granted = refl; waiting = refl } in
     let differs : c.self.inside.is_closed ≡ false → c.self.inside.first_waiting ≢ Some c.in_ok-key.key =
     λ is_open. elim c.else-not-self.branch [
       | else-not-self-via-then-not-self+else-eq w ↦ points_elsewhere _ _ (sym w.if-eq.ensures)
@@ -106,7 +107,7 @@ tells c =
     c.in_ok-node.ensures.node changing telling (Shows-seen _ _ c.self.view_is c.self.invariant)
 
 pub invariant_of-self-2 : goal.invariant_of-self-2
-invariant_of-self-2 c = IsHeld-shows (after c) _ (tells c).shows
+invariant_of-self-2 c = GateInvariant-shows (after c) _ (tells c).shows
 
 pub returns-clause-ticket : goal.returns-clause-ticket
 returns-clause-ticket c =
@@ -143,11 +144,11 @@ pub returns-clause-next : goal.returns-clause-next
 returns-clause-next c = by_tickets c.self.inside c.args.self.now (Some c.in_ok-key.key) c.self.view_is c.self.invariant
     (returns-clause-ticket c)
 
-pub returns-clause-untold : goal.returns-clause-untold
-returns-clause-untold c =
+pub returns-clause-unnotified : goal.returns-clause-unnotified
+returns-clause-unnotified c =
     let shows = Shows-seen _ _ c.self.view_is c.self.invariant in
     let ws = c.args.self.now.waiters in
     rw (Shows-is (after c) _ (tells c).shows) (
-    untold_tickets-tell_next c.self.inside.is_closed ws shows.line.apart
-    ∙ ap (λ (named : Option ℕ). still_untold named (untold_tickets ws)) (tells c).ticket
+    unnotified_tickets-tell_next c.self.inside.is_closed ws shows.line.apart
+    ∙ ap (λ (named : Option ℕ). still_unnotified named (unnotified_tickets ws)) (tells c).ticket
     )

@@ -1,3 +1,4 @@
+-- A history leads by legal steps from its opening to the state that the pool has.
 use Rattle.deadpool_history.proofs.Leads.{is_legal}
 use Rattle.deadpool_history.proofs.recorded.Recorded.audit.Goals as goal
 

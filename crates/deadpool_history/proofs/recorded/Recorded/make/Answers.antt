@@ -1,3 +1,4 @@
+-- A step of a get or an object is noted once, in its caller's name, and the history still leads to the state.
 use Rattle.std.proofs.Common.{◌≡◌, refl}
 use Rattle.std.specs.Option.{option_or}
 use Rattle.deadpool_journal.specs.ByNumber.{number_in}

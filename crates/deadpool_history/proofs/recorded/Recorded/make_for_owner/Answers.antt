@@ -1,3 +1,4 @@
+-- A step of the owner is noted once, in its caller's name, and the history still leads to the state.
 use Rattle.std.proofs.Common.{◌≡◌, refl}
 use Rattle.deadpool_journal.specs.declared.entry.Entry.TheVariants.{Owner}
 use Rattle.deadpool_journal.proofs.ByNumber.{does_for_owner_numbered}

@@ -1,6 +1,7 @@
+-- A new pool's history is its opening alone, which leads to the state that it has.
 use Rattle.std.proofs.Common.{ℕ, List, [], ◌∷◌, ◌++◌, ap, ◌∙◌}
 use Rattle.deadpool_history.specs.declared.line.Line.{Line}
-use Rattle.deadpool_history.proofs.First.{has_none}
+use Rattle.deadpool_history.proofs.First.{has_no_tally, has_none}
 use Rattle.deadpool_history.proofs.recorded.Recorded.new.Goals as goal
 
 pub invariant_of-result : goal.invariant_of-result
@@ -15,6 +16,9 @@ invariant_of-result g c =
               ∙ ap (λ (l : List (ℕ × Line)). l ++ (n, added.0) ∷ []) c.requires.empty
               ∙ ap (λ (x : Line). (n, x) ∷ []) added.1.0,
         ),
-        (c.requires.opened, has_none c.args.pool.log c.requires.unnoted),
+        (
+          (c.requires.opened, has_no_tally c.args.pool c.laws.ensures.kept c.requires.unnoted),
+          has_none c.args.pool.log c.requires.unnoted,
+        ),
       ),
     )

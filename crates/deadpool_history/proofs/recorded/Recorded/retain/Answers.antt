@@ -1,5 +1,6 @@
+-- A retain is noted once, with the objects that it gave up, and the history still leads to the state.
 use Rattle.std.proofs.Common.{[], ◌∷◌, ◌++◌, ap, refl, ◌∙◌}
-use Rattle.deadpool_history.proofs.Leads.{has_called, noted_leads, retain_leads}
+use Rattle.deadpool_history.proofs.Leads.{has_called, leaves_idle, noted_leads, retain_leads}
 use Rattle.deadpool_history.specs.History.{IsRetain}
 use Rattle.deadpool_history.specs.declared.line.Line.{Line}
 use Rattle.deadpool_history.specs.declared.line.Line.TheVariants.{Next}
@@ -37,3 +38,14 @@ returns-clause-called g c =
     c.note.new.self.log c.args.caller.now c.note.new.caller
     ((added.0, ((next.0, (next.1.0, next.1.1.0)), added.1.1, added.1.2)), call.1, call.2, call.3)
     c.note.ensures.seen leads
+
+pub returns-clause-idle : goal.returns-clause-idle
+returns-clause-idle g c =
+    let call = c.note.ensures.call in let added = call.0 in let next = added.1.0 in
+    let leads = noted_leads c.retain-result.new.self c.self.inside.author.log c.note.new.self.log
+    c.args.caller.now.number next.0
+    (added.1.1 ∙ ap (λ (l : Line). c.self.inside.author.log ++ (c.args.caller.now.number, l) ∷ []) next.1.0)
+    next.1.1.1 in
+    rw call.3
+    (leaves_idle g.R.Retainer c.self.inside.pool c.retain-result.new.self c.args.retainer.now
+    c.retain-result.new.retainer c.retain-result.result c.note.new.self.log c.retain-result.ensures.retained leads)

@@ -1,3 +1,4 @@
+-- While places for wakers are made: the old ones stay, the new ones are empty, and fewer are missing each time.
 use Rattle.std.proofs.Common.{◌≡◌, ◌++◌, ◌-◌, ◌≤◌, max, None, replicate, vec_len, vec_capacity}
 use Rattle.deadpool_lock.proofs.wakers.Wakers.make_room.Given as goal
 

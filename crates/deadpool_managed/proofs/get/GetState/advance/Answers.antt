@@ -1,3 +1,4 @@
+-- One step of a get is that of its work, with its timeouts, and it comes nearer to its end by it.
 use Rattle.deadpool_managed.proofs.get.GetState.advance.Goals as goal
 
 pub returns-clause-advanced : goal.returns-clause-advanced

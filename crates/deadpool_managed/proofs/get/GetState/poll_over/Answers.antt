@@ -1,3 +1,4 @@
+-- A poll of a get is that of its work, with its timeouts.
 use Rattle.deadpool_managed.proofs.get.GetState.poll_over.Goals as goal
 
 pub returns-clause-polled : goal.returns-clause-polled

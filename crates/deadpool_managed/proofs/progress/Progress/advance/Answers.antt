@@ -1,3 +1,4 @@
+-- One step of a get's work, as its model says, with what the get holds after it.
 use Rattle.deadpool_managed.proofs.Phases.{was_more}
 use Rattle.deadpool_managed.proofs.progress.Progress.advance.Goals as goal
 

@@ -1,3 +1,4 @@
+-- A poll of a get's work, as its model says, with what the get holds after it.
 use Rattle.deadpool_managed.proofs.progress.Progress.poll_over.Goals as goal
 
 pub returns-clause-polled : goal.returns-clause-polled

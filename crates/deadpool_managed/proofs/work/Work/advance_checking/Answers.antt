@@ -1,3 +1,4 @@
+-- A new object whose hooks are asked again is handed out, waits, or is discarded.
 use Rattle.deadpool_managed.proofs.Words.{None, refl, may, no_step, making, Step}
 use Rattle.deadpool_managed.proofs.Phases.{checked_in, checking_in, refused_in}
 use Rattle.deadpool_managed.proofs.work.Work.advance_checking.Goals as goal

@@ -1,3 +1,4 @@
+-- A creation that is polled again comes to what `after_creation` makes of its answer.
 use Rattle.deadpool_managed.proofs.Words.{refl}
 use Rattle.deadpool_managed.proofs.work.Work.advance_creation.Goals as goal
 

@@ -1,3 +1,4 @@
+-- An object that is prepared further is handed out, waits, or is discarded.
 use Rattle.deadpool_managed.proofs.Words.{None, refl, may, no_step, making, Step}
 use Rattle.deadpool_managed.proofs.Phases.{accepted_in, pending_in, given_up_in}
 use Rattle.deadpool_managed.proofs.work.Work.advance_recycling.Goals as goal

@@ -1,3 +1,4 @@
+-- What a creation answered: an object for its hooks, an error, a timeout at the deadline, or a wait.
 use Rattle.deadpool_managed.proofs.Words.{◌≡◌, Ok, Err, true, false, refl, Poll, is_reached, None, no_step, making}
 use Rattle.deadpool_managed.proofs.Words.{Step}
 use Rattle.deadpool_managed.proofs.Phases.{finished, ended_is}

@@ -1,3 +1,4 @@
+-- A creation begins with its deadline, and with a timeout and no runtime the get ends with an error.
 use Rattle.deadpool_managed.proofs.Words.{◌∙◌, sym, subst, inl, Option, None, refl, making, Step, AfterCreation, Moment}
 use Rattle.deadpool_managed.proofs.Words.{may, stage_of, turn_of}
 use Rattle.deadpool_managed.proofs.Polls.{begins}

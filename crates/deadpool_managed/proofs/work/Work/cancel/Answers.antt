@@ -1,3 +1,4 @@
+-- In each phase a cancelled get gives back what it holds, in one step at most.
 use Rattle.deadpool_managed.proofs.Words.{◌≡◌, refl, None, no_step, making, Phase, may, Held, Step}
 use Rattle.deadpool_managed.proofs.Phases.{cancelled_in}
 use Rattle.deadpool_managed.proofs.work.Work.cancel.Goals as goal

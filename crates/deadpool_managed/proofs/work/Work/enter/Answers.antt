@@ -1,3 +1,4 @@
+-- A get that was not polled yet enters, or ends if its timeout has no runtime to tell it.
 use Rattle.deadpool_managed.proofs.Words.{◌∙◌, ap, sym, not, refl, no_step, making, turn_of, Step}
 use Rattle.deadpool_managed.proofs.Phases.{finished}
 use Rattle.deadpool_managed.proofs.work.Work.enter.Goals as goal

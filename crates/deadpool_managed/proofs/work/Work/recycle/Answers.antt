@@ -1,3 +1,4 @@
+-- An object that was served in this poll is handed out, waits, or is discarded.
 use Rattle.deadpool_managed.proofs.Words.{None, Some, refl, start, Phase, may, no_step, making, Step, Preparing}
 use Rattle.deadpool_managed.proofs.Phases.{accepted_in, pending_in, given_up_in}
 use Rattle.deadpool_managed.proofs.work.Work.recycle.Goals as goal

@@ -1,3 +1,4 @@
+-- Steps up to the first that waits or ends the get are a poll, and they come to an end.
 use Rattle.deadpool_managed.proofs.Words.{refl, may, stage_of}
 use Rattle.deadpool_managed.proofs.Phases.{more_is, not_more}
 use Rattle.deadpool_managed.proofs.Polls.{polls_on, polls_once, falls_allowed}

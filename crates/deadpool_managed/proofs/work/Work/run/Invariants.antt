@@ -1,3 +1,4 @@
+-- While a get makes its steps: what polls over from here polls over from the beginning, in fewer steps each time.
 use Rattle.deadpool_managed.proofs.Words.{◌≡◌, false, Keeps, may, PollsOver, held_at, until_allowance, lacks_allowance}
 use Rattle.deadpool_managed.proofs.Words.{weight, IsPlaced, stage_of, Stage, Turn}
 use Rattle.deadpool_managed.proofs.work.Work.run.Given as goal

@@ -1,3 +1,4 @@
+-- A get in the queue asks, one with a place goes on, and one that has ended stays pending.
 use Rattle.deadpool_managed.proofs.Words.{◌≡◌, refl, no_step, making, Phase, Step}
 use Rattle.deadpool_managed.proofs.Phases.{finished}
 use Rattle.deadpool_managed.proofs.work.Work.step_rarely.Goals as goal

@@ -1,3 +1,4 @@
+-- One advance of a party is the list machine's, and an object that it gives is the party's then.
 use Rattle.deadpool_replay.proofs.Cited.{◌≡◌, ◌∙◌, Some, None, length, vec_len, vec_capacity, arith, rules, map, refl}
 use Rattle.deadpool_replay.proofs.Cited.{ap, slice_get, length-map, slice_get_read, slice_get_past, slice_get-map}
 use Rattle.deadpool_replay.proofs.Cited.{option_map, set-same, party_of, out_fits, advanced}
@@ -17,12 +18,12 @@ hand_out-requires g c =
     let here = slice_get_read f.parties.items (vec_len f.parties) c.args.party c.index_mut.result.now (search rules)
     (omega (arith, c.len.ensures, c.if-party-len.false)) c.index_mut.ensures.value in
     let made = c.advance-turn.ensures.advanced in
-    let all = advanced g.M.Manager g.F.SyncHook g.A.AsyncHook f.fixed.environment.manager f.fixed f.core
+    let all = advanced g.M.Manager g.F.SyncHook g.A.AsyncHook f.setup.environment.manager f.setup f.core
     c.advance-turn.new.desk f.parties.items f.out.items
     c.self.invariant.counted c.self.invariant.well c.args.party c.args.now c.in-Some.get c.advance-turn.new.self
     c.advance-turn.result (here ∙ ap Some c.in-Some.is) c.advance-turn.ensures.timeouts made.0 made.1.0 made.1.1 in
     out_fits c.advance-turn.new.desk.desk f.parties.items c.args.party (Some c.advance-turn.new.self) _
-    (vec_len f.parties) f.fixed.most_parties (vec_capacity f.out) all.1
+    (vec_len f.parties) f.setup.most_parties (vec_capacity f.out) all.1
     (search rules) c.self.invariant.parties c.self.invariant.out_room
 
 pub invariant_of-self-in-Some : goal.invariant_of-self-in-Some
@@ -31,7 +32,7 @@ invariant_of-self-in-Some g c =
     let here = slice_get_read f.parties.items (vec_len f.parties) c.args.party c.index_mut.result.now (search rules)
     (omega (arith, c.len.ensures, c.if-party-len.false)) c.index_mut.ensures.value in
     let made = c.advance-turn.ensures.advanced in
-    let all = advanced g.M.Manager g.F.SyncHook g.A.AsyncHook f.fixed.environment.manager f.fixed f.core
+    let all = advanced g.M.Manager g.F.SyncHook g.A.AsyncHook f.setup.environment.manager f.setup f.core
     c.advance-turn.new.desk f.parties.items f.out.items
     c.self.invariant.counted c.self.invariant.well c.args.party c.args.now c.in-Some.get c.advance-turn.new.self
     c.advance-turn.result (here ∙ ap Some c.in-Some.is) c.advance-turn.ensures.timeouts made.0 made.1.0 made.1.1 in
@@ -49,7 +50,7 @@ returns-in-Some-clause-made g c =
     let here = slice_get_read f.parties.items (vec_len f.parties) c.args.party c.index_mut.result.now (search rules)
     (omega (arith, c.len.ensures, c.if-party-len.false)) c.index_mut.ensures.value in
     let made = c.advance-turn.ensures.advanced in
-    let all = advanced g.M.Manager g.F.SyncHook g.A.AsyncHook f.fixed.environment.manager f.fixed f.core
+    let all = advanced g.M.Manager g.F.SyncHook g.A.AsyncHook f.setup.environment.manager f.setup f.core
     c.advance-turn.new.desk f.parties.items f.out.items
     c.self.invariant.counted c.self.invariant.well c.args.party c.args.now c.in-Some.get c.advance-turn.new.self
     c.advance-turn.result (here ∙ ap Some c.in-Some.is) c.advance-turn.ensures.timeouts made.0 made.1.0 made.1.1 in

@@ -1,3 +1,4 @@
+-- A return is the list machine's, and one by a party without an object says so.
 use Rattle.deadpool_replay.proofs.Cited.{◌≡◌, ◌∙◌, None, refl, sym, none_there, find_slot, slot_number, back_known}
 use Rattle.deadpool_replay.proofs.Cited.{came_back}
 use Rattle.deadpool_replay.proofs.trial.Trial.back.Goals as goal
@@ -33,7 +34,7 @@ pub invariant_of-self-in-Some : goal.invariant_of-self-in-Some
 invariant_of-self-in-Some g c =
     let f = c.self.inside in
     let made = c.make-reply.ensures in
-    let all = came_back g.M.Manager g.F.SyncHook g.A.AsyncHook f.fixed.environment.manager f.fixed f.core
+    let all = came_back g.M.Manager g.F.SyncHook g.A.AsyncHook f.setup.environment.manager f.setup f.core
     c.make-reply.new.self f.parties.items f.out.items
     c.self.invariant.counted c.self.invariant.well c.args.number c.in-Some.slot c.make-reply.result
     c.make-reply.new.hand c.after_back.result
@@ -50,7 +51,7 @@ pub returns-in-Some-clause-made : goal.returns-in-Some-clause-made
 returns-in-Some-clause-made g c =
     let f = c.self.inside in
     let made = c.make-reply.ensures in
-    let all = came_back g.M.Manager g.F.SyncHook g.A.AsyncHook f.fixed.environment.manager f.fixed f.core
+    let all = came_back g.M.Manager g.F.SyncHook g.A.AsyncHook f.setup.environment.manager f.setup f.core
     c.make-reply.new.self f.parties.items f.out.items
     c.self.invariant.counted c.self.invariant.well c.args.number c.in-Some.slot c.make-reply.result
     c.make-reply.new.hand c.after_back.result

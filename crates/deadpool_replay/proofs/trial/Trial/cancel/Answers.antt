@@ -1,3 +1,4 @@
+-- A cancel is the list machine's, and one of a party that has no get changes nothing.
 use Rattle.deadpool_replay.proofs.Cited.{◌≡◌, ◌∙◌, Some, None, length, vec_len, arith, rules, map, refl, ap, sym}
 use Rattle.deadpool_replay.proofs.Cited.{slice_get, length-map, slice_get_read, slice_get_past, slice_get-map}
 use Rattle.deadpool_replay.proofs.Cited.{option_map, set-same, party_of, cancelled}
@@ -45,7 +46,7 @@ invariant_of-self-in-Some g c =
     let here = slice_get_read f.parties.items (vec_len f.parties) c.args.party c.index_mut.result.now (search rules)
     (omega (arith, c.len.ensures, c.if-party-len.false)) c.index_mut.ensures.value in
     let made = c.cancel.ensures.cancelled in
-    let all = cancelled g.M.Manager g.F.SyncHook g.A.AsyncHook f.fixed.environment.manager f.fixed f.core
+    let all = cancelled g.M.Manager g.F.SyncHook g.A.AsyncHook f.setup.environment.manager f.setup f.core
     c.cancel.new.desk f.parties.items f.out.items
     c.self.invariant.counted c.self.invariant.well c.args.party c.in-Some.state made.0
     (here ∙ ap Some (sym c.take.ensures.value ∙ c.in-Some.is)) made.1.0 made.1.1 in
@@ -63,7 +64,7 @@ returns-in-Some-clause-made g c =
     let here = slice_get_read f.parties.items (vec_len f.parties) c.args.party c.index_mut.result.now (search rules)
     (omega (arith, c.len.ensures, c.if-party-len.false)) c.index_mut.ensures.value in
     let made = c.cancel.ensures.cancelled in
-    let all = cancelled g.M.Manager g.F.SyncHook g.A.AsyncHook f.fixed.environment.manager f.fixed f.core
+    let all = cancelled g.M.Manager g.F.SyncHook g.A.AsyncHook f.setup.environment.manager f.setup f.core
     c.cancel.new.desk f.parties.items f.out.items
     c.self.invariant.counted c.self.invariant.well c.args.party c.in-Some.state made.0
     (here ∙ ap Some (sym c.take.ensures.value ∙ c.in-Some.is)) made.1.0 made.1.1 in

@@ -1,3 +1,4 @@
+-- How a party stands in the trial is how it stands in the list machine.
 use Rattle.deadpool_replay.proofs.Cited.{◌≡◌, ◌∙◌, refl, sym, ap, Some, None, slice_get, slice_get-map}
 use Rattle.deadpool_replay.proofs.Cited.{slice_get-get_or, slice_get_past, party_of, look_of-get}
 use Rattle.deadpool_replay.proofs.trial.Trial.look.Goals as goal
@@ -9,7 +10,7 @@ returns-in-Some-Some-clause-look g c =
     let found = rw (c.deref.ensures.value, w.is) at c.get.ensures.lookup in
     let there : slice_get f.parties.items c.args.party ≡ Some (Some w.get) =
     slice_get-get_or f.parties.items c.args.party w.field-0.now found.3.0 ∙ ap Some (sym found.1 ∙ w.field-0-is) in
-    let seen = look_of-get f.fixed f.core.desk f.parties.items f.out.items
+    let seen = look_of-get f.setup f.core.desk f.parties.items f.out.items
     c.self.invariant.counted c.args.party w.get.timeouts w.get.stage there in
     rw (← c.self.view_is) (rw c.kind.ensures at c.look_at.ensures.look ∙ sym seen)
 

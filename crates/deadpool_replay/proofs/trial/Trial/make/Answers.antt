@@ -1,3 +1,4 @@
+-- Each move of a trial is the list machine's, kind by kind.
 use Rattle.deadpool_replay.proofs.Cited.{[], ◌∷◌, refl}
 use Rattle.deadpool_replay.proofs.trial.Trial.make.Goals as goal
 

@@ -1,3 +1,4 @@
+-- A new trial is the list machine as it opens, and one that is refused has made nothing.
 use Rattle.deadpool_replay.proofs.Cited.{refl, arith, opened_well}
 use Rattle.deadpool_replay.proofs.trial.Trial.new.Goals as goal
 
@@ -21,8 +22,8 @@ invariant_of-result g c =
         c.in_ok-with_capacity.ensures.items,
         c.in_ok-with_capacity-2.ensures.items,
       )
-          (opened_well b.max_size b.queue_mode b.runtime b.hooks b.timeouts c.args.first_number c.args.parties
-          b.min_idle);
+          (opened_well b.max_waiting b.max_size b.queue_mode b.runtime b.hooks b.timeouts c.args.first_number
+          c.args.parties b.min_idle);
       parties = omega (arith, c.in_ok-with_capacity.ensures.len);
       party_room = omega (arith, c.in_ok-with_capacity.ensures.capacity);
       out_room = omega (arith, c.in_ok-with_capacity-2.ensures.capacity);

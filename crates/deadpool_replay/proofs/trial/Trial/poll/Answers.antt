@@ -1,3 +1,4 @@
+-- A poll of a party is the list machine's, advance by advance.
 use Rattle.deadpool_replay.proofs.Cited.{◌≡◌, ◌∙◌, [], ◌∷◌, Some, None, length, vec_len, vec_capacity, arith, rules}
 use Rattle.deadpool_replay.proofs.Cited.{map, refl, ap, slice_get, length-map, slice_get_read, slice_get_past}
 use Rattle.deadpool_replay.proofs.Cited.{slice_get-map, option_map, set-same, party_of, image, out_fits, polled}
@@ -9,20 +10,20 @@ returns-then-party-len-clause-made g c =
     let len : vec_len f.parties ≡ length f.parties.items = search rules in
     let past = slice_get_past (map party_of f.parties.items) c.args.party
     (omega (arith, len, length-map f.parties.items party_of, c.len.ensures, c.if-party-len.true)) in
-    rw (← c.self.view_is) (image f.fixed f.core.desk f.parties.items f.out.items ∷ [], rw past (refl, refl), refl)
+    rw (← c.self.view_is) (image f.setup f.core.desk f.parties.items f.out.items ∷ [], rw past (refl, refl), refl)
 
 pub hand_out-requires : goal.hand_out-requires
 hand_out-requires g c =
     let f = c.self.inside in
     let here = slice_get_read f.parties.items (vec_len f.parties) c.args.party c.index_mut.result.now (search rules)
     (omega (arith, c.len.ensures, c.if-party-len.false)) c.index_mut.ensures.value in
-    let all = polled g.M.Manager g.F.SyncHook g.A.AsyncHook f.fixed.environment.manager f.fixed f.core
+    let all = polled g.M.Manager g.F.SyncHook g.A.AsyncHook f.setup.environment.manager f.setup f.core
     c.poll_over-turn.new.desk f.parties.items f.out.items
     c.self.invariant.counted c.self.invariant.well c.args.party c.args.now c.in-Some.get c.poll_over-turn.new.self
     c.poll_over-turn.result (here ∙ ap Some c.in-Some.is) c.poll_over-turn.ensures.timeouts
     c.poll_over-turn.ensures.polled in
     out_fits c.poll_over-turn.new.desk.desk f.parties.items c.args.party (Some c.poll_over-turn.new.self) _
-    (vec_len f.parties) f.fixed.most_parties (vec_capacity f.out) all.1
+    (vec_len f.parties) f.setup.most_parties (vec_capacity f.out) all.1
     (search rules) c.self.invariant.parties c.self.invariant.out_room
 
 pub invariant_of-self-in-Some : goal.invariant_of-self-in-Some
@@ -30,7 +31,7 @@ invariant_of-self-in-Some g c =
     let f = c.self.inside in
     let here = slice_get_read f.parties.items (vec_len f.parties) c.args.party c.index_mut.result.now (search rules)
     (omega (arith, c.len.ensures, c.if-party-len.false)) c.index_mut.ensures.value in
-    let all = polled g.M.Manager g.F.SyncHook g.A.AsyncHook f.fixed.environment.manager f.fixed f.core
+    let all = polled g.M.Manager g.F.SyncHook g.A.AsyncHook f.setup.environment.manager f.setup f.core
     c.poll_over-turn.new.desk f.parties.items f.out.items
     c.self.invariant.counted c.self.invariant.well c.args.party c.args.now c.in-Some.get c.poll_over-turn.new.self
     c.poll_over-turn.result (here ∙ ap Some c.in-Some.is) c.poll_over-turn.ensures.timeouts
@@ -48,7 +49,7 @@ returns-in-Some-clause-made g c =
     let f = c.self.inside in
     let here = slice_get_read f.parties.items (vec_len f.parties) c.args.party c.index_mut.result.now (search rules)
     (omega (arith, c.len.ensures, c.if-party-len.false)) c.index_mut.ensures.value in
-    let all = polled g.M.Manager g.F.SyncHook g.A.AsyncHook f.fixed.environment.manager f.fixed f.core
+    let all = polled g.M.Manager g.F.SyncHook g.A.AsyncHook f.setup.environment.manager f.setup f.core
     c.poll_over-turn.new.desk f.parties.items f.out.items
     c.self.invariant.counted c.self.invariant.well c.args.party c.args.now c.in-Some.get c.poll_over-turn.new.self
     c.poll_over-turn.result (here ∙ ap Some c.in-Some.is) c.poll_over-turn.ensures.timeouts
@@ -79,7 +80,7 @@ returns-in-None-clause-made g c =
     let none : slice_get (map party_of f.parties.items) c.args.party ≡ Some None =
     slice_get-map party_of f.parties.items c.args.party ∙ ap (option_map party_of) gone in
     rw (← c.self.view_is, c.in-None.is, same) (
-      image f.fixed f.core.desk f.parties.items f.out.items ∷ [],
+      image f.setup f.core.desk f.parties.items f.out.items ∷ [],
       rw none (refl, refl),
       refl,
     )

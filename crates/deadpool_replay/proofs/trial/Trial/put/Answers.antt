@@ -1,3 +1,4 @@
+-- One object that is out has another value afterwards; nothing else differs.
 use Rattle.deadpool_replay.proofs.Cited.{rules, ◌≡◌, ◌==◌, Some, None, length, vec_len, arith, refl, position}
 use Rattle.deadpool_replay.proofs.Cited.{place_within, found_at_place, nothing_found, with_put, image, put_at_place}
 use Rattle.deadpool_replay.proofs.Cited.{put_counted, leads_to_well, Put, Done}
@@ -20,8 +21,8 @@ invariant_of-self g c =
     c.index_mut.ensures.value in
     let found = found_at_place (λ s. s.number == c.args.number) f.out.items c.in-Some.at c.index_mut.result.now place
     c.index_mut.ensures.value in
-    let pool = image f.fixed f.core.desk f.parties.items f.out.items in
-    let led = leads_to_well g.M.Manager g.F.SyncHook g.A.AsyncHook f.fixed.environment.manager
+    let pool = image f.setup f.core.desk f.parties.items f.out.items in
+    let led = leads_to_well g.M.Manager g.F.SyncHook g.A.AsyncHook f.setup.environment.manager
     (Put c.args.number c.args.value) pool
     (record pool { out = with_put c.args.number c.args.value f.out.items }) Done c.self.invariant.well
     (rw found refl) in

@@ -1,3 +1,4 @@
+-- A retain is the list machine's, which keeps the objects that the rule keeps.
 use Rattle.deadpool_replay.proofs.Cited.{Kept, ◌≡◌, ◌∙◌, refl, ⊤, has_number, ManagerOf, LeavesOrKeeps, may, RetainerOf}
 use Rattle.deadpool_replay.proofs.Cited.{Keeping, leads_to_well, no_handle, some_handle, retained_ok, retained_err}
 use Rattle.deadpool_replay.proofs.Cited.{Retain}
@@ -21,20 +22,20 @@ returns-then-not-has_handle-clause-made g c =
 pub invariant_of-self : goal.invariant_of-self
 invariant_of-self g c =
     let f = c.self.inside in
-    let fixed = f.fixed in
+    let setup = f.setup in
     let some = some_handle c.has_handle.result f.core.desk.handles c.has_handle.ensures c.if-not-has_handle.false in
     elim c.match-retain.branch [
       | in-Ok w ↦
           let all =
-          retained_ok (may g.M.Manager g.F.SyncHook g.A.AsyncHook f.fixed.environment.manager) (λ found. tt)
+          retained_ok (may g.M.Manager g.F.SyncHook g.A.AsyncHook f.setup.environment.manager) (λ found. tt)
           (keeps_as g.M.Manager) c.args.kept.now.items (λ q. q ≡ _)
           (λ q slot answer left is a. (rw (is, c.as_slice.ensures.value) at a.0, a.1 ∙ is))
-          (λ q value left after is a. (rw is at a.0, a.1 ∙ is)) fixed f.core.desk c.retain.new.self.desk
+          (λ q value left after is a. (rw is at a.0, a.1 ∙ is)) setup f.core.desk c.retain.new.self.desk
           f.parties.items f.out.items c.self.invariant.counted some _ c.retain.new.retainer refl w.in-Ok.retained
           (rw w.in-Ok.is at c.retain.ensures.retained).0 in
           record {
             counted = all.1;
-            well = leads_to_well g.M.Manager g.F.SyncHook g.A.AsyncHook f.fixed.environment.manager
+            well = leads_to_well g.M.Manager g.F.SyncHook g.A.AsyncHook f.setup.environment.manager
                 (Retain c.args.kept.now) _ _ _ c.self.invariant.well all.0;
             parties = c.self.invariant.parties;
             party_room = c.self.invariant.party_room;
@@ -42,15 +43,15 @@ invariant_of-self g c =
           }
       | in-Err w ↦
           let all =
-          retained_err (may g.M.Manager g.F.SyncHook g.A.AsyncHook f.fixed.environment.manager) (λ found. tt)
+          retained_err (may g.M.Manager g.F.SyncHook g.A.AsyncHook f.setup.environment.manager) (λ found. tt)
           (keeps_as g.M.Manager) c.args.kept.now.items (λ q. q ≡ _)
           (λ q slot answer left is a. (rw (is, c.as_slice.ensures.value) at a.0, a.1 ∙ is))
-          (λ q value left after is a. (rw is at a.0, a.1 ∙ is)) fixed f.core.desk c.retain.new.self.desk
+          (λ q value left after is a. (rw is at a.0, a.1 ∙ is)) setup f.core.desk c.retain.new.self.desk
           f.parties.items f.out.items c.self.invariant.counted some _ c.retain.new.retainer refl w.in-Err.field-0
           (rw w.in-Err.is at c.retain.ensures.retained).0 in
           record {
             counted = all.1;
-            well = leads_to_well g.M.Manager g.F.SyncHook g.A.AsyncHook f.fixed.environment.manager
+            well = leads_to_well g.M.Manager g.F.SyncHook g.A.AsyncHook f.setup.environment.manager
                 (Retain c.args.kept.now) _ _ _ c.self.invariant.well all.0;
             parties = c.self.invariant.parties;
             party_room = c.self.invariant.party_room;
@@ -61,24 +62,24 @@ invariant_of-self g c =
 pub returns-clause-made : goal.returns-clause-made
 returns-clause-made g c =
     let f = c.self.inside in
-    let fixed = f.fixed in
+    let setup = f.setup in
     let some = some_handle c.has_handle.result f.core.desk.handles c.has_handle.ensures c.if-not-has_handle.false in
     elim c.match-retain.branch [
       | in-Ok w ↦
           let all =
-          retained_ok (may g.M.Manager g.F.SyncHook g.A.AsyncHook f.fixed.environment.manager) (λ found. tt)
+          retained_ok (may g.M.Manager g.F.SyncHook g.A.AsyncHook f.setup.environment.manager) (λ found. tt)
           (keeps_as g.M.Manager) c.args.kept.now.items (λ q. q ≡ _)
           (λ q slot answer left is a. (rw (is, c.as_slice.ensures.value) at a.0, a.1 ∙ is))
-          (λ q value left after is a. (rw is at a.0, a.1 ∙ is)) fixed f.core.desk c.retain.new.self.desk
+          (λ q value left after is a. (rw is at a.0, a.1 ∙ is)) setup f.core.desk c.retain.new.self.desk
           f.parties.items f.out.items c.self.invariant.counted some _ c.retain.new.retainer refl w.in-Ok.retained
           (rw w.in-Ok.is at c.retain.ensures.retained).0 in
           rw (← c.self.view_is, w.result-is) all.0
       | in-Err w ↦
           let all =
-          retained_err (may g.M.Manager g.F.SyncHook g.A.AsyncHook f.fixed.environment.manager) (λ found. tt)
+          retained_err (may g.M.Manager g.F.SyncHook g.A.AsyncHook f.setup.environment.manager) (λ found. tt)
           (keeps_as g.M.Manager) c.args.kept.now.items (λ q. q ≡ _)
           (λ q slot answer left is a. (rw (is, c.as_slice.ensures.value) at a.0, a.1 ∙ is))
-          (λ q value left after is a. (rw is at a.0, a.1 ∙ is)) fixed f.core.desk c.retain.new.self.desk
+          (λ q value left after is a. (rw is at a.0, a.1 ∙ is)) setup f.core.desk c.retain.new.self.desk
           f.parties.items f.out.items c.self.invariant.counted some _ c.retain.new.retainer refl w.in-Err.field-0
           (rw w.in-Err.is at c.retain.ensures.retained).0 in
           rw (← c.self.view_is, w.result-is) all.0

@@ -1,7 +1,8 @@
+-- A run answers and changes the pool as the list machine does, and nobody waits in the end while a place is free.
 use Rattle.deadpool_replay.proofs.Cited.{rules, ◌≡◌, [], ◌∷◌, length, vec_len, arith, refl, subst, ◌∙◌, append_assoc}
 use Rattle.deadpool_replay.proofs.Cited.{append-nil, into_iter_items, into_iter_len, none_left, one_less, NobodyWaits}
-use Rattle.deadpool_replay.proofs.Cited.{WithinReach, IsWell, may, MakesMove, runs_more, runs_end, each_state}
-use Rattle.deadpool_replay.proofs.Cited.{each_step}
+use Rattle.deadpool_replay.proofs.Cited.{WithinReach, RunInvariant, may, MakesMove, runs_more, runs_end, each_state}
+use Rattle.deadpool_replay.proofs.Cited.{each_step, WaitsWithin}
 use Rattle.deadpool_replay.proofs.trial.Trial.run.Goals as goal
 
 pub loop-first-init : goal.loop-first-init
@@ -55,14 +56,21 @@ returns-clause-run g c =
 
 pub returns-clause-nobody_waits : goal.returns-clause-nobody_waits
 returns-clause-nobody_waits g c passed ran =
-    let well : IsWell c.args.self.now.pool = rw (← c.self.view_is) c.self.invariant.well in
+    let well : RunInvariant c.args.self.now.pool = rw (← c.self.view_is) c.self.invariant.well in
     each_state (may g.M.Manager g.F.SyncHook g.A.AsyncHook c.args.self.now.manager) NobodyWaits
     (λ q w. w.lawful.nobody_waits) c.args.moves.items c.args.self.now.pool c.loop-first.self.pool passed
     c.loop-first.replies.items well ran
 
+pub returns-clause-waits_within : goal.returns-clause-waits_within
+returns-clause-waits_within g c passed ran =
+    let well : RunInvariant c.args.self.now.pool = rw (← c.self.view_is) c.self.invariant.well in
+    each_state (may g.M.Manager g.F.SyncHook g.A.AsyncHook c.args.self.now.manager) WaitsWithin
+    (λ q w. w.lawful.few_waiting) c.args.moves.items c.args.self.now.pool c.loop-first.self.pool passed
+    c.loop-first.replies.items well ran
+
 pub returns-clause-within_reach : goal.returns-clause-within_reach
 returns-clause-within_reach g c passed ran =
-    let well : IsWell c.args.self.now.pool = rw (← c.self.view_is) c.self.invariant.well in
+    let well : RunInvariant c.args.self.now.pool = rw (← c.self.view_is) c.self.invariant.well in
     each_step (may g.M.Manager g.F.SyncHook g.A.AsyncHook c.args.self.now.manager) WithinReach (λ q r s. s.1)
     c.args.moves.items c.args.self.now.pool c.loop-first.self.pool passed c.loop-first.replies.items well ran
 

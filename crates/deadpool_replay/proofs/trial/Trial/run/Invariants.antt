@@ -1,3 +1,4 @@
+-- While moves are made: what is left to do from here, all the moves do from the beginning.
 use Rattle.deadpool_replay.proofs.Cited.{◌≡◌, ◌≤◌, List, ◌++◌, length, vec_len, vec_capacity, ◌+◌, into_iter_items}
 use Rattle.deadpool_replay.proofs.Cited.{into_iter_len, Keeps, may, Pool, PoolRuns, Reply}
 use Rattle.deadpool_replay.proofs.trial.Trial.run.Given as goal

@@ -1,3 +1,4 @@
+-- There is room among the objects that are out for one more.
 use Rattle.deadpool_replay.proofs.Cited.{◌≡◌, ◌≤◌, length, vec_len, vec_capacity, arith, rules, length-with_numbered}
 use Rattle.deadpool_replay.proofs.Cited.{with_slot, slot_number}
 use Rattle.deadpool_replay.proofs.trial.parties.hand_out.Goals as goal

@@ -1,3 +1,4 @@
+-- An object that is given back makes one step, and its caller has it in the history.
 use Rattle.std.proofs.Common.{◌≡◌, true, false, Some, sym, ◌∙◌}
 use Rattle.deadpool_desk.specs.declared.step.Step.TheVariants as step
 use Rattle.deadpool_shared.proofs.Calls.{has_called}

@@ -1,3 +1,4 @@
+-- An object that is taken makes one step, and its caller has it in the history.
 use Rattle.std.proofs.Common.{true, false, ◌≡◌, None, sym, ◌∙◌}
 use Rattle.deadpool_desk.specs.declared.step.Step.TheVariants as step
 use Rattle.deadpool_shared.proofs.Calls.{has_called, takes_nothing}

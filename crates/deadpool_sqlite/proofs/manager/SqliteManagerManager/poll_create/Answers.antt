@@ -1,3 +1,4 @@
+-- A new connection is one that its source may open, on which the manager's batch has run.
 use Rattle.std.proofs.Common.{rules, ◌≡◌, string_bytes, subst}
 use Rattle.futures.specs.declared.task.Poll.TheVariants.{Ready}
 use Rattle.deadpool_sqlite.specs.Creating.{Creates}

@@ -1,3 +1,4 @@
+-- A file is opened at the path that the source names.
 use Rattle.std.proofs.Common.{rules, ◌≡◌, string_bytes, ◌∙◌}
 use Rattle.deadpool_sqlite.proofs.source.AtPathSource.open.Goals as goal
 

@@ -1,3 +1,4 @@
+-- An add that asks again makes the step `AddAsk`, by each of the gate's answers, and there is room for what it stores.
 use Rattle.deadpool_unmanaged.proofs.Words.{◌≡◌, ◌∙◌, not, refl, sym, ap, arith, subst, state_of, without_add, stored}
 use Rattle.deadpool_unmanaged.proofs.Words.{asked-granted, asked-waiting, asked-closed, asked-unknown, granted_tickets}
 use Rattle.deadpool_unmanaged.proofs.Words.{without_number-fewer, IsKept}
@@ -25,7 +26,7 @@ invariant_of-self g c =
     rw (joined_idle _ _ _ _ has.1 stores.idle) (ap (stored has.0) left) in
     let room = room-added (state_of core) c.args.ticket has.0 c.self.invariant.kept in
     let is = gets-settled (record core { adds = c.ask.new.self; idle = c.store.new.idle }) core.gets c.store.new.gets _
-    _ refl puts stores.gets stores.untold stores.closed room in
+    _ refl puts stores.gets stores.unnotified stores.closed room in
     record {
       together = asked.closed ∙ c.self.invariant.together ∙ sym stores.closed;
       reserve = omega (arith, c.self.invariant.reserve, stores.room);
@@ -57,7 +58,7 @@ returns-in-Granted-clause-made g c =
     rw (joined_idle _ _ _ _ has.1 stores.idle) (ap (stored has.0) left) in
     let room = room-added (state_of core) c.args.ticket has.0 c.self.invariant.kept in
     let is = gets-settled (record core { adds = c.ask.new.self; idle = c.store.new.idle }) core.gets c.store.new.gets _
-    _ refl puts stores.gets stores.untold stores.closed room in
+    _ refl puts stores.gets stores.unnotified stores.closed room in
     rw (← c.self.view_is, has.1) ((ap not (sym c.self.invariant.together ∙ was.0), was.1, is), tt)
 
 pub returns-in-Closed-clause-made : goal.returns-in-Closed-clause-made

@@ -1,3 +1,4 @@
+-- An add that is given up leaves its queue, and room that it was granted goes to the next add.
 use Rattle.deadpool_unmanaged.proofs.Words.{◌≡◌, ◌∙◌, ◌-◌, ◌+◌, arith, sym, subst, rules, length, vec_len}
 use Rattle.deadpool_unmanaged.proofs.Words.{withdrawn-unknown, withdrawn-known, IsKept}
 use Rattle.deadpool_unmanaged.proofs.CoreQueues.{adds-same, adds-without, adds-settled}
@@ -24,14 +25,14 @@ returns-in-Unknown g c =
 pub invariant_of-self-2 : goal.invariant_of-self-2
 invariant_of-self-2 g c =
     let out = c.withdraw.ensures in
-    let line = c.settle.ensures in
+    let line = c.settle_within.ensures in
     let core = c.self.inside in
     let idle : vec_len core.idle ≡ length core.idle.items = search rules in
     let all : core.limit - c.len.result - core.outside ≡ core.limit - (length core.idle.items + core.outside) =
     omega (arith, idle, c.len.ensures) in
     let left = adds-without core c.withdraw.new.self c.args.ticket out.line.apart out.waiters in
-    let is = adds-settled core c.withdraw.new.self c.settle.new.line _ _ all left
-    (out.closed ∙ c.self.invariant.together) line.queue line.untold c.self.invariant.kept.objects in
+    let is = adds-settled core c.withdraw.new.self c.settle_within.new.self _ _ all left
+    (out.closed ∙ c.self.invariant.together) line.queue line.unnotified c.self.invariant.kept.gets.nobody_waits in
     record {
       together = line.closed ∙ out.closed ∙ c.self.invariant.together;
       reserve = c.self.invariant.reserve;
@@ -41,14 +42,14 @@ invariant_of-self-2 g c =
 pub returns : goal.returns
 returns g c =
     let out = c.withdraw.ensures in
-    let line = c.settle.ensures in
+    let line = c.settle_within.ensures in
     let core = c.self.inside in
     let idle : vec_len core.idle ≡ length core.idle.items = search rules in
     let all : core.limit - c.len.result - core.outside ≡ core.limit - (length core.idle.items + core.outside) =
     omega (arith, idle, c.len.ensures) in
     let left = adds-without core c.withdraw.new.self c.args.ticket out.line.apart out.waiters in
-    let is = adds-settled core c.withdraw.new.self c.settle.new.line _ _ all left
-    (out.closed ∙ c.self.invariant.together) line.queue line.untold c.self.invariant.kept.objects in
+    let is = adds-settled core c.withdraw.new.self c.settle_within.new.self _ _ all left
+    (out.closed ∙ c.self.invariant.together) line.queue line.unnotified c.self.invariant.kept.gets.nobody_waits in
     rw (← c.self.view_is) (
       (withdrawn-known _ c.args.ticket _ out.line (rw out.answer at c.in_default.not-Unknown), is),
       tt,

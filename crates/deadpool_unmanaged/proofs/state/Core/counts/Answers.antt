@@ -1,3 +1,4 @@
+-- What an unmanaged core counts is what its lists are long.
 use Rattle.deadpool_unmanaged.proofs.Words.{◌≡◌, ◌∙◌, length, vec_len, rules, refl, granted_count-length}
 use Rattle.deadpool_unmanaged.proofs.Words.{waiting_count-length}
 use Rattle.deadpool_unmanaged.proofs.state.Core.counts.Goals as goal

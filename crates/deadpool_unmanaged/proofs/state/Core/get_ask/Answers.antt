@@ -1,3 +1,4 @@
+-- A get that asks again makes the step `GetAsk`, by each of the gate's answers.
 use Rattle.deadpool_unmanaged.proofs.Words.{◌≡◌, ◌∙◌, arith, not, refl, sym, ap, subst, or_left, without_waiter, handed}
 use Rattle.deadpool_unmanaged.proofs.Words.{asked-granted, asked-waiting, asked-closed, asked-unknown, IsKept}
 use Rattle.deadpool_unmanaged.proofs.CoreQueues.{gets-same, gets-without, none_idle, closed_or_open}

@@ -1,3 +1,4 @@
+-- A get that is given up leaves its queue, and an object that it was granted goes to the next get.
 use Rattle.deadpool_unmanaged.proofs.Words.{◌≡◌, ◌∙◌, sym, subst, rules, length, withdrawn-unknown, withdrawn-known}
 use Rattle.deadpool_unmanaged.proofs.Words.{IsKept}
 use Rattle.deadpool_unmanaged.proofs.CoreQueues.{gets-same, gets-without, gets-settled}
@@ -24,11 +25,12 @@ returns-in-Unknown g c =
 pub invariant_of-self-2 : goal.invariant_of-self-2
 invariant_of-self-2 g c =
     let out = c.withdraw.ensures in
-    let line = c.settle.ensures in
+    let line = c.settle_within.ensures in
     let all : c.len.result ≡ length c.self.inside.idle.items = search rules in
     let left = gets-without c.self.inside c.withdraw.new.self c.args.ticket out.line.apart out.waiters out.closed in
-    let is = gets-settled c.self.inside c.withdraw.new.self c.settle.new.line _ _ all left line.queue line.untold
-    line.closed c.self.invariant.kept.room in
+    let is = gets-settled c.self.inside c.withdraw.new.self c.settle_within.new.self _ _ all left line.queue
+    line.unnotified
+    line.closed c.self.invariant.kept.adds.nobody_waits in
     record {
       together = c.self.invariant.together ∙ sym (line.closed ∙ out.closed);
       reserve = c.self.invariant.reserve;
@@ -38,11 +40,12 @@ invariant_of-self-2 g c =
 pub returns : goal.returns
 returns g c =
     let out = c.withdraw.ensures in
-    let line = c.settle.ensures in
+    let line = c.settle_within.ensures in
     let all : c.len.result ≡ length c.self.inside.idle.items = search rules in
     let left = gets-without c.self.inside c.withdraw.new.self c.args.ticket out.line.apart out.waiters out.closed in
-    let is = gets-settled c.self.inside c.withdraw.new.self c.settle.new.line _ _ all left line.queue line.untold
-    line.closed c.self.invariant.kept.room in
+    let is = gets-settled c.self.inside c.withdraw.new.self c.settle_within.new.self _ _ all left line.queue
+    line.unnotified
+    line.closed c.self.invariant.kept.adds.nobody_waits in
     rw (← c.self.view_is) (
       (withdrawn-known _ c.args.ticket _ out.line (rw out.answer at c.in_default.not-Unknown), is),
       tt,

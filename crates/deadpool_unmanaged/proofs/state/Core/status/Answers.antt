@@ -1,3 +1,4 @@
+-- A status is that of the core's lists: all idle objects are available, all gets in the queue wait.
 use Rattle.deadpool_unmanaged.proofs.Words.{◌≡◌, length, vec_len, rules, refl, granted_count-length}
 use Rattle.deadpool_unmanaged.proofs.Words.{waiting_count-length}
 use Rattle.deadpool_unmanaged.proofs.state.Core.status.Goals as goal

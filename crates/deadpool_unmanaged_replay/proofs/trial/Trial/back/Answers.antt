@@ -1,3 +1,4 @@
+-- A return is the list machine's, and one by a party without an object says so.
 use Rattle.deadpool_unmanaged_replay.proofs.Basics.{◌≡◌, ◌∙◌, Some, None, sym, arith, none_there}
 use Rattle.deadpool_unmanaged_replay.proofs.Words.{find_item, item_number, Move, Reply}
 use Rattle.deadpool_unmanaged_replay.proofs.{OtherMoves.known, OtherMoves.came_back, Parties.stays}

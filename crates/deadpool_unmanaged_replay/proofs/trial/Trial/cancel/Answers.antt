@@ -1,3 +1,4 @@
+-- A cancel is the list machine's, of a get and of an add, and one of a party that asks nothing changes nothing.
 use Rattle.deadpool_unmanaged_replay.proofs.Basics.{◌≡◌, ◌∙◌, Some, None, length, vec_len, arith, rules, map, refl, ap}
 use Rattle.deadpool_unmanaged_replay.proofs.Basics.{sym, slice_get, option_map, length-map, slice_get_read}
 use Rattle.deadpool_unmanaged_replay.proofs.Basics.{slice_get_past, slice_get-map, set-same}

@@ -1,3 +1,4 @@
+-- A clone of a handle is the list machine's.
 use Rattle.deadpool_unmanaged_replay.proofs.{Basics.arith, OtherMoves.clones}
 use Rattle.deadpool_unmanaged_replay.proofs.trial.Trial.clone_handle.Goals as goal
 

@@ -1,3 +1,4 @@
+-- A close is the list machine's, and without a handle it says so.
 use Rattle.deadpool_unmanaged_replay.proofs.{Basics.arith, Words.Move, Words.Reply, OtherMoves.closes}
 use Rattle.deadpool_unmanaged_replay.proofs.{Parties.no_handle, Parties.some_handle, Parties.stays}
 use Rattle.deadpool_unmanaged_replay.proofs.trial.Trial.close.Goals as goal

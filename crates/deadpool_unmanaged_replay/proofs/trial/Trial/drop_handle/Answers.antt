@@ -1,3 +1,4 @@
+-- The drop of a handle is the list machine's; that of the last one closes the pool.
 use Rattle.deadpool_unmanaged_replay.proofs.{Basics.arith, OtherMoves.drops}
 use Rattle.deadpool_unmanaged_replay.proofs.trial.Trial.drop_handle.Goals as goal
 

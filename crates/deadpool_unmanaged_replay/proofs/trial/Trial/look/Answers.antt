@@ -1,3 +1,4 @@
+-- How a get or an add stands in the trial is how it stands in the list machine.
 use Rattle.deadpool_unmanaged_replay.proofs.{Basics.◌≡◌, Basics.◌∙◌, Basics.sym, Basics.ap, Basics.Some}
 use Rattle.deadpool_unmanaged_replay.proofs.{Basics.slice_get, Basics.slice_get-get_or, Words.Visitor, Seen.look_of-get}
 use Rattle.deadpool_unmanaged_replay.proofs.{Seen.look_of-add}

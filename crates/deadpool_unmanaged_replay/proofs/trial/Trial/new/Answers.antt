@@ -1,3 +1,4 @@
+-- A new trial is the list machine as it opens.
 use Rattle.deadpool_unmanaged_replay.proofs.{Basics.refl, Basics.arith, Well.opened_well}
 use Rattle.deadpool_unmanaged_replay.proofs.trial.Trial.new.Goals as goal
 

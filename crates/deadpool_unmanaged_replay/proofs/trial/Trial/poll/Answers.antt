@@ -1,3 +1,4 @@
+-- A poll of a get or an add is the list machine's, and an object that it gives is the party's then.
 use Rattle.deadpool_unmanaged_replay.proofs.Basics.{◌≡◌, ◌∙◌, Some, None, length, vec_len, arith, rules, map, refl, ap}
 use Rattle.deadpool_unmanaged_replay.proofs.Basics.{slice_get, option_map, length-map, slice_get_read, slice_get_past}
 use Rattle.deadpool_unmanaged_replay.proofs.Basics.{slice_get-map}

@@ -1,6 +1,7 @@
+-- A run answers and changes the pool as the list machine does.
 use Rattle.deadpool_unmanaged_replay.proofs.Basics.{rules, ◌≡◌, [], ◌∷◌, length, vec_len, arith, append_assoc}
 use Rattle.deadpool_unmanaged_replay.proofs.Basics.{append-nil, into_iter_items, into_iter_len, none_left, one_less}
-use Rattle.deadpool_unmanaged_replay.proofs.Words.{IsLawful}
+use Rattle.deadpool_unmanaged_replay.proofs.Words.{PoolInvariant}
 use Rattle.deadpool_unmanaged_replay.proofs.Runs.{runs_more, runs_end, runs_lawful}
 use Rattle.deadpool_unmanaged_replay.proofs.trial.Trial.run.Goals as goal
 
@@ -41,6 +42,6 @@ returns g c =
     none_left (into_iter_items l.first-iterator) (into_iter_len l.first-iterator) l.invariant.left steps.0 in
     let ran =
     rw append-nil at (l.invariant.goes [] [] l.self (runs_end l.self (into_iter_items l.first-iterator) ended)) in
-    let lawful : IsLawful c.args.self.now = rw (← c.self.view_is) c.self.invariant.well.lawful in
+    let lawful : PoolInvariant c.args.self.now = rw (← c.self.view_is) c.self.invariant.well.lawful in
     let laws = runs_lawful c.args.moves.items c.args.self.now l.self ran.0 l.replies.items lawful ran.1 in
     record { run = (ran.0, ran.1, laws.0, laws.1) }

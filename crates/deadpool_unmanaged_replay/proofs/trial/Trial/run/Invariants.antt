@@ -1,3 +1,4 @@
+-- While moves are made: what is left to do from here, all the moves do from the beginning.
 use Rattle.deadpool_unmanaged_replay.proofs.Basics.{◌≡◌, ◌≤◌, List, ◌++◌, length, vec_len, vec_capacity, ◌+◌}
 use Rattle.deadpool_unmanaged_replay.proofs.Basics.{into_iter_items, into_iter_len}
 use Rattle.deadpool_unmanaged_replay.proofs.Words.{Pool, PoolRuns, Reply}

@@ -1,3 +1,4 @@
+-- A start of a get is the list machine's, and one without a handle or room for a party is refused.
 use Rattle.deadpool_unmanaged_replay.proofs.Basics.{◌≡◌, nat_lt, true, false, rules, length, vec_len, arith, map}
 use Rattle.deadpool_unmanaged_replay.proofs.Basics.{lt-ltb, le-ltb, length-map}
 use Rattle.deadpool_unmanaged_replay.proofs.Words.{party_of, Move, Reply}

@@ -1,3 +1,4 @@
+-- A status is the list machine's, and without a handle it says so.
 use Rattle.deadpool_unmanaged_replay.proofs.{Words.Move, Words.Reply, OtherMoves.stands, Parties.no_handle}
 use Rattle.deadpool_unmanaged_replay.proofs.{Parties.some_handle, Parties.stays}
 use Rattle.deadpool_unmanaged_replay.proofs.trial.Trial.status.Goals as goal

@@ -1,3 +1,4 @@
+-- A take is the list machine's, and one by a party without an object says so.
 use Rattle.deadpool_unmanaged_replay.proofs.Basics.{◌≡◌, ◌∙◌, Some, None, sym, arith, none_there}
 use Rattle.deadpool_unmanaged_replay.proofs.Words.{find_item, item_number, Move, Reply}
 use Rattle.deadpool_unmanaged_replay.proofs.{OtherMoves.take_known, OtherMoves.taken, Parties.stays}

@@ -1,3 +1,4 @@
+-- An add at once is the list machine's, and one that is refused has its object back.
 use Rattle.deadpool_unmanaged_replay.proofs.{Basics.arith, Basics.subst, Basics.false, Basics.Some, Basics.eq-eqb}
 use Rattle.deadpool_unmanaged_replay.proofs.{Basics.largest_usize, Words.Does, Words.AddEnter, Words.LeavesHand}
 use Rattle.deadpool_unmanaged_replay.proofs.{Words.Move, Words.Reply, OtherMoves.at_once, OtherMoves.tried_add}

@@ -1,3 +1,4 @@
+-- A get at once is the list machine's, and one that is refused says why.
 use Rattle.deadpool_unmanaged_replay.proofs.{Basics.arith, Basics.subst, Basics.false, Basics.rules, Basics.length}
 use Rattle.deadpool_unmanaged_replay.proofs.{Basics.vec_len, Basics.◌≡◌, Words.Does, Words.GetEnter, Words.Move}
 use Rattle.deadpool_unmanaged_replay.proofs.{Words.Reply, Lawful.length-with_item, OtherMoves.tried_get}

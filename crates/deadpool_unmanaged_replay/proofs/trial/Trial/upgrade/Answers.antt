@@ -1,3 +1,4 @@
+-- An upgrade of a weak handle is the list machine's, and says whether there is a handle.
 use Rattle.deadpool_unmanaged_replay.proofs.{Basics.arith, OtherMoves.upgrades}
 use Rattle.deadpool_unmanaged_replay.proofs.trial.Trial.upgrade.Goals as goal
 

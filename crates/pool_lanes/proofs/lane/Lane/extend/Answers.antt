@@ -1,3 +1,4 @@
+-- A lane with one more column shows what it showed, and this in the new column.
 use Rattle.pool_lanes.proofs.{Words.arith, Words.rules, Words.◌+◌, Words.◌∙◌, Words.ap, Words.sym, LaidMarks.next_of}
 use Rattle.pool_lanes.proofs.{LaidMarks.wide_laid, LaidMarks.wide_columns, LaidMarks.wide_first, LaidMarks.more_columns}
 use Rattle.pool_lanes.proofs.{LaidMarks.more_laid, LaidMarks.next_last, LaidMarks.next_mark}

@@ -1,3 +1,4 @@
+-- No two marks of a lane overlap, and its columns are those that its marks show.
 use Rattle.pool_lanes.proofs.{Words.subst, Words.AreApart, LaidMarks.laid_apart, LaidMarks.all_shown}
 use Rattle.pool_lanes.proofs.lane.Lane.laws.Goals as goal
 

@@ -1,3 +1,4 @@
+-- Lanes with one more column show the whole picture, with new lanes for what is left.
 use Rattle.pool_lanes.proofs.{Words.◌≤◌, Words.length, Words.subst, Words.sym, Words.Draws, Words.Rows}
 use Rattle.pool_lanes.proofs.{GrownLanes.all_end, GrownLanes.all_drawn}
 use Rattle.pool_lanes.proofs.lanes.Lanes.with_column.Goals as goal

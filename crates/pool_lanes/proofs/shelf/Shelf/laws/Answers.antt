@@ -1,3 +1,4 @@
+-- No two labels of a row overlap.
 use Rattle.pool_lanes.proofs.{Words.subst, PutLabels.no_overlap}
 use Rattle.pool_lanes.specs.Labels.{DoNotOverlap}
 use Rattle.pool_lanes.proofs.shelf.Shelf.laws.Goals as goal

@@ -1,3 +1,4 @@
+-- A label that is put at the end of a row lies apart from all that are there.
 use Rattle.pool_lanes.proofs.{Words.arith, Words.subst, Words.sym, Words.◌≡◌, Words.◌≤◌}
 use Rattle.pool_lanes.proofs.PutLabels.{in_order_append, end_append}
 use Rattle.pool_lanes.specs.declared.shelf.Span.{Span}

@@ -1,3 +1,4 @@
+-- While an object that left is looked for: each party so far has what it had, but for that object.
 use Rattle.pool_shapes.proofs.{Words.left_without, Columns.IsChanged}
 use Rattle.pool_shapes.proofs.given.Given.take_away.Given as goal
 

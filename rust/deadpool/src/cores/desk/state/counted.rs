@@ -42,11 +42,25 @@ impl<T> Core<T> {
         self.gate.is_closed()
     }
 
-    /// Whether a get that enters now, and is willing to wait, has to join the queue: the pool is open, and no place is
-    /// free.
+    /// Whether the pool has closed and nothing is left in it: no object, and no get that holds a place or has a
+    /// creation under way. It stays so.
+    #[inline]
+    pub fn is_drained(&self) -> bool {
+        let left = self.ring.len() + self.places.outside + self.places.going + self.places.creations;
+        left == 0 && self.gate.is_closed()
+    }
+
+    /// Whether a get that enters now, and is willing to wait, has to join the queue: the pool is open, no place is
+    /// free, and fewer wait than may.
     #[inline]
     pub fn would_queue(&self) -> bool {
-        !self.gate.is_closed() && self.places.room(&self.gate) == 0
+        !self.gate.is_closed() && self.places.room(&self.gate) == 0 && self.may_join(true)
+    }
+
+    // Whether a get that finds no place may join the queue: it is willing to wait, and fewer wait than may.
+    #[inline]
+    pub(super) fn may_join(&self, wait: bool) -> bool {
+        wait && self.gate.waiting() < self.max_waiting
     }
 
     /// What the pool counts.

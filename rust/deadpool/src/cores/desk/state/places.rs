@@ -24,19 +24,21 @@ impl Places {
         Places { limit, going: 0, creations: 0, outside: 0 }
     }
 
+    // How many are held by what is no get in the queue. (In this order rustc makes a get one instruction shorter.)
+    #[inline(always)]
+    fn held(&self) -> usize {
+        self.outside + self.creations + self.going
+    }
+
     // How many more there are than are held, those included that the gate has granted.
-    #[inline]
+    #[inline(always)]
     pub fn room(&self, gate: &Gate) -> usize {
-        let held = gate.granted() + self.going + self.creations + self.outside;
-        self.limit.saturating_sub(held)
+        gate.room_within(self.limit, self.held())
     }
 
     // Grants the free places to the earliest that wait.
-    #[inline]
+    #[inline(always)]
     pub fn settle(&self, gate: &mut Gate) {
-        if gate.waiting() > 0 {
-            let room = self.room(gate);
-            gate.settle(room);
-        }
+        gate.settle_within(self.limit, self.held());
     }
 }

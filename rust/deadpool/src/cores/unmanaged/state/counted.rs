@@ -3,7 +3,6 @@
 //! granted what it asks for.
 
 use super::Core;
-use super::line::free;
 use crate::cores::gate::gate::Ticket;
 use crate::cores::unmanaged::Counts;
 
@@ -60,25 +59,39 @@ impl<T> Core<T> {
     // How many idle objects no get was granted.
     #[inline]
     pub(super) fn free_objects(&self) -> usize {
-        free(&self.gets, self.idle.len())
+        self.gets.room_within(self.idle.len(), 0)
     }
 
     // How much room no add was granted.
     #[inline]
     pub(super) fn free_room(&self) -> usize {
-        free(&self.adds, self.limit - self.idle.len() - self.outside)
+        self.adds.room_within(self.limit - self.idle.len() - self.outside, 0)
     }
 
-    /// Whether a get that enters now and wants to wait joins the queue: the pool is open and has no free object.
+    // Whether a get that finds no object may join the queue: it is willing to wait, and fewer wait than may.
+    #[inline(always)]
+    pub(super) fn get_may_join(&self, wait: bool) -> bool {
+        wait && self.gets.waiting() < self.max_waiting
+    }
+
+    // The same of an add that finds no room.
+    #[inline(always)]
+    pub(super) fn add_may_join(&self, wait: bool) -> bool {
+        wait && self.adds.waiting() < self.max_waiting
+    }
+
+    /// Whether a get that enters now and wants to wait joins the queue: the pool is open, has no free object, and fewer
+    /// gets wait than may.
     #[inline]
     pub fn get_would_queue(&self) -> bool {
-        !self.gets.is_closed() && self.free_objects() == 0
+        !self.gets.is_closed() && self.free_objects() == 0 && self.get_may_join(true)
     }
 
-    /// Whether an add that enters now and wants to wait joins the queue: the pool is open and has no free room.
+    /// Whether an add that enters now and wants to wait joins the queue: the pool is open, has no free room, and fewer
+    /// adds wait than may.
     #[inline]
     pub fn add_would_queue(&self) -> bool {
-        !self.gets.is_closed() && self.free_room() == 0
+        !self.gets.is_closed() && self.free_room() == 0 && self.add_may_join(true)
     }
 
     /// Whether the get in the queue with this ticket was granted an object, which it has not taken yet. Nothing

@@ -2,7 +2,6 @@
 //! The steps of a core that the pool's owner makes.
 
 use super::Core;
-use super::line::settle;
 use crate::cores::unmanaged::{HandleReply, Status};
 
 impl<T> Core<T> {
@@ -49,7 +48,7 @@ impl<T> Core<T> {
         }
         if self.handles == 0 {
             self.idle.clear();
-            settle(&mut self.adds, self.limit - self.outside);
+            self.adds.settle_within(self.limit - self.outside, 0);
         }
         HandleReply::Done
     }

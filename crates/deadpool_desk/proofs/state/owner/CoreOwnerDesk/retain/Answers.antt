@@ -1,3 +1,4 @@
+-- A retain without notes is one with notes that are forgotten.
 use Rattle.deadpool_desk.proofs.Reviewing.{retains_forget}
 use Rattle.deadpool_desk.proofs.state.owner.CoreOwnerDesk.retain.Goals as goal
 

@@ -1,5 +1,6 @@
-use Rattle.deadpool_desk.proofs.Names.{granted_count-length}
+-- How many places are free is the limit less those held and those granted.
+use Rattle.deadpool_desk.proofs.Names.{arith}
 use Rattle.deadpool_desk.proofs.state.places.Places.room.Goals as goal
 
 pub returns : goal.returns
-returns c = rw (← granted_count-length c.args.gate.now.waiters, ← c.granted.ensures.count) c.saturating_sub.ensures
+returns c = omega (arith, c.room_within.ensures, c.held.ensures)

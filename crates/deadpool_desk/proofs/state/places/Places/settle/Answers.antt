@@ -1,42 +1,24 @@
-use Rattle.deadpool_desk.proofs.Names.{◌≡◌, refl, length, arith, waiting_tickets, waiting_count-length}
-use Rattle.deadpool_desk.proofs.PlacesGranted.{IsGranted, as_many, quiet, nobody, same_queue, held_within, none_waits}
+-- Settling grants what is free to the front of the queue, so nobody waits in an open pool while a place is free.
+use Rattle.deadpool_desk.proofs.Names.{◌≡◌, ◌-◌, ap, length, arith, granted_tickets, waiting_tickets, held_at}
+use Rattle.deadpool_desk.proofs.Names.{grants_at, length-drop}
 use Rattle.deadpool_desk.proofs.state.places.Places.settle.Goals as goal
 
-pub returns-then-waiting-gt0 : goal.returns-then-waiting-gt0
-returns-then-waiting-gt0 c =
+pub returns : goal.returns
+returns c =
     let line = c.args.gate.now in
     let p = c.args.self.now in
-    let after = c.settle.new.self in
-    let n = as_many line p c.settle.result c.room-room.result c.room-room.ensures c.settle.ensures.count in
-    let is : IsGranted line p after =
+    let settle = c.settle_within.ensures in
+    let free : p.limit - c.held.result - length (granted_tickets line.waiters) ≡ p.limit - held_at line p =
+    omega (arith, c.held.ensures) in
+    let queue = rw free at settle.queue in
     record {
-      granted = rw n at c.settle.ensures.places;
-      waiting = rw n at c.settle.ensures.left;
-      closed = c.settle.ensures.closed;
-    } in
-    record {
-      granted = is.granted;
-      waiting = is.waiting;
-      queue = same_queue line p after is;
-      untold = c.settle.ensures.untold;
-      closed = is.closed;
-      held = held_within line p after is;
-      nobody_waits = none_waits line p after is;
-    }
-
-pub returns-else-waiting-gt0 : goal.returns-else-waiting-gt0
-returns-else-waiting-gt0 c =
-    let line = c.args.gate.now in
-    let p = c.args.self.now in
-    let none : length (waiting_tickets line.waiters) ≡ 0 =
-    omega (arith, waiting_count-length line.waiters, c.waiting.ensures.count, c.if-waiting-gt0.false) in
-    let is = quiet line p (nobody (waiting_tickets line.waiters) none) in
-    record {
-      granted = is.granted;
-      waiting = is.waiting;
-      queue = same_queue line p line is;
-      untold = refl;
-      closed = refl;
-      held = held_within line p line is;
-      nobody_waits = none_waits line p line is;
+      granted = ap (λ q. q.granted) queue;
+      waiting = ap (λ q. q.waiting) queue;
+      fewer = rw (ap (λ q. q.waiting) queue)
+          (omega (arith, length-drop (grants_at line p) (waiting_tickets line.waiters)));
+      queue = settle.members;
+      unnotified = settle.unnotified;
+      closed = settle.closed;
+      held = omega (arith, settle.within, free);
+      nobody_waits = λ is_open some. settle.nobody_waits is_open (omega (arith, c.held.ensures, some));
     }

@@ -1,3 +1,4 @@
+-- The names that a try with scarce memory picks for its pool: those of its blanks.
 use Rattle.test_refused_memory.proofs.tests.scarce.shared_pools.try_once.Given as goal
 
 abbrev pub ghosts-try_over : goal.ghosts-try_over

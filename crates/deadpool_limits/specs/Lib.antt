@@ -1,0 +1,2 @@
+-- How long an object may serve.
+pub mod Limits

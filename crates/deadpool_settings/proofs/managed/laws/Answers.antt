@@ -1,0 +1,9 @@
+-- The laws of a strict reading are those of its definition.
+use Rattle.deadpool_settings.proofs.ManagedLaws.{reads_exactly, tells_faults}
+use Rattle.deadpool_settings.proofs.managed.laws.Goals as goal
+
+pub returns-clause-exact : goal.returns-clause-exact
+returns-clause-exact c = reads_exactly
+
+pub returns-clause-honest : goal.returns-clause-honest
+returns-clause-honest c = tells_faults

@@ -1,0 +1,59 @@
+-- How a drain ends, and which calls it makes for its caller.
+use Rattle.std.specs.Prelude.{◌≡◌, ◌⊎◌, ◌++◌, ℕ, List, codes, Bool, true, false, Option, Some, None, Result, Ok, Err}
+use Rattle.futures.specs.declared.task.Poll.{Poll}
+use Rattle.futures.specs.declared.task.Poll.TheVariants.{Ready, Pending}
+use Rattle.deadpool_chronicle.specs.History.{Knowing}
+use Rattle.deadpool_desk.specs.Closing.{HasSome, IsEmpty}
+use Rattle.deadpool_desk.specs.declared.owner_step.OwnerReply.TheVariants as owner_reply
+use Rattle.deadpool_desk.specs.declared.owner_step.OwnerStep.TheVariants as owner_step
+use Rattle.deadpool_history.specs.History.{HasCalled}
+use Rattle.deadpool_history.specs.declared.line.Line.{Line}
+use Rattle.deadpool_journal.specs.declared.entry.Entry.TheVariants.{Owner}
+use Rattle.deadpool_parts.specs.Texts.{status_text}
+use Rattle.deadpool_parts.specs.declared.status.Status.{Status}
+use Rattle.deadpool_shared.specs.Counts.{IsNewCaller}
+use Rattle.deadpool_shared.specs.declared.ended.DrainError.{DrainError}
+use Rattle.deadpool_shared.specs.declared.ended.DrainError.TheVariants.{Timeout, OutOfMemory}
+
+-- what it writes that has not ended well
+abbrev pub drain_error_text : DrainError → List ℕ
+drain_error_text (Timeout status) = codes "Timeout occurred while draining the pool: " ++ status_text status
+drain_error_text (OutOfMemory status) = codes "Out of memory while draining the pool: " ++ status_text status
+
+-- the status that it ends with
+abbrev pub status_in : Result Status DrainError → Status
+status_in (Ok status) = status
+status_in (Err (Timeout status)) = status
+status_in (Err (OutOfMemory status)) = status
+
+-- It ends well where no object is left. Otherwise something is, and its time is over, if it is limited, or there was no
+-- memory to wait by.
+abbrev pub EndsEmpty : Bool → Result Status DrainError → Type 0
+EndsEmpty is_limited (Ok status) = IsEmpty status
+EndsEmpty is_limited (Err (Timeout status)) = HasSome status × (is_limited ≡ true)
+EndsEmpty is_limited (Err (OutOfMemory status)) = HasSome status
+
+-- the same, where the pool is drained or not, and the time is over or not
+abbrev pub EndsAt : Bool → Bool → Result Status DrainError → Type 0
+EndsAt is_drained is_late (Ok status) = IsEmpty status × (is_drained ≡ true)
+EndsAt is_drained is_late (Err (Timeout status)) = HasSome status × (is_drained ≡ false) × (is_late ≡ true)
+EndsAt is_drained is_late (Err (OutOfMemory status)) = HasSome status × (is_drained ≡ false) × (is_late ≡ false)
+
+-- The pool is closed by a call of this caller's, which a caller of before need not make if it was closed already.
+abbrev pub HasClosed : Bool → Knowing Line → Knowing Line → Type 0
+HasClosed true c c' = HasCalled (λ e. e ≡ Owner owner_step.Close owner_reply.Done) c c'
+HasClosed false c c' = HasCalled (λ e. e ≡ Owner owner_step.Close owner_reply.Done) c c' ⊎ (c' ≡ c)
+
+-- After that a drain that ends asks for the status that it gives, and one that waits on asks for nothing.
+abbrev pub HasEnded : Poll (Result Status DrainError) → Knowing Line → Knowing Line → Type 0
+HasEnded (Ready ended) c c' = HasCalled (λ e. e ≡ Owner owner_step.Status (owner_reply.Stands (status_in ended))) c c'
+HasEnded Pending c c' = c' ≡ c
+
+abbrev pub CallsOfDrain : Bool → Poll (Result Status DrainError) → Knowing Line → Knowing Line → Type 0
+CallsOfDrain is_first polled c c' = (closed : Knowing Line) × (HasClosed is_first c closed × HasEnded polled closed c')
+
+-- One poll of a drain, whose caller is a new one at the first.
+abbrev pub PollsDrain : Option (Knowing Line) → Poll (Result Status DrainError) → Option (Knowing Line) → Type 0
+PollsDrain (Some c) polled (Some c') = CallsOfDrain false polled c c'
+PollsDrain None polled (Some c') = (new : Knowing Line) × (IsNewCaller new × CallsOfDrain true polled new c')
+PollsDrain _ polled None = ⊥

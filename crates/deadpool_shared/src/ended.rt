@@ -1,0 +1,31 @@
+//! How a drain ends that does not end well.
+
+use deadpool_managed::Status;
+use std::fmt;
+
+/// Why a drain ended while something was left in its pool, which is closed. It says how the pool stood then.
+#[derive(Clone, Copy, Debug, PartialEq, Eq)]
+pub enum DrainError {
+    /// The time to wait was over.
+    Timeout(Status),
+    /// There was no memory to wait by.
+    OutOfMemory(Status),
+}
+
+impl fmt::Display for DrainError {
+    ghost use Rattle.std.specs.Prelude.{Some};
+    ghost use Rattle.deadpool_shared.specs.Drains.{drain_error_text};
+
+    ghost output = { λ error. Some (drain_error_text error) };
+
+    fn fmt<W: fmt::Write>(&self, f: &mut fmt::Formatter<W>) -> fmt::Result {
+        match self {
+            DrainError::Timeout(status) => {
+                write!(f, "Timeout occurred while draining the pool: {status}")
+            }
+            DrainError::OutOfMemory(status) => {
+                write!(f, "Out of memory while draining the pool: {status}")
+            }
+        }
+    }
+}

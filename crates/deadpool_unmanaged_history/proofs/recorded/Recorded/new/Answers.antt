@@ -1,0 +1,20 @@
+-- A new pool's history is its opening alone, which leads to the state that it has.
+use Rattle.deadpool_unmanaged_history.proofs.Words.{◌∙◌, [], ◌∷◌, ◌++◌, ap, silent}
+use Rattle.deadpool_unmanaged_history.proofs.First.{has_none}
+use Rattle.deadpool_unmanaged_history.proofs.recorded.Recorded.new.Goals as goal
+
+pub invariant_of-result : goal.invariant_of-result
+invariant_of-result g c =
+    let n = c.args.first.now.number in
+    let added = c.note.ensures.call.0 in (
+      [],
+      (
+        (
+          n,
+          c.seen-beginning.ensures.log ∙ added.1.1
+              ∙ ap (λ l. l ++ (n, added.0) ∷ []) c.requires.empty
+              ∙ ap (λ x. (n, x) ∷ []) added.1.0,
+        ),
+        (ap silent c.requires.opened, has_none c.args.pool.log c.requires.unnoted),
+      ),
+    )

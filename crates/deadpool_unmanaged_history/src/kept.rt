@@ -1,0 +1,130 @@
+//! The two that keep a pool's state: a core alone, and a pool with its history.
+
+use crate::keeps_state::KeepsState;
+use crate::line::Line;
+use crate::recorded::Recorded;
+use deadpool_chronicle::{Caller, Chronicle};
+use deadpool_unmanaged::gate::Ticket;
+use deadpool_unmanaged::{Core, Reply, Step};
+use deadpool_unmanaged_journal::{Naming, OwnerReply, OwnerStep};
+
+// Without a history nothing is known of a step that was made.
+impl<T: Drop> KeepsState<T> for Core<T> {
+    ghost use Rattle.std.specs.Prelude.{⊤};
+
+    type Caller = ();
+
+    ghost state_of = { λ core. core };
+
+    ghost is_new = { λ _. ⊤ };
+
+    ghost calls = { λ _ _ _. ⊤ };
+
+    fn admit(&mut self, _caller: &mut ()) -> () {}
+
+    #[inline(always)]
+    fn make(&mut self, _caller: &mut (), step: &Step, hand: &mut Option<T>) -> Reply {
+        Core::make(self, step, hand)
+    }
+
+    #[inline(always)]
+    fn make_for_owner(&mut self, _caller: &mut (), step: &OwnerStep) -> OwnerReply {
+        step.make(self)
+    }
+
+    fn is_closed(&self) -> bool {
+        Core::is_closed(self)
+    }
+
+    fn get_would_queue(&self) -> bool {
+        Core::get_would_queue(self)
+    }
+
+    fn add_would_queue(&self) -> bool {
+        Core::add_would_queue(self)
+    }
+
+    fn next_get(&self) -> usize {
+        Core::next_get(self)
+    }
+
+    fn next_add(&self) -> usize {
+        Core::next_add(self)
+    }
+
+    fn take_get_wake(&mut self) -> Option<Ticket> {
+        Core::take_get_wake(self)
+    }
+
+    fn take_add_wake(&mut self) -> Option<Ticket> {
+        Core::take_add_wake(self)
+    }
+
+    fn is_wake_due(&self) -> bool {
+        Core::is_wake_due(self)
+    }
+}
+
+impl<T: Drop, K: Naming<T>, H: Chronicle> KeepsState<T> for Recorded<T, K, H> {
+    ghost use Rattle.std.specs.Prelude.{◌≡◌, []};
+    ghost use Rattle.deadpool_unmanaged_history.specs.History.{HasCalled};
+
+    type Caller = Caller<Line<T>, H>;
+
+    ghost state_of = { λ recorded. recorded.pool.core };
+
+    ghost is_new = { λ caller. (caller.mine ≡ []) × (caller.admitted ≡ 0) };
+
+    ghost calls = { λ e. HasCalled (λ x. x ≡ e) };
+
+    fn admit(&mut self, caller: &mut Caller<Line<T>, H>) -> Caller<Line<T>, H> {
+        Recorded::admit(self, caller)
+    }
+
+    #[inline(always)]
+    fn make(
+        &mut self,
+        caller: &mut Caller<Line<T>, H>,
+        step: &Step,
+        hand: &mut Option<T>,
+    ) -> Reply {
+        Recorded::make(self, caller, step, hand)
+    }
+
+    #[inline(always)]
+    fn make_for_owner(&mut self, caller: &mut Caller<Line<T>, H>, step: &OwnerStep) -> OwnerReply {
+        Recorded::make_for_owner(self, caller, step)
+    }
+
+    fn is_closed(&self) -> bool {
+        Recorded::is_closed(self)
+    }
+
+    fn get_would_queue(&self) -> bool {
+        Recorded::get_would_queue(self)
+    }
+
+    fn add_would_queue(&self) -> bool {
+        Recorded::add_would_queue(self)
+    }
+
+    fn next_get(&self) -> usize {
+        Recorded::next_get(self)
+    }
+
+    fn next_add(&self) -> usize {
+        Recorded::next_add(self)
+    }
+
+    fn take_get_wake(&mut self) -> Option<Ticket> {
+        Recorded::take_get_wake(self)
+    }
+
+    fn take_add_wake(&mut self) -> Option<Ticket> {
+        Recorded::take_add_wake(self)
+    }
+
+    fn is_wake_due(&self) -> bool {
+        Recorded::is_wake_due(self)
+    }
+}

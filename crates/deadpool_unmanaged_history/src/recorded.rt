@@ -1,0 +1,308 @@
+//! A pool's state, with the history that leads to it.
+ghost use Rattle.std.specs.Prelude.{◌≡◌, ◌+◌, [], ◌∷◌, IfOk, nat_lt, not};
+ghost use Rattle.std.specs.Option.{option_or};
+ghost use mathlib.Core.List.{IsPrefix};
+ghost use Rattle.deadpool_chronicle.specs.History.{Calls, calls_by};
+ghost use Rattle.deadpool_unmanaged.specs.Replies.{Brings, IsReplyTo, Leaves};
+ghost use Rattle.deadpool_unmanaged.specs.State.{add_would_queue, bounded, get_would_queue, has_due, opened};
+ghost use Rattle.deadpool_unmanaged_journal.specs.Copies.{HasSteps};
+ghost use Rattle.deadpool_unmanaged_journal.specs.LogState.{no_entries};
+ghost use Rattle.deadpool_unmanaged_journal.specs.OwnerSteps.{IsOwnerReplyTo};
+ghost use Rattle.deadpool_unmanaged_journal.specs.Steps.{MakesNoted, MakesForOwnerNoted};
+ghost use Rattle.deadpool_unmanaged_journal.specs.Steps.{TellsAddUnnoted, TellsGetUnnoted};
+ghost use Rattle.deadpool_unmanaged_journal.specs.declared.entry.Entry.TheVariants as entry;
+ghost use Rattle.deadpool_unmanaged_history.specs.History.{HasCalled, IsBeginning, IsLegal, IsNext, LeadsTo};
+ghost use Rattle.deadpool_unmanaged_history.specs.History.{object_of};
+ghost use Rattle.deadpool_unmanaged_history.specs.declared.line.Line.TheVariants as line;
+
+use crate::line::Line;
+use deadpool_chronicle::{Author, Beginning, Caller, Chronicle, Says};
+use deadpool_unmanaged::gate::Ticket;
+use deadpool_unmanaged::{Reply, Step};
+use deadpool_unmanaged_journal::{Journal, Journaled, Naming, OwnerReply, OwnerStep};
+use std::alloc::AllocError;
+use std::marker::Model;
+
+// What is at hand of a step of a get, an add or an object once it was made: the pool, the step and the hand.
+#[derive(Drop)]
+struct Left<'a, T, K: Naming<T>> {
+    pool: &'a Journaled<T, K>,
+    step: Step,
+    hand: &'a Option<T>,
+}
+
+// The entry of such a step, with its object.
+struct ToStep;
+
+impl<'a, T, K: Naming<T>> Says<Left<'a, T, K>, Reply, Line<T>> for ToStep {
+    ghost use Rattle.std.specs.Prelude.{◌≡◌};
+    ghost use Rattle.deadpool_unmanaged_history.specs.History.{IsNext, object_of};
+    ghost use Rattle.deadpool_unmanaged_journal.specs.declared.entry.Entry.TheVariants.{Made};
+
+    ghost entry = { λ left reply _ line.
+        IsNext (λ e. e ≡ Made left.step (object_of left.pool.now.core.pool reply left.hand.now) reply) line };
+}
+
+// The entry of a step of the owner.
+struct ToOwnerStep;
+
+impl<T> Says<OwnerStep, OwnerReply, Line<T>> for ToOwnerStep {
+    ghost use Rattle.std.specs.Prelude.{◌≡◌};
+    ghost use Rattle.deadpool_unmanaged_history.specs.History.{IsNext};
+    ghost use Rattle.deadpool_unmanaged_journal.specs.declared.entry.Entry.TheVariants.{Owner};
+
+    ghost entry = { λ step reply _ line. IsNext (λ e. e ≡ Owner step reply) line };
+}
+
+// The first line, of a pool that opens.
+struct ToOpening;
+
+impl<T, K: Naming<T>> Says<Journaled<T, K>, (), Line<T>> for ToOpening {
+    ghost use Rattle.std.specs.Prelude.{◌≡◌};
+    ghost use Rattle.deadpool_unmanaged_history.specs.declared.line.Line.TheVariants.{Opening};
+
+    ghost entry = { λ pool _ _ line. line ≡ Opening pool.limit pool.max_waiting };
+}
+
+/// A pool's state with its journal, and who adds to the history. The history's entries are the pool's steps, from the
+/// state that it opened with to the one that it has.
+#[derive(Drop)]
+pub struct Recorded<T, K: Naming<T>, H: Chronicle> {
+    pool: Journaled<T, K>,
+    author: Author<Line<T>, H>,
+}
+
+impl<T, K: Naming<T>, H: Chronicle> Model for Recorded<T, K, H> {
+    ghost use Rattle.deadpool_unmanaged_history.specs.History.{Recording, LeadsTo};
+
+    ghost Value = { Recording T K.Name };
+
+    ghost view = { λ r. record { pool = r.pool; log = r.author.log } };
+
+    ghost invariant = { λ r. LeadsTo K.name_of r.pool r.author.log };
+}
+
+impl<T: Drop, K: Naming<T>, H: Chronicle> Recorded<T, K, H> {
+    /// A pool that has made no step yet, whose history has how it opened, and this beginning of the history.
+    pub fn new(
+        pool: Journaled<T, K>,
+        mut author: Author<Line<T>, H>,
+        first: &mut Caller<Line<T>, H>,
+    ) -> (Self, Beginning<Line<T>, H>)
+        requires opened { pool.core.pool ≡ bounded pool.max_waiting (opened pool.limit []) }
+        requires empty { author.log ≡ [] }
+        requires unnoted { pool.log ≡ no_entries pool.log.most }
+        ensures pool { result.0.pool ≡ pool }
+        ensures log { result.0.log
+            ≡ (first.old.number, line.Opening pool.limit pool.max_waiting) ∷ [] }
+        ensures beginning { result.1.log ≡ result.0.log }
+    {
+        author.note::<Journaled<T, K>, (), ToOpening>(first, &pool, &());
+        let beginning = author.seen();
+        (Recorded { pool, author }, beginning)
+    }
+
+    /// Makes a step of a get, an add or an object, which is one entry more of its caller's.
+    #[inline(always)]
+    pub fn make(
+        &mut self,
+        caller: &mut Caller<Line<T>, H>,
+        step: &Step,
+        hand: &mut Option<T>,
+    ) -> Reply
+        requires brings { Brings step.now hand.old }
+        ensures made { MakesNoted K.name_of
+            self.old.pool step.now hand.old result hand.new self.new.pool }
+        ensures fits { IsReplyTo step.now result }
+        ensures hand { Leaves result hand.old hand.new }
+        ensures call { Calls
+            (IsNext (λ e. e ≡ entry.Made step.now (option_or hand.old hand.new) result))
+            self.old.log caller.old self.new.log caller.new }
+        ensures seen { IsPrefix caller.old.seen self.old.log }
+        ensures called { HasCalled
+            (λ e. e ≡ entry.Made step.now (option_or hand.old hand.new) result)
+            caller.old caller.new }
+    {
+        let Recorded { pool, author, .. } = self;
+        let reply = pool.make(step, hand);
+        note_step(author, caller, pool, step, hand, &reply);
+        reply
+    }
+
+    /// Makes a step of the pool's owner, which is one entry more of its caller's.
+    #[inline(always)]
+    pub fn make_for_owner(
+        &mut self,
+        caller: &mut Caller<Line<T>, H>,
+        step: &OwnerStep,
+    ) -> OwnerReply
+        ensures made { MakesForOwnerNoted self.old.pool step.now result self.new.pool }
+        ensures fits { IsOwnerReplyTo step.now result }
+        ensures call { Calls (IsNext (λ e. e ≡ entry.Owner step.now result))
+            self.old.log caller.old self.new.log caller.new }
+        ensures seen { IsPrefix caller.old.seen self.old.log }
+        ensures called { HasCalled (λ e. e ≡ entry.Owner step.now result) caller.old caller.new }
+    {
+        let Recorded { pool, author, .. } = self;
+        let reply = pool.make_for_owner(step);
+        author.note::<OwnerStep, OwnerReply, ToOwnerStep>(caller, step, &reply);
+        reply
+    }
+
+    /// Lets a caller in, of which the history has nothing yet. It is no step.
+    pub fn admit(&mut self, caller: &mut Caller<Line<T>, H>) -> Caller<Line<T>, H>
+        ensures same { self.new ≡ self.old }
+        ensures caller { caller.new
+            ≡ record caller.old { admitted = caller.old.admitted + 1 } }
+        ensures mine { result.mine ≡ [] }
+        ensures admitted { result.admitted ≡ 0 }
+        ensures seen { result.seen ≡ self.old.log }
+    {
+        let Recorded { author, .. } = self;
+        author.admit(caller)
+    }
+
+    /// What was seen is a beginning of the history. It is no step.
+    pub fn above(&mut self, seen: &Beginning<Line<T>, H>)
+        ensures same { self.new ≡ self.old }
+        ensures seen { IsPrefix seen.now.log self.old.log }
+    {
+        let Recorded { author, .. } = self;
+        author.above(seen);
+    }
+
+    /// The history leads from the state that the pool opened with to the one that it has, and has of a caller what the
+    /// caller has. It is no step.
+    pub fn audit(&mut self, caller: &mut Caller<Line<T>, H>)
+        ensures same { self.new ≡ self.old }
+        ensures leads { LeadsTo K.name_of self.old.pool self.old.log }
+        ensures legal { IsLegal self.old.log }
+        ensures caller { caller.new ≡ record caller.old { seen = self.old.log } }
+        ensures seen { IsPrefix caller.old.seen self.old.log }
+        ensures mine { calls_by caller.old.number self.old.log ≡ caller.old.mine }
+    {
+        let Recorded { author, .. } = self;
+        author.audit(caller);
+    }
+
+    /// A copy of the journal. It is no step.
+    pub fn journal(&self) -> Result<Journal<K::Name>, AllocError>
+        ensures limit { IfOk result (λ journal. journal.limit ≡ self.now.pool.limit) }
+        ensures max_waiting { IfOk result (λ journal.
+            journal.max_waiting ≡ self.now.pool.max_waiting) }
+        ensures entries { IfOk result (λ journal.
+            journal.entries.items ≡ self.now.pool.log.entries) }
+        ensures full { IfOk result (λ journal. journal.full ≡ self.now.pool.log.is_full) }
+        ensures steps { IfOk result HasSteps }
+    {
+        self.pool.journal()
+    }
+
+    /// A copy of the journal, which is a beginning of the history: its entries are those of the first steps, of all of
+    /// them if it is not full. The caller has then seen all of the history.
+    pub fn journal_by(
+        &mut self,
+        caller: &mut Caller<Line<T>, H>,
+    ) -> Result<Journal<K::Name>, AllocError>
+        ensures same { self.new ≡ self.old }
+        ensures caller { caller.new ≡ record caller.old { seen = self.old.log } }
+        ensures seen { IsPrefix caller.old.seen self.old.log }
+        ensures legal { IsLegal self.old.log }
+        ensures beginning { IfOk result (λ journal. IsBeginning K.name_of journal self.old.log) }
+        ensures steps { IfOk result HasSteps }
+    {
+        self.audit(caller);
+        self.pool.journal()
+    }
+
+    /// Whether the pool was closed. It is no step.
+    pub fn is_closed(&self) -> bool
+        ensures { result ≡ not self.now.pool.core.pool.is_open }
+    {
+        self.pool.is_closed()
+    }
+
+    /// Whether a pool handle is left. It is no step.
+    pub fn has_handle(&self) -> bool
+        ensures { result ≡ nat_lt 0 self.now.pool.core.pool.handles }
+    {
+        self.pool.has_handle()
+    }
+
+    /// Whether a get that enters now and wants to wait joins the queue. It is no step.
+    pub fn get_would_queue(&self) -> bool
+        ensures { result ≡ get_would_queue self.now.pool.core.pool }
+    {
+        self.pool.get_would_queue()
+    }
+
+    /// Whether an add that enters now and wants to wait joins the queue. It is no step.
+    pub fn add_would_queue(&self) -> bool
+        ensures { result ≡ add_would_queue self.now.pool.core.pool }
+    {
+        self.pool.add_would_queue()
+    }
+
+    /// The number of the ticket that the next get in the queue has. It is no step.
+    pub fn next_get(&self) -> usize
+        ensures { result ≡ self.now.pool.core.next_get }
+    {
+        self.pool.next_get()
+    }
+
+    /// The number of the ticket that the next add in the queue has. It is no step.
+    pub fn next_add(&self) -> usize
+        ensures { result ≡ self.now.pool.core.next_add }
+    {
+        self.pool.next_add()
+    }
+
+    /// The next get in the queue that is due to be woken. It is no step, and stands in no history.
+    pub fn take_get_wake(&mut self) -> Option<Ticket>
+        ensures told { TellsGetUnnoted self.old.pool result self.new.pool }
+        ensures log { self.new.log ≡ self.old.log }
+    {
+        let Recorded { pool, .. } = self;
+        pool.take_get_wake()
+    }
+
+    /// The next add in the queue that is due to be woken. It is no step, and stands in no history.
+    pub fn take_add_wake(&mut self) -> Option<Ticket>
+        ensures told { TellsAddUnnoted self.old.pool result self.new.pool }
+        ensures log { self.new.log ≡ self.old.log }
+    {
+        let Recorded { pool, .. } = self;
+        pool.take_add_wake()
+    }
+
+    /// Whether `take_get_wake` or `take_add_wake` would name somebody. It is no step.
+    pub fn is_wake_due(&self) -> bool
+        ensures { result ≡ has_due self.now.pool.core.pool }
+    {
+        self.pool.is_wake_due()
+    }
+}
+
+// A step that was made is one entry more, by what it left.
+#[inline(always)]
+fn note_step<T: Drop, K: Naming<T>, H: Chronicle>(
+    author: &mut Author<Line<T>, H>,
+    caller: &mut Caller<Line<T>, H>,
+    pool: &Journaled<T, K>,
+    step: &Step,
+    hand: &Option<T>,
+    reply: &Reply,
+)
+    ensures call { Calls
+        (IsNext (λ e. e
+        ≡ entry.Made step.now (object_of pool.now.core.pool reply.now hand.now) reply.now))
+        author.old.log caller.old author.new.log caller.new }
+    ensures seen { IsPrefix caller.old.seen author.old.log }
+{
+    let left = Left {
+        pool,
+        step: *step,
+        hand,
+    };
+    author.note::<Left<'_, T, K>, Reply, ToStep>(caller, &left, reply);
+}

@@ -1,0 +1,4 @@
+-- What the proofs of a journal of an unmanaged pool share.
+pub mod ByName
+pub mod Kept
+pub mod Words

@@ -1,0 +1,14 @@
+-- A new pool's journal is empty, and its own.
+use Rattle.std.specs.Prelude.{[]}
+use Rattle.deadpool_unmanaged.specs.State.{opened}
+use Rattle.deadpool_unmanaged_journal.proofs.Words.{refl, arith}
+use Rattle.deadpool_unmanaged_journal.proofs.journaled.Journaled.new.Goals as goal
+
+pub invariant_of-result : goal.invariant_of-result
+invariant_of-result g c =
+    rw (c.in_ok-core.ensures, c.in_ok-log.ensures)
+    (record {
+      steps = (opened c.args.max_size [], refl, λ _. refl);
+      within = omega arith;
+      full = λ is. cc;
+    })

@@ -1,0 +1,21 @@
+-- A pool's state with its journal.
+use Rattle.std.specs.Prelude.{◌≡◌, ℕ, [], Option}
+use Rattle.deadpool_unmanaged.specs.State.{State, CoreState, bounded, opened}
+use Rattle.deadpool_unmanaged_journal.specs.LogState.{LogState, noted}
+use Rattle.deadpool_unmanaged_journal.specs.declared.entry.Entry.{Entry}
+
+pub record Journaling (T O : Type 0) : Type 0 where
+  pub core : CoreState T
+  -- those that it opened with
+  pub limit : ℕ
+  pub max_waiting : Option ℕ
+  pub log : LogState O
+
+module _ {T O : Type 0} where
+  -- the pool that it opened as
+  abbrev pub opening : Journaling T O → State O
+  opening j = bounded j.max_waiting (opened j.limit [])
+
+  -- One entry is noted, and all but the pool's state is as it was.
+  abbrev pub Notes : Entry O → Journaling T O → Journaling T O → Type 0
+  Notes e j j' = j' ≡ record j { core = j'.core; log = noted e j.log }

@@ -1,0 +1,12 @@
+//! What a journal keeps of a step.
+use crate::{OwnerReply, OwnerStep};
+use deadpool_unmanaged::{Reply, Step};
+
+/// A step of a pool with its reply. `O` is what stands for an object. `docs/MODEL.md` has the text of each.
+#[derive(Clone, Copy, Debug, Drop, PartialEq)]
+pub enum Entry<O> {
+    /// A step of a get, an add or an object, the object that it took or gave, and the reply.
+    Made(Step, Option<O>, Reply),
+    /// A step of the pool's owner, and the reply.
+    Owner(OwnerStep, OwnerReply),
+}

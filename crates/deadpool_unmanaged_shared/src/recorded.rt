@@ -1,0 +1,155 @@
+//! A pool with its history.
+ghost use Rattle.std.specs.Prelude.{◌≡◌, [], IfOk};
+ghost use mathlib.Core.List.{IsPrefix};
+ghost use Rattle.deadpool_chronicle.specs.History.{calls_by};
+ghost use Rattle.deadpool_unmanaged_history.specs.History.{IsBeginning, IsLegal};
+ghost use Rattle.deadpool_unmanaged.specs.State.{bounded, opened};
+ghost use Rattle.deadpool_unmanaged_journal.specs.Copies.{HasSteps};
+
+use crate::pool::Pool;
+use crate::shared::Shared;
+use deadpool_chronicle::{Blank, Caller, Chronicle};
+use deadpool_unmanaged::{Clock, PoolConfig};
+use deadpool_unmanaged_history::{Line, Recorded};
+use deadpool_unmanaged_journal::{Journal, Journaled, Naming};
+use std::alloc::{AllocError, Global};
+use std::sync::Wait;
+
+impl<T, C, R, K, H> Shared<T, C, R, Recorded<T, K, H>>
+where
+    T: Drop,
+    C: Clock,
+    R: Wait + Drop,
+    K: Naming<T>,
+    H: Chronicle,
+{
+    /// The history is legal, and has of two callers what they have, which have then seen all of it. It is no step.
+    pub fn audit(&self, one: &mut Caller<Line<T>, H>, two: &mut Caller<Line<T>, H>)
+        ensures one { one.new ≡ record one.old { seen = one.new.seen } }
+        ensures two { two.new ≡ record two.old { seen = one.new.seen } }
+        ensures seen_by_one { IsPrefix one.old.seen one.new.seen }
+        ensures seen_by_two { IsPrefix two.old.seen one.new.seen }
+        ensures legal { IsLegal one.new.seen }
+        ensures calls_of_one { calls_by one.old.number one.new.seen ≡ one.old.mine }
+        ensures calls_of_two { calls_by two.old.number one.new.seen ≡ two.old.mine }
+    {
+        let mut locked = self.lock.look();
+        let recorded = &mut locked.state;
+        recorded.audit(one);
+        recorded.audit(two);
+    }
+
+    /// A copy of the journal. It is no step.
+    pub fn journal(&self) -> Result<Journal<K::Name>, AllocError>
+        ensures { IfOk result HasSteps }
+    {
+        self.lock.look().state.journal()
+    }
+
+    /// The same, which is a beginning of the history. The caller has then seen all of that.
+    pub fn journal_by(
+        &self,
+        caller: &mut Caller<Line<T>, H>,
+    ) -> Result<Journal<K::Name>, AllocError>
+        ensures caller { caller.new ≡ record caller.old { seen = caller.new.seen } }
+        ensures seen { IsPrefix caller.old.seen caller.new.seen }
+        ensures legal { IsLegal caller.new.seen }
+        ensures beginning { IfOk result (λ journal. IsBeginning K.name_of journal caller.new.seen) }
+        ensures steps { IfOk result HasSteps }
+    {
+        self.lock.look().state.journal_by(caller)
+    }
+}
+
+impl<T, C, R, K, H> Pool<T, C, R, Recorded<T, K, H>>
+where
+    T: Drop + Send,
+    C: Clock + Send + Sync,
+    R: Wait + Drop + Send + Sync,
+    K: Naming<T>,
+    H: Chronicle,
+{
+    /// An open pool with nothing in it, whose history this one is, and room for so many entries in its journal.
+    pub fn with_history(
+        alloc: Global,
+        config: &PoolConfig,
+        most_entries: usize,
+        history: Blank,
+        clock: C,
+        rt: R,
+    ) -> Result<Self, AllocError>
+        requires opens { history.names ≡ H.names }
+        ensures timeout { IfOk result (λ pool. pool.timeout ≡ config.now.timeout) }
+        ensures runtime { IfOk result (λ pool. pool.runtime ≡ config.now.runtime) }
+        ensures clock { IfOk result (λ pool. pool.clock ≡ clock) }
+    {
+        let (max_size, max_waiting) = (config.max_size, config.max_waiting);
+        match open_history(alloc, max_size, max_waiting, most_entries, history) {
+            Ok((recorded, first)) => Pool::open(alloc, recorded, first, config, clock, rt),
+            Err(AllocError) => Err(AllocError),
+        }
+    }
+}
+
+impl<T, C, R, K, H> Pool<T, C, R, Recorded<T, K, H>>
+where
+    T: Drop,
+    C: Clock,
+    R: Wait + Drop,
+    K: Naming<T>,
+    H: Chronicle,
+{
+    /// The history is legal, and has of two callers what they have, which have then seen all of it. It is no step.
+    pub fn audit(&self, one: &mut Caller<Line<T>, H>, two: &mut Caller<Line<T>, H>)
+        ensures one { one.new ≡ record one.old { seen = one.new.seen } }
+        ensures two { two.new ≡ record two.old { seen = one.new.seen } }
+        ensures seen_by_one { IsPrefix one.old.seen one.new.seen }
+        ensures seen_by_two { IsPrefix two.old.seen one.new.seen }
+        ensures legal { IsLegal one.new.seen }
+        ensures calls_of_one { calls_by one.old.number one.new.seen ≡ one.old.mine }
+        ensures calls_of_two { calls_by two.old.number one.new.seen ≡ two.old.mine }
+    {
+        self.shared().audit(one, two);
+    }
+
+    /// A copy of the pool's journal: how the pool opened, and its first steps since, each with the reply that it got.
+    /// `AllocError` says that there was no memory for the copy.
+    pub fn journal(&self) -> Result<Journal<K::Name>, AllocError>
+        ensures { IfOk result HasSteps }
+    {
+        self.shared().journal()
+    }
+
+    /// `journal`, which is a beginning of the history: its entries are those of the first steps, of all of them if it
+    /// is not full. The caller has then seen all of the history.
+    pub fn journal_by(
+        &self,
+        caller: &mut Caller<Line<T>, H>,
+    ) -> Result<Journal<K::Name>, AllocError>
+        ensures caller { caller.new ≡ record caller.old { seen = caller.new.seen } }
+        ensures seen { IsPrefix caller.old.seen caller.new.seen }
+        ensures legal { IsLegal caller.new.seen }
+        ensures beginning { IfOk result (λ journal. IsBeginning K.name_of journal caller.new.seen) }
+        ensures steps { IfOk result HasSteps }
+    {
+        self.shared().journal_by(caller)
+    }
+}
+
+// A pool that has made no step yet, over a new history, and its first caller.
+fn open_history<T: Drop, K: Naming<T>, H: Chronicle>(
+    alloc: Global,
+    max_size: usize,
+    max_waiting: Option<usize>,
+    most_entries: usize,
+    history: Blank,
+) -> Result<(Recorded<T, K, H>, Caller<Line<T>, H>), AllocError>
+    requires { history.names ≡ H.names }
+    ensures { IfOk result (λ made. made.0.pool.core.pool
+        ≡ bounded max_waiting (opened max_size [])) }
+{
+    let pool = Journaled::new(alloc, max_size, most_entries)?.bounded(max_waiting);
+    let (author, mut first) = history.open::<Line<T>, H>();
+    let (recorded, _beginning) = Recorded::new(pool, author, &mut first);
+    Ok((recorded, first))
+}

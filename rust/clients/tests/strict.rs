@@ -1,0 +1,91 @@
+//! What texts are read as strictly, and what is told of their faults.
+use deadpool::{Strict, managed, unmanaged};
+use std::fmt::Debug;
+
+/// What was read, or the error.
+fn shown<T: Debug>(read: serde_json::Result<T>) -> String {
+    match read {
+        Ok(config) => format!("{config:?}"),
+        Err(error) => error.to_string(),
+    }
+}
+
+fn managed_shown(text: &str) -> String {
+    shown(serde_json::from_str(text).map(|Strict::<managed::PoolConfig>(config)| config))
+}
+
+fn unmanaged_shown(text: &str) -> String {
+    shown(serde_json::from_str(text).map(|Strict::<unmanaged::PoolConfig>(config)| config))
+}
+
+/// What stands before the arrow of each line is read as what stands behind it.
+fn each_reads(lines: &str, read: fn(&str) -> String) {
+    for line in lines.lines() {
+        let (text, expected) = line.split_once(" => ").expect("an arrow");
+        assert_eq!(read(text), expected, "{line}");
+    }
+}
+
+const OUT_OF_RANGE: &str = "no whole number from 0 to 18446744073709551615";
+
+#[test]
+fn faults_of_a_managed_pool_name_the_key() {
+    let lines = r#"[] => no object
+5 => no object
+{} => max_size: missing
+{"max_siz":1} => max_siz: no key of a pool
+{"max_size":null} => max_size: no number
+{"max_size":1,"min_idel":2} => min_idel: no key of a pool
+{"max_size":null,"min_idel":2} => min_idel: no key of a pool
+{"max_size":1,"max_size":2} => max_size: it stands twice
+{"max_size":1,"timeouts":null} => timeouts: no object
+{"max_size":1,"timeouts":{"wiat":null}} => timeouts.wiat: no key of a pool
+{"timeouts":{"wait":null,"wait":null}} => timeouts.wait: it stands twice
+{"max_size":1,"timeouts":{"wait":5}} => timeouts.wait: no duration
+{"max_size":1,"timeouts":{"wait":null,"create":{"secs":5}}} => timeouts.create: no duration
+{"max_size":1,"timeouts":{"recycle":{"secs":1,"nanos":0,"x":1}}} => timeouts.recycle: no duration
+{"max_size":1,"timeouts":{"recycle":{"secs":18446744073709551615,"nanos":1000000000}}} => timeouts.recycle: no duration
+{"max_size":1,"timeouts":{"recycle":5,"create":5}} => timeouts.create: no duration
+{"max_size":1,"queue_mode":"fifo"} => queue_mode: neither Fifo nor Lifo
+{"max_size":1,"queue_mode":{"Fifo":null}} => queue_mode: neither Fifo nor Lifo
+{"max_size":1,"max_waiting":true} => max_waiting: no number"#;
+    each_reads(lines, managed_shown);
+    for number in ["-1", "1.5", "18446744073709551616"] {
+        let expected = format!("max_size: {OUT_OF_RANGE}");
+        assert_eq!(managed_shown(&format!(r#"{{"max_size":{number}}}"#)), expected);
+        let expected = format!("max_waiting: {OUT_OF_RANGE}");
+        assert_eq!(managed_shown(&format!(r#"{{"max_size":1,"max_waiting":{number}}}"#)), expected);
+    }
+}
+
+#[test]
+fn faults_of_an_unmanaged_pool_name_the_key() {
+    let lines = r#"{"max_size":"1"} => max_size: no number
+{"max_size":1,"timeouts":{}} => timeouts: no key of a pool
+{"max_size":1,"queue_mode":"Fifo"} => queue_mode: no key of a pool
+{"max_size":1,"runtime":null} => runtime: no key of a pool
+{"max_size":1,"timeout":5} => timeout: no duration
+{"max_size":1,"max_waiting":{}} => max_waiting: no number"#;
+    each_reads(lines, unmanaged_shown);
+}
+
+/// What has no fault is read as it is without strictness.
+#[test]
+fn what_is_known_is_read_as_ever() {
+    for text in [
+        r#"{"max_size":3}"#,
+        r#"{"max_size":3,"max_waiting":null}"#,
+        r#"{"max_size":3,"timeouts":{"wait":{"secs":1,"nanos":2},"create":null},"queue_mode":"Lifo","max_waiting":9}"#,
+        r#"{"queue_mode":"Fifo","max_size":0,"timeouts":{"recycle":{"nanos":4294967295,"secs":0}}}"#,
+    ] {
+        assert_eq!(managed_shown(text), shown(serde_json::from_str::<managed::PoolConfig>(text)));
+        assert!(managed_shown(text).starts_with("PoolConfig"), "{text}");
+    }
+    for text in [r#"{"max_size":3}"#, r#"{"max_size":3,"timeout":{"secs":1,"nanos":2},"max_waiting":9}"#] {
+        assert_eq!(unmanaged_shown(text), shown(serde_json::from_str::<unmanaged::PoolConfig>(text)));
+        assert!(unmanaged_shown(text).starts_with("PoolConfig"), "{text}");
+    }
+    let config = managed::PoolConfig::new(4);
+    let written = serde_json::to_string(&config).expect("a text");
+    assert_eq!(managed_shown(&written), format!("{config:?}"));
+}

@@ -1,0 +1,150 @@
+// Made by .ci/made-rust of crates/deadpool_unmanaged_journal/src/journaled.rt, without its contracts. The proof is of that text.
+//! A pool's state, beside the steps that led to it.
+
+use crate::cores::unmanaged::gate::Ticket;
+use crate::cores::unmanaged::{Core, Reply, Step};
+use crate::cores::unmanaged_journal::log::Log;
+use crate::cores::unmanaged_journal::{Entry, Journal, Naming, OwnerReply, OwnerStep};
+use crate::rattle::{AllocError, Global};
+use std::marker::PhantomData;
+
+/// A pool's state with a journal: at most so many entries, one for each step, and a mark that a step found no room.
+/// `K` says what stands for an object in it.
+///
+/// Until the mark is set, the entries, replayed from the state that the pool opened with, are the state, objects by
+/// name. Whom the pool has told is not looked at. Each step is that of `Core` and adds its entry, or sets the mark.
+#[repr(C)]
+pub struct Journaled<T, K: Naming<T>> {
+    pub(crate) core: Core<T>,
+    log: Log<K::Name>,
+    limit: usize,
+    max_waiting: Option<usize>,
+    by: PhantomData<K>,
+}
+
+impl<T, K: Naming<T>> Journaled<T, K> {
+    /// An open pool with nothing idle and one handle, and room for so many entries. With none the journal takes no
+    /// memory, and the first step sets the mark. Any number of gets and adds may wait.
+    #[inline]
+    pub fn new(alloc: Global, max_size: usize, most_entries: usize) -> Result<Self, AllocError> {
+        let core = Core::new(alloc, max_size)?;
+        let log = Log::new(alloc, most_entries)?;
+        Ok(Journaled { core, limit: max_size, max_waiting: None, log, by: PhantomData })
+    }
+
+    /// The pool, before its first step, with a bound on the gets that wait, and on the adds, or with none.
+    #[inline]
+    pub fn bounded(self, max_waiting: Option<usize>) -> Self {
+        Journaled { core: self.core.bounded(max_waiting), max_waiting, ..self }
+    }
+
+    /// Makes one step of a get, an add or an object, as `Core` does, and notes it.
+    #[inline(always)]
+    pub fn make(&mut self, step: &Step, hand: &mut Option<T>) -> Reply {
+        let taken = name_in::<T, K>(hand);
+        let reply = self.core.make(step, hand);
+        let object = taken.or(name_in::<T, K>(hand));
+        self.log.add_step(step, object, &reply);
+        reply
+    }
+
+    /// Makes a step of the pool's owner, and notes it.
+    #[inline]
+    pub fn make_for_owner(&mut self, step: &OwnerStep) -> OwnerReply {
+        let reply = step.make(&mut self.core);
+        self.log.add_owner_step(step, &reply);
+        reply
+    }
+
+    /// A copy of the journal. It is no step.
+    #[inline]
+    pub fn journal(&self) -> Result<Journal<K::Name>, AllocError> {
+        Ok(Journal {
+            limit: self.limit,
+            max_waiting: self.max_waiting,
+            entries: self.log.entries()?,
+            full: self.log.is_full(),
+        })
+    }
+
+    /// The entry at this position of the journal. It is no step.
+    #[inline]
+    pub fn entry(&self, at: usize) -> Option<&Entry<K::Name>> {
+        self.log.entry(at)
+    }
+
+    /// Whether a step has found no room for its entry. It is no step.
+    #[inline]
+    pub fn is_full(&self) -> bool {
+        self.log.is_full()
+    }
+
+    /// What is true of every state with its journal. The call does nothing.
+    #[inline]
+    pub fn laws(&self) {
+        self.core.laws();
+    }
+
+    /// Whether the pool was closed. It is no step.
+    #[inline]
+    pub fn is_closed(&self) -> bool {
+        self.core.is_closed()
+    }
+
+    /// Whether a pool handle is left. It is no step.
+    #[inline]
+    pub fn has_handle(&self) -> bool {
+        self.core.has_handle()
+    }
+
+    /// Whether a get that enters now and wants to wait joins the queue. It is no step.
+    #[inline]
+    pub fn get_would_queue(&self) -> bool {
+        self.core.get_would_queue()
+    }
+
+    /// Whether an add that enters now and wants to wait joins the queue. It is no step.
+    #[inline]
+    pub fn add_would_queue(&self) -> bool {
+        self.core.add_would_queue()
+    }
+
+    /// The number of the ticket that the next get in the queue has. It is no step.
+    #[inline]
+    pub fn next_get(&self) -> usize {
+        self.core.next_get()
+    }
+
+    /// The number of the ticket that the next add in the queue has. It is no step.
+    #[inline]
+    pub fn next_add(&self) -> usize {
+        self.core.next_add()
+    }
+
+    /// The next get in the queue that is due to be woken. It is no step, and nothing is noted.
+    #[inline]
+    pub fn take_get_wake(&mut self) -> Option<Ticket> {
+        self.core.take_get_wake()
+    }
+
+    /// The next add in the queue that is due to be woken. It is no step, and nothing is noted.
+    #[inline]
+    pub fn take_add_wake(&mut self) -> Option<Ticket> {
+        self.core.take_add_wake()
+    }
+
+    /// Whether `take_get_wake` or `take_add_wake` would name somebody. It is no step.
+    #[inline]
+    pub fn is_wake_due(&self) -> bool {
+        self.core.is_wake_due()
+    }
+}
+
+// The name of the object in a hand.
+#[inline(always)]
+fn name_in<T, K: Naming<T>>(hand: &Option<T>) -> Option<K::Name> {
+    match hand {
+        Some(value) => Some(K::name(value)),
+        None => None,
+    }
+}

@@ -1,0 +1,99 @@
+//! Those that wait until a pool has ended or is drained.
+use crate::desk::Desk;
+use crate::errors::OutOfMemory;
+use crate::shared::{Shared, State};
+use crate::timed::Alarm;
+use crate::waiting::Wakers;
+use crate::{Runtime, Status};
+use std::future::{Future, poll_fn};
+use std::sync::{Arc, Weak};
+use std::task::{Context, Poll};
+use std::time::Duration;
+
+/// One that waits for something that comes once, and stays. If it is dropped its waker goes.
+struct Watch<C, D: Desk> {
+    pool: Weak<Shared<C, D>>,
+    wakers: fn(&mut State<D>) -> &mut Wakers,
+    has_come: fn(&Shared<C, D>, &D) -> bool,
+    /// Where its waker is kept, once there is one.
+    place: Option<usize>,
+}
+
+impl<C, D: Desk> Watch<C, D> {
+    /// Whether it has come, or the pool has gone. If not the waker is kept, or called at once if no memory is found for it.
+    fn has_come(&mut self, cx: &Context<'_>) -> bool {
+        let Some(pool) = self.pool.upgrade() else { return true };
+        let mut guard = pool.look();
+        let state = &mut *guard;
+        if (self.has_come)(&pool, &state.desk) {
+            return true;
+        }
+        let wakers = (self.wakers)(state);
+        let place = *self.place.get_or_insert_with(|| wakers.free_place());
+        let kept = wakers.keep(place, cx.waker());
+        // (wakers are dropped and called without the lock)
+        drop(guard);
+        match kept {
+            Ok(replaced) => drop(replaced),
+            Err(OutOfMemory) => {
+                self.place = None;
+                cx.waker().wake_by_ref();
+            }
+        }
+        false
+    }
+}
+
+impl<C, D: Desk> Drop for Watch<C, D> {
+    fn drop(&mut self) {
+        if let (Some(pool), Some(place)) = (self.pool.upgrade(), self.place) {
+            let waker = (self.wakers)(&mut pool.look()).take(place);
+            drop(waker);
+        }
+    }
+}
+
+/// Waits until a pool has closed or has no handle, or so long. Says whether it has ended.
+pub(crate) fn ends_within<C, D: Desk>(pool: &Weak<Shared<C, D>>, mut alarm: Alarm) -> impl Future<Output = bool> {
+    let mut watch = Watch {
+        pool: pool.clone(),
+        wakers: |state| &mut state.keepers,
+        has_come: |pool, _| pool.has_ended(),
+        place: None,
+    };
+    poll_fn(move |cx| {
+        if watch.has_come(cx) {
+            Poll::Ready(true)
+        } else if alarm.is_over(cx) {
+            Poll::Ready(false)
+        } else {
+            Poll::Pending
+        }
+    })
+}
+
+/// Closes a pool, and waits until nothing is left of it, or how it stands once the alarm is over.
+pub(crate) fn drained<C, D: Desk>(
+    pool: &Arc<Shared<C, D>>,
+    mut alarm: Alarm,
+) -> impl Future<Output = Result<(), Status>> {
+    pool.close();
+    let has_come = |_: &Shared<C, D>, desk: &D| desk.is_drained();
+    let mut watch = Watch { pool: Arc::downgrade(pool), wakers: |state| &mut state.drains, has_come, place: None };
+    poll_fn(move |cx| {
+        if watch.has_come(cx) {
+            return Poll::Ready(Ok(()));
+        }
+        if !alarm.is_over(cx) {
+            return Poll::Pending;
+        }
+        let Some(pool) = watch.pool.upgrade() else { return Poll::Ready(Ok(())) };
+        let desk = &mut pool.look().desk;
+        Poll::Ready(if desk.is_drained() { Ok(()) } else { Err(desk.status()) })
+    })
+}
+
+/// An alarm after so long, by the pool's timers, or those of this crate's thread.
+pub(crate) fn alarm_within(most: Duration, runtime: Option<Runtime>) -> Alarm {
+    if most.is_zero() { Alarm::Over } else { Alarm::Set(most, runtime.unwrap_or(Runtime::Thread)) }
+}
