@@ -2,8 +2,11 @@
 //! and lose no place, no object and no get that waits.
 #![tactic(auto)]
 
+pub mod limits;
 pub mod managed;
 pub mod replay;
+pub mod threads;
+pub mod timer;
 pub mod unmanaged;
 
 pub use deadpool_gate::gate;

@@ -6,8 +6,6 @@ use Rattle.deadpool_desk.specs.declared.owner_step.OwnerStep.{OwnerStep}
 use Rattle.deadpool_desk.specs.declared.owner_step.OwnerStep.TheVariants as owner
 use Rattle.deadpool_desk.specs.declared.step.Held.{Held}
 use Rattle.deadpool_desk.specs.declared.step.Held.TheVariants as held
-use Rattle.deadpool_desk.specs.declared.step.Holding.{Holding}
-use Rattle.deadpool_desk.specs.declared.step.Holding.TheVariants as holding
 use Rattle.deadpool_desk.specs.declared.step.Reply.{Reply}
 use Rattle.deadpool_desk.specs.declared.step.Reply.TheVariants.{Object, Create, Going, Exhausted, Closed, Full, Waiting}
 use Rattle.deadpool_desk.specs.declared.step.Reply.TheVariants.{Crowded, OutOfMemory, Expired, Done, Number, Kept}
@@ -89,37 +87,31 @@ module _ {O : Type 0} where
   Leaves Kept was hand = hand ≡ None
   Leaves _ was hand = hand ≡ was
 
--- what is given back
-abbrev pub held_as : Held → Holding
-held_as held.Place = holding.Place
-held_as held.Creation = holding.Creation
-held_as held.Object = holding.Object
-
 -- what a get holds before a step
-abbrev pub needed : Step → Holding
-needed (Enter wait) = holding.Nothing
-needed (Ask ticket expired) = holding.Nothing
-needed (Again allowance) = holding.Place
-needed Discard = holding.Object
-needed Created = holding.Creation
-needed Failed = holding.Creation
-needed Refused = holding.Object
-needed Back = holding.Object
-needed (Withdraw ticket) = holding.Nothing
-needed (Cancel what) = held_as what
-needed Take = holding.Object
+abbrev pub needed : Step → Option Held
+needed (Enter wait) = None
+needed (Ask ticket expired) = None
+needed (Again allowance) = Some held.Place
+needed Discard = Some held.Object
+needed Created = Some held.Creation
+needed Failed = Some held.Creation
+needed Refused = Some held.Object
+needed Back = Some held.Object
+needed (Withdraw ticket) = None
+needed (Cancel what) = Some what
+needed Take = Some held.Object
 
 -- and after it
-abbrev pub held_if_served : Reply → Holding
-held_if_served (Object left) = holding.Object
-held_if_served Create = holding.Creation
-held_if_served Going = holding.Place
-held_if_served _ = holding.Nothing
+abbrev pub held_if_served : Reply → Option Held
+held_if_served (Object left) = Some held.Object
+held_if_served Create = Some held.Creation
+held_if_served Going = Some held.Place
+held_if_served _ = None
 
-abbrev pub left_by : Step → Reply → Holding
+abbrev pub left_by : Step → Reply → Option Held
 left_by (Enter wait) reply = held_if_served reply
 left_by (Ask ticket expired) reply = held_if_served reply
 left_by (Again allowance) reply = held_if_served reply
-left_by Discard Done = holding.Place
-left_by Created (Number number) = holding.Object
-left_by _ _ = holding.Nothing
+left_by Discard Done = Some held.Place
+left_by Created (Number number) = Some held.Object
+left_by _ _ = None

@@ -5,7 +5,7 @@
 ghost use Rattle.std.specs.Prelude.{⊤, Option};
 ghost use Rattle.deadpool_desk.specs.Replies.{Brings, IsReplyTo, Leaves, needed, left_by};
 ghost use Rattle.deadpool_desk.specs.declared.slot.Slot.{Slot};
-ghost use Rattle.deadpool_desk.specs.declared.step.Holding.{Holding};
+ghost use Rattle.deadpool_desk.specs.declared.step.Held.{Held};
 ghost use Rattle.deadpool_desk.specs.declared.step.Reply.{Reply};
 ghost use Rattle.deadpool_desk.specs.declared.step.Step.{Step};
 
@@ -14,7 +14,7 @@ use crate::{Reply, Slot, Step};
 /// The steps of a pool that a get or an object makes. The pool's owner makes those of `OwnerDesk`.
 pub trait Desk<T> {
     // What a get holds at the desk, as far as the desk keeps it. By default it keeps nothing of it.
-    ghost holds: { Self → Holding → Type 0 } = { λ _ _. ⊤ };
+    ghost holds: { Self → Option Held → Type 0 } = { λ _ _. ⊤ };
 
     // It holds of a step with its reply, what was in the hand and what is in it then, and the desks before and after.
     ghost makes: { Self → Step → Option (Slot T) → Reply → Option (Slot T) → Self → Type 0 };

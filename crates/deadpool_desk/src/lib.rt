@@ -28,4 +28,4 @@ pub use owner_step::{OwnerReply, OwnerStep};
 pub use retain::{Removal, Removals, RetainResult, Retainer};
 pub use slot::Slot;
 pub use state::Core;
-pub use step::{Held, Holding, Reply, Step};
+pub use step::{Held, Reply, Step};

@@ -16,7 +16,7 @@ pub use Rattle.deadpool_managed.specs.FirstPoll.{EndsAt, TakesFirst, ChecksAs, C
 pub use Rattle.deadpool_managed.specs.Get.{Made, no_step, making, Makes, IsReport, IsServing, AfterServed, AfterCreated}
 pub use Rattle.deadpool_managed.specs.Get.{AfterCreation, AfterDiscard, AfterPrepared, AfterChecked, AdvancesCreation}
 pub use Rattle.deadpool_managed.specs.Get.{AdvancesFrom, Advanced, Advances, PollsOver, ended_by, CancelsFrom}
-pub use Rattle.deadpool_managed.specs.Held.{held_at}
+pub use Rattle.deadpool_managed.specs.Holds.{held_at}
 pub use Rattle.deadpool_managed.specs.HookLists.{HookLists}
 pub use Rattle.deadpool_managed.specs.Outside.{May, Asking, PollCreation, PollHook, PollRecycling, Question, Answer}
 pub use Rattle.deadpool_managed.specs.Outside.{may, may_hook, BeginCreation, BeginRecycling, CallHook, BeginHook}

@@ -13,7 +13,7 @@ pub mod Stages
 pub mod Calls
 pub mod Prepare
 -- A get: what one advance and one poll make of it, and what it holds.
-pub mod Held
+pub mod Holds
 pub mod Kinds
 pub mod Get
 pub mod Bounds
@@ -21,4 +21,4 @@ pub mod FirstPoll
 pub mod Phases
 pub mod Steps
 -- What contracts of this crate cite of the one below.
-pub use Rattle.deadpool_desk.specs.declared.step.Holding
+pub use Rattle.deadpool_desk.specs.declared.step.Held

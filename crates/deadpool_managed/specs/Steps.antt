@@ -6,7 +6,7 @@ use Rattle.deadpool_parts.specs.declared.config.Timeouts.{Timeouts}
 use Rattle.deadpool_managed.specs.HookLists.{HookLists}
 use Rattle.deadpool_managed.specs.Outside.{May, may}
 use Rattle.deadpool_managed.specs.Get.{Made, Makes, AdvancesFrom, IfReadyObject, PollsOver, CancelsFrom}
-use Rattle.deadpool_managed.specs.Held.{held_after}
+use Rattle.deadpool_managed.specs.Holds.{held_after}
 use Rattle.deadpool_managed.specs.Phases.{IsPlaced, stage_of, turn_of}
 use Rattle.deadpool_managed.specs.Stages.{Stage}
 use Rattle.deadpool_managed.specs.declared.get.Turn.{Turn}
@@ -20,7 +20,7 @@ use Rattle.deadpool_managed.specs.declared.work.Came.TheVariants.{Given}
 use Rattle.deadpool_managed.specs.declared.work.Phase.TheVariants.{Finished}
 use Rattle.deadpool_managed.specs.declared.work.Work.{Work}
 use Rattle.deadpool_desk.specs.declared.desk.Desk.{Ghosts as DeskOf}
-use Rattle.deadpool_desk.specs.declared.step.Holding.{Holding}
+use Rattle.deadpool_desk.specs.declared.step.Held.{Held}
 
 -- what a get is lent for a step: which answers its manager and hooks may give, what may serve its timeouts, its hooks,
 -- what time it is, and its timeouts
@@ -54,7 +54,7 @@ module _ {M A V E C R S : Type 0} where
   turn_at came work = turn_of came work.slot
 
   -- what a get at work holds at its desk after a step
-  abbrev pub held_now : Came E → Work M A V E C R S → Holding
+  abbrev pub held_now : Came E → Work M A V E C R S → Option Held
   held_now came work = held_after (stage_at work) (turn_at came work)
 
 -- What a step leaves that came to this. The object is in its place where the phase has one, and ready where it has to

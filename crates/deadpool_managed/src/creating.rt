@@ -8,7 +8,7 @@ ghost use Rattle.deadpool_desk.specs.Replies.{left_by};
 ghost use Rattle.deadpool_managed.specs.Phases.{IsPlaced, came_by};
 ghost use Rattle.deadpool_managed.specs.Steps.{AdvancesAt, held_now, lent, stage_at, turn_at};
 ghost use Rattle.deadpool_managed.specs.Stages.{Creating};
-ghost use Rattle.deadpool_desk.specs.declared.step.Holding.{Holding};
+ghost use Rattle.deadpool_desk.specs.declared.step.Held.{Held};
 ghost use Rattle.deadpool_desk.specs.declared.step.Step.{Step};
 
 use crate::calls::Position;
@@ -34,7 +34,7 @@ impl<M: Manager, A: AsyncHook<M>> Work<M, A> {
     ) -> Came<M::Error>
         requires finished { self.old.phase ≡ Phase.Finished }
         requires empty { self.old.slot ≡ Option.None }
-        requires holds { D.holds desk.old Holding.Creation }
+        requires holds { D.holds desk.old (Option.Some Held.Creation) }
         ensures advanced { AdvancesAt D.Desk
             (lent M.Manager F.SyncHook A.AsyncHook environment.now now timeouts.now)
             desk.old (Creating Option.None Option.None)
@@ -69,7 +69,7 @@ impl<M: Manager, A: AsyncHook<M>> Work<M, A> {
     ) -> Came<M::Error>
         requires finished { self.old.phase ≡ Phase.Finished }
         requires empty { self.old.slot ≡ Option.None }
-        requires holds { D.holds desk.old Holding.Creation }
+        requires holds { D.holds desk.old (Option.Some Held.Creation) }
         ensures advanced { AdvancesAt D.Desk
             (lent M.Manager F.SyncHook A.AsyncHook environment.now now timeouts.now)
             desk.old (Creating (Option.Some state) deadline)
@@ -96,7 +96,7 @@ impl<M: Manager, A: AsyncHook<M>> Work<M, A> {
         requires finished { self.old.phase ≡ Phase.Finished }
         requires empty { self.old.slot ≡ Option.None }
         requires ready { IfReadyOk answer M.is_ready }
-        requires holds { D.holds desk.old Holding.Creation }
+        requires holds { D.holds desk.old (Option.Some Held.Creation) }
         ensures advanced { (made : Made M.Type) × (Makes D.Desk desk.old made desk.new
             × AfterCreation now deadline (answer, state) made
             (stage_at self.new) (turn_at result self.new)) }

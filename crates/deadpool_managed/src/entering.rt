@@ -4,7 +4,6 @@ ghost use Rattle.deadpool_managed.specs.Get.{AfterServed, IsServing};
 ghost use Rattle.deadpool_desk.specs.Replies.{Leaves as LeavesInHand, held_if_served};
 ghost use Rattle.deadpool_managed.specs.Phases.{IsPlaced};
 ghost use Rattle.deadpool_managed.specs.Steps.{AdvancesAt, held_now, lent, stage_at, turn_at};
-ghost use Rattle.deadpool_desk.specs.declared.step.Holding.{Holding};
 ghost use Rattle.deadpool_managed.specs.Stages.{Unpolled};
 
 use crate::work::{Came, Phase, Work};
@@ -25,7 +24,7 @@ impl<M: Manager, A: AsyncHook<M>> Work<M, A> {
     ) -> Came<M::Error>
         requires unpolled { self.old.phase ≡ Phase.Unpolled }
         requires empty { self.old.slot ≡ Option.None }
-        requires holds { D.holds desk.old Holding.Nothing }
+        requires holds { D.holds desk.old Option.None }
         ensures advanced { AdvancesAt D.Desk
             (lent M.Manager F.SyncHook A.AsyncHook environment.now now timeouts.now)
             desk.old Unpolled desk.new (stage_at self.new) (turn_at result self.new) }

@@ -1,15 +1,14 @@
 //! A get, as a state that its owner polls.
 //!
 //! Each advance makes at most one step at the desk. The get asks the manager and the hooks itself, between the steps.
-ghost use Rattle.std.specs.Prelude.{◌≡◌};
+ghost use Rattle.std.specs.Prelude.{◌≡◌, None};
 ghost use Rattle.futures.specs.Task.{Keeps};
 ghost use Rattle.deadpool_managed.specs.Bounds.{Decreases};
 ghost use Rattle.deadpool_managed.specs.Outside.{may};
 ghost use Rattle.deadpool_managed.specs.Get.{IfReadyObject, deadline_of};
-ghost use Rattle.deadpool_managed.specs.Held.{is_going, held_at, held_after};
+ghost use Rattle.deadpool_managed.specs.Holds.{is_going, held_at, held_after};
 ghost use Rattle.deadpool_managed.specs.Kinds.{kind_of};
 ghost use Rattle.deadpool_managed.specs.Steps.{AdvancesAt, PollsAt, CancelsAt, lent};
-ghost use Rattle.deadpool_desk.specs.declared.step.Holding.{Holding};
 ghost use Rattle.deadpool_managed.specs.Stages.{Unpolled};
 
 use crate::progress::Progress;
@@ -136,7 +135,7 @@ impl<M: Manager, A: AsyncHook<M>> GetState<M, A> {
         ensures cancelled { CancelsAt D.Desk
             (may M.Manager F.SyncHook A.AsyncHook environment.now.manager)
             desk.old self.stage desk.new }
-        ensures holds { D.holds desk.new Holding.Nothing }
+        ensures holds { D.holds desk.new None }
     {
         let GetState {
             timeouts: _,

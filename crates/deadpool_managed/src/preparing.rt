@@ -5,7 +5,7 @@ ghost use Rattle.deadpool_managed.specs.Outside.{may};
 ghost use Rattle.deadpool_managed.specs.Phases.{IsPlaced, DiscardsIn, RefusesIn, stage_of};
 ghost use Rattle.deadpool_managed.specs.Steps.{AdvancesAt, Leaves, held_now, lent, stage_at, turn_at};
 ghost use Rattle.deadpool_managed.specs.Get.{Makes, making};
-ghost use Rattle.deadpool_desk.specs.declared.step.Holding.{Holding};
+ghost use Rattle.deadpool_desk.specs.declared.step.Held.{Held};
 ghost use Rattle.deadpool_desk.specs.declared.step.Reply.{Reply};
 ghost use Rattle.deadpool_desk.specs.declared.step.Step.{Step};
 
@@ -32,7 +32,7 @@ impl<M: Manager, A: AsyncHook<M>> Work<M, A> {
     ) -> Came<M::Error>
         requires placed { IsPlaced {C = M.Creating} {R = M.Recycling} {S = A.State} M.is_ready
             (Phase.Served left) self.old.slot }
-        requires holds { D.holds desk.old Holding.Object }
+        requires holds { D.holds desk.old (Option.Some Held.Object) }
         ensures advanced { AdvancesAt D.Desk
             (lent M.Manager F.SyncHook A.AsyncHook environment.now now timeouts.now)
             desk.old (stage_of (Phase.Served left) self.old.slot)
@@ -65,7 +65,7 @@ impl<M: Manager, A: AsyncHook<M>> Work<M, A> {
         requires finished { self.old.phase ≡ Phase.Finished }
         requires placed { IsPlaced {C = M.Creating} M.is_ready
             (Phase.Recycling preparing) self.old.slot }
-        requires holds { D.holds desk.old Holding.Object }
+        requires holds { D.holds desk.old (Option.Some Held.Object) }
         ensures advanced { AdvancesAt D.Desk
             (lent M.Manager F.SyncHook A.AsyncHook environment.now now timeouts.now)
             desk.old (stage_of (Phase.Recycling preparing) self.old.slot)
@@ -99,7 +99,7 @@ impl<M: Manager, A: AsyncHook<M>> Work<M, A> {
         environment: &Environment<M, F, A>,
     ) -> Came<M::Error>
         requires finished { self.old.phase ≡ Phase.Finished }
-        requires holds { D.holds desk.old Holding.Object }
+        requires holds { D.holds desk.old (Option.Some Held.Object) }
         ensures advanced { (reply : Reply)
             × (Makes D.Desk desk.old (making Step.Discard reply Option.None) desk.new
             × DiscardsIn (may M.Manager F.SyncHook A.AsyncHook environment.now.manager)
@@ -135,7 +135,7 @@ impl<M: Manager, A: AsyncHook<M>> Work<M, A> {
         requires finished { self.old.phase ≡ Phase.Finished }
         requires placed { IsPlaced {C = M.Creating} {R = M.Recycling} M.is_ready
             (Phase.Checking position) self.old.slot }
-        requires holds { D.holds desk.old Holding.Object }
+        requires holds { D.holds desk.old (Option.Some Held.Object) }
         ensures advanced { AdvancesAt D.Desk
             (lent M.Manager F.SyncHook A.AsyncHook environment.now now timeouts.now)
             desk.old (stage_of (Phase.Checking position) self.old.slot)
@@ -162,7 +162,7 @@ impl<M: Manager, A: AsyncHook<M>> Work<M, A> {
         environment: &Environment<M, F, A>,
     ) -> Came<M::Error>
         requires finished { self.old.phase ≡ Phase.Finished }
-        requires holds { D.holds desk.old Holding.Object }
+        requires holds { D.holds desk.old (Option.Some Held.Object) }
         ensures advanced { (reply : Reply)
             × (Makes D.Desk desk.old (making Step.Refused reply Option.None) desk.new
             × RefusesIn (may M.Manager F.SyncHook A.AsyncHook environment.now.manager)

@@ -4,9 +4,8 @@ ghost use Rattle.futures.specs.Task.{Keeps};
 ghost use Rattle.deadpool_managed.specs.Bounds.{Decreases};
 ghost use Rattle.deadpool_managed.specs.Outside.{may};
 ghost use Rattle.deadpool_managed.specs.Get.{IfReadyObject, deadline_of};
-ghost use Rattle.deadpool_managed.specs.Held.{is_going, held_at, held_after};
+ghost use Rattle.deadpool_managed.specs.Holds.{is_going, held_at, held_after};
 ghost use Rattle.deadpool_managed.specs.Kinds.{kind_of};
-ghost use Rattle.deadpool_desk.specs.declared.step.Holding.{Holding};
 ghost use Rattle.deadpool_managed.specs.Phases.{stage_of, turn_of};
 ghost use Rattle.deadpool_managed.specs.Steps.{AdvancesAt, PollsAt, CancelsAt, lent};
 
@@ -156,7 +155,7 @@ impl<M: Manager, A: AsyncHook<M>> Progress<M, A> {
         ensures cancelled { CancelsAt D.Desk
             (may M.Manager F.SyncHook A.AsyncHook environment.now.manager)
             desk.old (stage_of self.old.phase self.old.slot) desk.new }
-        ensures holds { D.holds desk.new Holding.Nothing }
+        ensures holds { D.holds desk.new None }
         ensures finished { self.new.phase ≡ Phase.Finished }
     {
         self.work.cancel(desk, environment);

@@ -1,15 +1,14 @@
 //! A get at work: its phase, and the object that it prepares.
 //!
 //! The object stays in one place until it is given out. What is rare stands in functions of its own.
-ghost use Rattle.std.specs.Prelude.{◌≡◌, true, false, None};
+ghost use Rattle.std.specs.Prelude.{◌≡◌, true, false, Some, None};
 ghost use Rattle.futures.specs.Task.{Keeps};
 ghost use Rattle.deadpool_managed.specs.Bounds.{lacks_allowance, Decreases};
 ghost use Rattle.deadpool_managed.specs.Outside.{may};
-ghost use Rattle.deadpool_managed.specs.Held.{is_going, held_at};
+ghost use Rattle.deadpool_managed.specs.Holds.{is_going, held_at};
 ghost use Rattle.deadpool_managed.specs.Kinds.{kind_of};
 ghost use Rattle.deadpool_managed.specs.Get.{Makes, deadline_of, making};
 ghost use Rattle.deadpool_desk.specs.declared.step.Held.{Held};
-ghost use Rattle.deadpool_desk.specs.declared.step.Holding.{Holding};
 ghost use Rattle.deadpool_desk.specs.declared.step.Reply.{Reply};
 ghost use Rattle.deadpool_desk.specs.declared.step.Step.{Step};
 ghost use Rattle.deadpool_managed.specs.Phases.{IsPlaced, IsPending, GivesUpIn, turn_of};
@@ -304,7 +303,7 @@ impl<M: Manager, A: AsyncHook<M>> Work<M, A> {
         ensures cancelled { CancelsAt D.Desk
             (may M.Manager F.SyncHook A.AsyncHook environment.now.manager)
             desk.old (stage_at self.old) desk.new }
-        ensures holds { D.holds desk.new Holding.Nothing }
+        ensures holds { D.holds desk.new None }
         ensures finished { self.new.phase ≡ Phase.Finished }
     {
         match mem::replace(&mut self.phase, Phase::Finished) {
@@ -361,11 +360,11 @@ fn give_up<M: Manager, F: SyncHook<M>, A: AsyncHook<M>, D: Desk<Kept<M::Type>>>(
     desk: &mut D,
     environment: &Environment<M, F, A>,
 )
-    requires { D.holds desk.old Holding.Object }
+    requires { D.holds desk.old (Some Held.Object) }
     ensures given_up { (reply : Reply)
         × (Makes D.Desk desk.old (making (Step.Cancel Held.Object) reply None) desk.new
         × GivesUpIn (may M.Manager F.SyncHook A.AsyncHook environment.now.manager) held reply) }
-    ensures holds { D.holds desk.new Holding.Nothing }
+    ensures holds { D.holds desk.new None }
 {
     if report(desk, &Step::Cancel(Held::Object)) == Reply::Done {
         if let Some(mut slot) = held {

@@ -1,4 +1,4 @@
--- The lemmas on a trial: each move of a get, an object or the owner is one of the list machine, and its laws stay.
+-- The lemmas on a trial, of an unmanaged pool in `OfUnmanaged`: each move is one of the list machine, its laws stay.
 pub mod Advances
 pub mod AllMoves
 pub mod Basics
@@ -26,3 +26,4 @@ pub mod TrialRetains
 pub mod TrialSteps
 pub mod Well
 pub mod Words
+pub mod OfUnmanaged

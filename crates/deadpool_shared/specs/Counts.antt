@@ -3,8 +3,8 @@ use Rattle.std.specs.Prelude.{◌≡◌, ℕ, ◌+◌, ◌-◌, ◌≤◌, ⊤, 
 use Rattle.deadpool_chronicle.specs.History.{Knowing}
 use Rattle.deadpool_history.specs.declared.line.Line.{Line}
 use Rattle.deadpool_journal.specs.Journaling.{Journaling}
-use Rattle.deadpool_desk.specs.declared.step.Holding.{Holding}
-use Rattle.deadpool_desk.specs.declared.step.Holding.TheVariants as holding
+use Rattle.deadpool_desk.specs.declared.step.Held.{Held}
+use Rattle.deadpool_desk.specs.declared.step.Held.TheVariants as held
 use Rattle.deadpool_desk.specs.declared.step.Reply.{Reply}
 use Rattle.deadpool_desk.specs.declared.step.Reply.TheVariants.{Unknown}
 use Rattle.deadpool_desk.specs.declared.step.Step.{Step}
@@ -25,11 +25,11 @@ pub record BooksState : Type 0 where
   pub left : ℕ
 
 -- what a holder has
-abbrev pub counts_of : Holding → Counts
-counts_of holding.Nothing = counts 0 0 0
-counts_of holding.Place = counts 1 0 0
-counts_of holding.Creation = counts 0 1 0
-counts_of holding.Object = counts 0 0 1
+abbrev pub counts_of : Option Held → Counts
+counts_of None = counts 0 0 0
+counts_of (Some held.Place) = counts 1 0 0
+counts_of (Some held.Creation) = counts 0 1 0
+counts_of (Some held.Object) = counts 0 0 1
 
 -- a holder of shares: what it has, and what it knows of the history as a caller
 pub record Holder : Type 0 where
@@ -52,10 +52,10 @@ IsNewCaller c = (c.mine ≡ []) × (c.admitted ≡ 0)
 
 -- a holder that has made no step yet and has nothing
 abbrev pub IsNewHolder : Holder → Type 0
-IsNewHolder h = (h.has ≡ counts_of holding.Nothing) × IsNewCaller h.caller
+IsNewHolder h = (h.has ≡ counts_of None) × IsNewCaller h.caller
 
 -- the counts of all holders after one of them has something else
-abbrev pub shifted : Holding → Holding → Counts → Counts
+abbrev pub shifted : Option Held → Option Held → Counts → Counts
 shifted old new c =
     counts (c.going - (counts_of old).going + (counts_of new).going)
     (c.creations - (counts_of old).creations + (counts_of new).creations)

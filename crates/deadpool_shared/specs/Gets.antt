@@ -8,11 +8,10 @@ use Rattle.deadpool_parts.specs.declared.moment.Moment.{Moment}
 use Rattle.deadpool_desk.specs.declared.desk.Desk.{Ghosts as DeskOf}
 use Rattle.deadpool_desk.specs.declared.slot.Slot.{Slot}
 use Rattle.deadpool_journal.specs.ByNumber.{number_in}
-use Rattle.deadpool_desk.specs.declared.step.Holding.{Holding}
-use Rattle.deadpool_desk.specs.declared.step.Holding.TheVariants.{Nothing}
+use Rattle.deadpool_desk.specs.declared.step.Held.{Held}
 use Rattle.deadpool_lock.specs.declared.request.Stage.{Stage as Future}
 use Rattle.deadpool_lock.specs.declared.request.Stage.TheVariants.{Asking}
-use Rattle.deadpool_managed.specs.Held.{held_at}
+use Rattle.deadpool_managed.specs.Holds.{held_at}
 use Rattle.deadpool_managed.specs.Phases.{Working, stage_of}
 use Rattle.deadpool_managed.specs.Stages.{Stage}
 use Rattle.deadpool_managed.specs.Steps.{Lent, PollsAt}
@@ -38,9 +37,9 @@ module _ {D V C R S : Type 0} where
   stage_in get = stage_of get.progress.phase get.progress.slot
 
 -- what a get holds at a stage, while its future asks
-abbrev pub held_while : {K V C R S : Type 0} → Future K → Stage V C R S → Holding
+abbrev pub held_while : {K V C R S : Type 0} → Future K → Stage V C R S → Option Held
 held_while (Asking kept) stage = held_at stage
-held_while _ stage = Nothing
+held_while _ stage = None
 
 module _ {O W E : Type 0} where
   -- What is given comes from an object that is ready. The relation says what comes from which object, the test which
@@ -51,7 +50,7 @@ module _ {O W E : Type 0} where
 -- the seat of a holder, as a desk: each step is one call of its caller's
 abbrev pub seat_desk : {T : Type 0} → DeskOf (Option Holder) T
 seat_desk = record {
-  holds = λ seat holding. had seat ≡ counts_of holding;
+  holds = λ seat held. had seat ≡ counts_of held;
   makes = λ s step was reply hand s'.
       IsKnown step reply × CallsFromSeat step (number_in (option_or was hand)) reply s s';
 }

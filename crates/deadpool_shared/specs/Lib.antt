@@ -18,4 +18,4 @@ pub mod Draining
 pub mod Gets
 -- What contracts of this crate cite of those below.
 pub use Rattle.deadpool_managed.specs.HookLists
-pub use Rattle.deadpool_desk.specs.declared.step.Holding
+pub use Rattle.deadpool_desk.specs.declared.step.Held

@@ -95,24 +95,24 @@ impl<T: Drop, L: Ledgers> Locked<T, L> {
         books.hand_out(caller)
     }
 
-    /// The history begins with how the pool opened, and has of a caller what the caller has, which has then seen all of
-    /// it. It is no step.
+    /// The history begins with what was seen earlier, and has of a caller what the caller has, which has then seen all
+    /// of it. It is no step.
     pub fn audit(
         &mut self,
         caller: &mut Caller<Line, History<L>>,
-        opening: &Beginning<Line, History<L>>,
+        earlier: &Beginning<Line, History<L>>,
     )
         ensures recorded { self.new.recorded ≡ self.old.recorded }
         ensures wakers { self.new.wakers ≡ self.old.wakers }
         ensures caller { caller.new
             ≡ record caller.old { seen = self.old.recorded.log } }
         ensures seen { IsPrefix caller.old.seen caller.new.seen }
-        ensures opened { IsPrefix opening.now.log caller.new.seen }
+        ensures earlier { IsPrefix earlier.now.log caller.new.seen }
         ensures legal { IsLegal caller.new.seen }
         ensures mine { calls_by caller.old.number caller.new.seen ≡ caller.old.mine }
     {
         let Locked { recorded, .. } = self;
-        recorded.above(opening);
+        recorded.above(earlier);
         recorded.audit(caller);
     }
 

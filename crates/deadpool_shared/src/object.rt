@@ -2,7 +2,7 @@
 ghost use Rattle.std.specs.Prelude.{◌≡◌, Some, None, IfOk, IfSome};
 ghost use Rattle.deadpool_managed.specs.Answers.{LeavesOrKeeps};
 ghost use Rattle.deadpool_managed.specs.Prepare.{with_value};
-ghost use Rattle.deadpool_desk.specs.declared.step.Holding.{Holding};
+ghost use Rattle.deadpool_desk.specs.declared.step.Held.{Held};
 ghost use Rattle.deadpool_desk.specs.declared.step.Reply.{Reply};
 ghost use Rattle.deadpool_desk.specs.declared.step.Step.TheVariants as step;
 ghost use Rattle.deadpool_history.specs.History.{HasCalled};
@@ -35,7 +35,7 @@ pub(crate) struct Checkout<
 > {
     pub(crate) home: Home<Shared<M, F, A, C, R, L>>,
     pub(crate) shares: Shares<L>,
-    ghost is_out: { shares.has ≡ counts_of Holding.Object },
+    ghost is_out: { shares.has ≡ counts_of (Some Held.Object) },
 }
 
 impl<M: Manager, F: SyncHook<M>, A: AsyncHook<M>, C: Clock, R: Wait + Drop, L: Ledgers> Checkout<
@@ -47,7 +47,7 @@ impl<M: Manager, F: SyncHook<M>, A: AsyncHook<M>, C: Clock, R: Wait + Drop, L: L
     L,
 > {
     pub(crate) fn new(home: Home<Shared<M, F, A, C, R, L>>, shares: Shares<L>) -> Self
-        requires { shares.has ≡ counts_of Holding.Object }
+        requires { shares.has ≡ counts_of (Some Held.Object) }
         ensures home { result.home ≡ home }
         ensures shares { result.shares ≡ shares }
     {

@@ -21,7 +21,7 @@ use crate::object::Object;
 use crate::shared::Shared;
 use crate::timeouts::{LentTimeouts, OwnTimeouts};
 use deadpool_builder::PoolBuilder;
-use deadpool_chronicle::Caller;
+use deadpool_chronicle::{Beginning, Caller};
 use deadpool_history::Line;
 use deadpool_journal::{Journal, Tally};
 use deadpool_lock::{Borrowed, Handle, Home, Owned};
@@ -234,11 +234,28 @@ impl<M: Manager, F: SyncHook<M>, A: AsyncHook<M>, C: Clock, R: Wait + Drop, L: L
         self.handle.shared().retain_by(caller, &mut retainer)
     }
 
-    /// A caller that the history has nothing of yet, for calls of its own. It takes no bytes.
+    /// A caller that the history has nothing of yet, for calls of its own. It has seen how the pool opened. It takes no
+    /// bytes.
     pub fn caller(&self) -> Caller<Line, History<L>>
-        ensures { IsNewCaller result }
+        ensures new { IsNewCaller result }
+        ensures opened { IsPrefix self.now.opening.log result.seen }
     {
         self.handle.shared().caller()
+    }
+
+    /// From now on the caller has seen what somebody had seen earlier, so its next call stands in the history after
+    /// all that stands there. A caller's `seen` gives what it has seen so far. It is no step.
+    pub fn after(
+        &self,
+        caller: &mut Caller<Line, History<L>>,
+        earlier: &Beginning<Line, History<L>>,
+    )
+        ensures caller { caller.new ≡ record caller.old { seen = caller.new.seen } }
+        ensures seen { IsPrefix caller.old.seen caller.new.seen }
+        ensures earlier { IsPrefix earlier.now.log caller.new.seen }
+        ensures legal { IsLegal caller.new.seen }
+    {
+        self.handle.shared().after(caller, earlier);
     }
 
     /// The history is legal, begins with how the pool opened, and has of two callers what they have, which have then

@@ -1,7 +1,6 @@
 //! The lock of a pool, with what one holder has.
-ghost use Rattle.std.specs.Prelude.{◌≡◌};
+ghost use Rattle.std.specs.Prelude.{◌≡◌, None};
 ghost use Rattle.std.specs.Option.{option_or};
-ghost use Rattle.deadpool_desk.specs.declared.step.Holding.{Holding};
 ghost use Rattle.deadpool_journal.specs.ByNumber.{number_in};
 ghost use Rattle.deadpool_shared.specs.Calling.{CallsFromSeat, IsSupplied};
 ghost use Rattle.deadpool_shared.specs.Counts.{IsKnown, caller_of, counts_of, had};
@@ -103,7 +102,7 @@ impl<'a, M: Manager, F: SyncHook<M>, A: AsyncHook<M>, C: Clock, R: Wait + Drop, 
 
     // Uses up a seat whose holder has given back what it had, and gives its caller back.
     pub(crate) fn leave(self) -> Option<Caller<Line, History<L>>>
-        requires nothing { had self ≡ counts_of Holding.Nothing }
+        requires nothing { had self ≡ counts_of None }
         ensures { result ≡ caller_of self.entry }
     {
         Shares::hand_in(self.into_shares())

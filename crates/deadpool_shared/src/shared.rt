@@ -53,11 +53,29 @@ impl<M: Manager, F: SyncHook<M>, A: AsyncHook<M>, C: Clock, R: Wait + Drop, L: L
     R,
     L,
 > {
-    /// A caller that has made no step yet. It is no step.
+    /// A caller that has made no step yet, and has seen how the pool opened. It is no step.
     pub fn caller(&self) -> Caller<Line, History<L>>
-        ensures { IsNewCaller result }
+        ensures new { IsNewCaller result }
+        ensures opened { IsPrefix self.now.opening.log result.seen }
     {
-        self.lock.look().admit()
+        let mut locked = self.lock.look();
+        let mut caller = locked.admit();
+        locked.audit(&mut caller, &self.opening);
+        caller
+    }
+
+    /// What was seen earlier is a beginning of what the caller has seen then. It is no step.
+    pub fn after(
+        &self,
+        caller: &mut Caller<Line, History<L>>,
+        earlier: &Beginning<Line, History<L>>,
+    )
+        ensures caller { caller.new ≡ record caller.old { seen = caller.new.seen } }
+        ensures seen { IsPrefix caller.old.seen caller.new.seen }
+        ensures earlier { IsPrefix earlier.now.log caller.new.seen }
+        ensures legal { IsLegal caller.new.seen }
+    {
+        self.lock.look().audit(caller, earlier);
     }
 
     /// The history is legal, begins with how the pool opened, and has of two callers what they have, which have then

@@ -1,12 +1,11 @@
 //! What is known of the three counts of a pool: three ledgers.
-ghost use Rattle.std.specs.Prelude.{◌≡◌, ◌≤◌, ◌<◌, ◌-◌, ◌^◌, is_some, nat_lt, IfSome};
+ghost use Rattle.std.specs.Prelude.{◌≡◌, ◌≤◌, ◌<◌, ◌-◌, ◌^◌, is_some, nat_lt, IfSome, None};
 ghost use Rattle.deadpool_shared.specs.Counts.{caller_of, counts, counts_of, had, shifted};
-ghost use Rattle.deadpool_desk.specs.declared.step.Holding.{Holding};
 
 use crate::ledgers::{Creations, Going, History, Ledgers, Outside};
 use deadpool_chronicle::Caller;
 use deadpool_history::Line;
-use deadpool_managed::Holding;
+use deadpool_managed::Held;
 use std::marker::Model;
 use std::mem;
 use std::sync::ledger::{Blank, Book, Share};
@@ -39,7 +38,7 @@ impl<L: Ledgers> Shares<L> {
     /// Uses up the shares of a holder that has nothing, if it was handed out some, and gives its caller back.
     #[inline(always)]
     pub fn hand_in(shares: Option<Self>) -> Option<Caller<Line, History<L>>>
-        requires nothing { had shares ≡ counts_of Holding.Nothing }
+        requires nothing { had shares ≡ counts_of None }
         ensures { result ≡ caller_of shares }
     {
         match shares {
@@ -58,7 +57,7 @@ impl<L: Ledgers> Shares<L> {
     /// Puts what a holder has in its place, where nothing is.
     #[inline(always)]
     pub fn put(place: &mut Option<Self>, shares: Option<Self>)
-        requires nothing { had place.old ≡ counts_of Holding.Nothing }
+        requires nothing { had place.old ≡ counts_of None }
         ensures { place.new ≡ shares }
     {
         Shares::hand_in(mem::replace(place, shares));
@@ -91,14 +90,14 @@ impl<L: Ledgers> Model for Books<L> {
 }
 
 // How many places, creations and objects a holder has.
-fn amounts(holding: Holding) -> (u64, u64, u64)
-    ensures { counts result.0 result.1 result.2 ≡ counts_of holding }
+fn amounts(held: Option<Held>) -> (u64, u64, u64)
+    ensures { counts result.0 result.1 result.2 ≡ counts_of held }
 {
-    match holding {
-        Holding::Nothing => (0, 0, 0),
-        Holding::Place => (1, 0, 0),
-        Holding::Creation => (0, 1, 0),
-        Holding::Object => (0, 0, 1),
+    match held {
+        None => (0, 0, 0),
+        Some(Held::Place) => (1, 0, 0),
+        Some(Held::Creation) => (0, 1, 0),
+        Some(Held::Object) => (0, 0, 1),
     }
 }
 
@@ -129,7 +128,7 @@ impl<L: Ledgers> Books<L> {
     /// Shares for one holder that has nothing yet and calls by this name, if a part of each ledger is left.
     pub fn hand_out(&mut self, caller: Caller<Line, History<L>>) -> Option<Shares<L>>
         ensures shares { IfSome result (λ shares.
-            shares ≡ record { has = counts_of Holding.Nothing; caller = caller }) }
+            shares ≡ record { has = counts_of None; caller = caller }) }
         ensures given { is_some result ≡ nat_lt 0 self.old.left }
         ensures left { self.new ≡ record self.old { left = self.old.left - 1 } }
     {
@@ -162,7 +161,7 @@ impl<L: Ledgers> Books<L> {
     }
 
     /// A holder has something else from now on.
-    pub fn shift(&mut self, shares: &mut Shares<L>, old: Holding, new: Holding)
+    pub fn shift(&mut self, shares: &mut Shares<L>, old: Option<Held>, new: Option<Held>)
         requires { shares.old.has ≡ counts_of old }
         ensures totals { self.new ≡ record self.old { totals = shifted old new self.old.totals } }
         ensures shares { shares.new ≡ record shares.old { has = counts_of new } }

@@ -4,7 +4,7 @@ ghost use Rattle.deadpool_desk.specs.Replies.{IsReplyTo, left_by, needed};
 ghost use Rattle.deadpool_shared.specs.Locked.{may_wait, ticket_after, ticket_of};
 
 use deadpool_managed::gate::Ticket;
-use deadpool_managed::{Held, Holding, Reply, Step};
+use deadpool_managed::{Held, Reply, Step};
 
 // Whether it is a new get that may wait.
 pub fn may_wait(step: &Step) -> bool
@@ -38,32 +38,32 @@ pub fn ticket_after(reply: &Reply) -> Option<Ticket>
 }
 
 // What its holder has before.
-pub fn needed(step: &Step) -> Holding
+pub fn needed(step: &Step) -> Option<Held>
     ensures { result ≡ needed step.now }
 {
     match step {
-        Step::Enter { .. } | Step::Ask { .. } | Step::Withdraw { .. } => Holding::Nothing,
-        Step::Again { .. } | Step::Cancel(Held::Place) => Holding::Place,
-        Step::Created | Step::Failed | Step::Cancel(Held::Creation) => Holding::Creation,
+        Step::Enter { .. } | Step::Ask { .. } | Step::Withdraw { .. } => None,
+        Step::Again { .. } | Step::Cancel(Held::Place) => Some(Held::Place),
+        Step::Created | Step::Failed | Step::Cancel(Held::Creation) => Some(Held::Creation),
         Step::Discard | Step::Refused | Step::Back | Step::Take | Step::Cancel(Held::Object) => {
-            Holding::Object
+            Some(Held::Object)
         }
     }
 }
 
 // And after this reply.
-pub fn left_by(step: &Step, reply: &Reply) -> Holding
+pub fn left_by(step: &Step, reply: &Reply) -> Option<Held>
     requires { IsReplyTo step.now reply.now }
     ensures { result ≡ left_by step.now reply.now }
 {
     match reply {
-        Reply::Object { .. } | Reply::Number(_) => Holding::Object,
-        Reply::Create => Holding::Creation,
-        Reply::Going => Holding::Place,
+        Reply::Object { .. } | Reply::Number(_) => Some(Held::Object),
+        Reply::Create => Some(Held::Creation),
+        Reply::Going => Some(Held::Place),
         Reply::Done => match step {
-            Step::Discard => Holding::Place,
-            _ => Holding::Nothing,
+            Step::Discard => Some(Held::Place),
+            _ => None,
         },
-        _ => Holding::Nothing,
+        _ => None,
     }
 }

@@ -26,6 +26,10 @@ module _ {T : Type 0} where
   IsHistoryOf limit max_waiting steps log =
       (by : ℕ) × (log ≡ (by, Opening limit max_waiting) ∷ lines_of steps)
 
+  -- a history with nothing but how the pool opened
+  abbrev pub OpensWith : ℕ → Option ℕ → List (ℕ × Line T) → Type 0
+  OpensWith limit max_waiting log = IsHistoryOf limit max_waiting [] log
+
   -- Each step is one of the pool, from what the earlier ones left, with the reply that it has there.
   abbrev pub IsLegal : List (ℕ × Line T) → Type 0
   IsLegal log =

@@ -2,13 +2,13 @@
 ghost use Rattle.std.specs.Prelude.{◌≡◌, [], IfOk};
 ghost use mathlib.Core.List.{IsPrefix};
 ghost use Rattle.deadpool_chronicle.specs.History.{calls_by};
-ghost use Rattle.deadpool_unmanaged_history.specs.History.{IsBeginning, IsLegal};
+ghost use Rattle.deadpool_unmanaged_history.specs.History.{IsBeginning, IsLegal, OpensWith};
 ghost use Rattle.deadpool_unmanaged.specs.State.{bounded, opened};
 ghost use Rattle.deadpool_unmanaged_journal.specs.Copies.{HasSteps};
 
 use crate::pool::Pool;
 use crate::shared::Shared;
-use deadpool_chronicle::{Blank, Caller, Chronicle};
+use deadpool_chronicle::{Beginning, Blank, Caller, Chronicle};
 use deadpool_unmanaged::{Clock, PoolConfig};
 use deadpool_unmanaged_history::{Line, Recorded};
 use deadpool_unmanaged_journal::{Journal, Journaled, Naming};
@@ -37,6 +37,19 @@ where
         let recorded = &mut locked.state;
         recorded.audit(one);
         recorded.audit(two);
+    }
+
+    /// What was seen earlier is a beginning of what the caller has seen then. It is no step.
+    pub fn after(&self, caller: &mut Caller<Line<T>, H>, earlier: &Beginning<Line<T>, H>)
+        ensures caller { caller.new ≡ record caller.old { seen = caller.new.seen } }
+        ensures seen { IsPrefix caller.old.seen caller.new.seen }
+        ensures earlier { IsPrefix earlier.now.log caller.new.seen }
+        ensures legal { IsLegal caller.new.seen }
+    {
+        let mut locked = self.lock.look();
+        let recorded = &mut locked.state;
+        recorded.above(earlier);
+        recorded.audit(caller);
     }
 
     /// A copy of the journal. It is no step.
@@ -69,7 +82,8 @@ where
     K: Naming<T>,
     H: Chronicle,
 {
-    /// An open pool with nothing in it, whose history this one is, and room for so many entries in its journal.
+    /// An open pool with nothing in it, whose history this one is, and room for so many entries in its journal. Beside
+    /// it stands the beginning of the history, which says how the pool opened.
     pub fn with_history(
         alloc: Global,
         config: &PoolConfig,
@@ -77,15 +91,20 @@ where
         history: Blank,
         clock: C,
         rt: R,
-    ) -> Result<Self, AllocError>
+    ) -> Result<(Self, Beginning<Line<T>, H>), AllocError>
         requires opens { history.names ≡ H.names }
-        ensures timeout { IfOk result (λ pool. pool.timeout ≡ config.now.timeout) }
-        ensures runtime { IfOk result (λ pool. pool.runtime ≡ config.now.runtime) }
-        ensures clock { IfOk result (λ pool. pool.clock ≡ clock) }
+        ensures opening { IfOk result (λ made.
+            OpensWith config.now.max_size config.now.max_waiting made.1.log) }
+        ensures timeout { IfOk result (λ made. made.0.timeout ≡ config.now.timeout) }
+        ensures runtime { IfOk result (λ made. made.0.runtime ≡ config.now.runtime) }
+        ensures clock { IfOk result (λ made. made.0.clock ≡ clock) }
     {
         let (max_size, max_waiting) = (config.max_size, config.max_waiting);
         match open_history(alloc, max_size, max_waiting, most_entries, history) {
-            Ok((recorded, first)) => Pool::open(alloc, recorded, first, config, clock, rt),
+            Ok((recorded, first, opening)) => {
+                let pool = Pool::open(alloc, recorded, first, config, clock, rt)?;
+                Ok((pool, opening))
+            }
             Err(AllocError) => Err(AllocError),
         }
     }
@@ -112,6 +131,17 @@ where
         self.shared().audit(one, two);
     }
 
+    /// From now on the caller has seen what somebody had seen earlier, so its next call stands in the history after
+    /// all that stands there. A caller's `seen` gives what it has seen so far. It is no step.
+    pub fn after(&self, caller: &mut Caller<Line<T>, H>, earlier: &Beginning<Line<T>, H>)
+        ensures caller { caller.new ≡ record caller.old { seen = caller.new.seen } }
+        ensures seen { IsPrefix caller.old.seen caller.new.seen }
+        ensures earlier { IsPrefix earlier.now.log caller.new.seen }
+        ensures legal { IsLegal caller.new.seen }
+    {
+        self.shared().after(caller, earlier);
+    }
+
     /// A copy of the pool's journal: how the pool opened, and its first steps since, each with the reply that it got.
     /// `AllocError` says that there was no memory for the copy.
     pub fn journal(&self) -> Result<Journal<K::Name>, AllocError>
@@ -136,20 +166,21 @@ where
     }
 }
 
-// A pool that has made no step yet, over a new history, and its first caller.
+// A pool that has made no step yet, over a new history, its first caller, and the beginning of that history.
 fn open_history<T: Drop, K: Naming<T>, H: Chronicle>(
     alloc: Global,
     max_size: usize,
     max_waiting: Option<usize>,
     most_entries: usize,
     history: Blank,
-) -> Result<(Recorded<T, K, H>, Caller<Line<T>, H>), AllocError>
+) -> Result<(Recorded<T, K, H>, Caller<Line<T>, H>, Beginning<Line<T>, H>), AllocError>
     requires { history.names ≡ H.names }
-    ensures { IfOk result (λ made. made.0.pool.core.pool
+    ensures pool { IfOk result (λ made. made.0.pool.core.pool
         ≡ bounded max_waiting (opened max_size [])) }
+    ensures opening { IfOk result (λ made. OpensWith max_size max_waiting made.2.log) }
 {
     let pool = Journaled::new(alloc, max_size, most_entries)?.bounded(max_waiting);
     let (author, mut first) = history.open::<Line<T>, H>();
-    let (recorded, _beginning) = Recorded::new(pool, author, &mut first);
-    Ok((recorded, first))
+    let (recorded, opening) = Recorded::new(pool, author, &mut first);
+    Ok((recorded, first, opening))
 }

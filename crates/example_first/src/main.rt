@@ -3,7 +3,7 @@
 
 use deadpool::NoTime;
 use deadpool::managed::{Ledgers, Metrics, NoHook, PoolBuilder, PoolError, RecycleResult};
-use deadpool_threads::{Blocking, Host, Plain, PlainManager, PlainPool, PoolUser, with_threads};
+use deadpool::threads::{Blocking, Host, Plain, PlainManager, PlainPool, PoolUser, with_threads};
 use std::alloc::AllocError;
 use std::io;
 

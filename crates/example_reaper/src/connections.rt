@@ -1,9 +1,9 @@
 //! The connections, who opens them, and the pool that they are in.
 use crate::board::SharedBoard;
+use deadpool::limits::Retire;
 use deadpool::managed::{Metrics, NoHook, Pool, RecycleResult};
-use deadpool_limits::Retire;
-use deadpool_threads::{Plain, PlainManager};
-use deadpool_timer::TimerClock;
+use deadpool::threads::{Plain, PlainManager};
+use deadpool::timer::TimerClock;
 use std::alloc::AllocError;
 use std::sync::Arc;
 

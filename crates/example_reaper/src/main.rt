@@ -8,11 +8,11 @@ mod server;
 
 use board::{Board, SharedBoard};
 use connections::{ConnectionPool, Connector, Limited, USES};
+use deadpool::limits::{Limits, Retire};
 use deadpool::managed::{Hook, Ledgers, NoHook, PoolBuilder, Tally};
+use deadpool::threads::{Handed, Host, Plain, PoolUser, Sweeper, with_keeper};
+use deadpool::timer::{Timer, TimerClock};
 use deadpool::{Runtime, Status};
-use deadpool_limits::{Limits, Retire};
-use deadpool_threads::{Handed, Host, Plain, PoolUser, Sweeper, with_keeper};
-use deadpool_timer::{Timer, TimerClock};
 use server::Server;
 use std::alloc::{AllocError, Global};
 use std::io;

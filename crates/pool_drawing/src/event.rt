@@ -1,8 +1,7 @@
 //! What a column of a picture is of.
 use deadpool_managed::{Moment, PoolError};
-use deadpool_replay::{Move, Reply};
+use deadpool_replay::{Move, Reply, unmanaged};
 use deadpool_unmanaged as plain;
-use deadpool_unmanaged_replay as unmanaged;
 use std::fmt;
 
 /// Why a get or an add has ended, or an object was given up.

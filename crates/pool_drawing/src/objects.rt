@@ -1,9 +1,8 @@
 //! Where each object of a trial is.
 use crate::{MOST_OBJECTS, Stock, Stop};
 use deadpool_managed::{AsyncHook, Manager, SyncHook};
-use deadpool_replay::Trial;
-use deadpool_unmanaged_replay as unmanaged;
-use pool_lanes::{Place, Shape, Stage};
+use deadpool_replay::{Trial, unmanaged};
+use pool_shapes::marks::{Place, Shape, Stage};
 
 /// Puts where each object is in place of what was there: that of the first number first. An object of which nothing is
 /// seen any more was given up. Gives what there is.

@@ -1,5 +1,5 @@
 //! How the lanes are painted: the class of each stage and place, its letter, and what the legend says of it.
-use pool_lanes::{Place, Stage};
+use pool_shapes::marks::{Place, Stage};
 
 /// Colours that differ in lightness and pattern too, so that they can be told apart in print and by those who see no
 /// red or green. Dark on light.

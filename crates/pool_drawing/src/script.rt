@@ -7,11 +7,11 @@ use crate::{
 };
 use futures::task::{Context, Doorbell, Solo};
 use moves::{play_managed, play_unmanaged};
-use pool_lanes::Shape;
 use pool_scripts::{
     Answers, Fault, PARTIES, PoolLine, ScriptPool, Stopped, compare, end_line, is_skipped,
     open_pool, parse_pool, read_line, refuse, sides_of, without_line_feed,
 };
+use pool_shapes::marks::Shape;
 use pool_shapes::{
     Given, Handover, handed_over, show_levels, show_parties, show_unmanaged_levels,
     show_unmanaged_parties,

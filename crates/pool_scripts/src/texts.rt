@@ -1,8 +1,7 @@
 //! The replies to the lines of a script.
 use deadpool_managed::{Counts, RetainResult};
 use deadpool_parts::Status;
-use deadpool_replay::Reply;
-use deadpool_unmanaged_replay as unmanaged;
+use deadpool_replay::{Reply, unmanaged};
 use std::alloc::AllocError;
 use std::fmt;
 

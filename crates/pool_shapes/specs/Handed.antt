@@ -1,8 +1,8 @@
 -- A place that goes from one party to another, from one move to the next.
 use Rattle.std.specs.Prelude.{◌≡◌, ℕ, Bool, true, false, List, Some, slice_get}
-use Rattle.pool_lanes.specs.declared.shape.Shape.{Shape}
-use Rattle.pool_lanes.specs.declared.shape.Stage.{Stage}
-use Rattle.pool_lanes.specs.declared.shape.Stage.TheVariants as stage
+use Rattle.pool_shapes.specs.declared.marks.shape.Shape.{Shape}
+use Rattle.pool_shapes.specs.declared.marks.shape.Stage.{Stage}
+use Rattle.pool_shapes.specs.declared.marks.shape.Stage.TheVariants as stage
 
 -- a party that stands so has a place, or an object with one
 abbrev pub has_place : Stage → Bool

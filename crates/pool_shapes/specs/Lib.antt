@@ -6,3 +6,5 @@ pub mod Given
 pub mod Shapes
 -- Whose place goes to whom.
 pub mod Handed
+-- What is drawn of a run.
+pub mod Drawn

@@ -8,13 +8,13 @@ use Rattle.deadpool_replay.specs.Pool.{Pool, places, size, reach}
 use Rattle.deadpool_replay.specs.declared.look.Look.{Look}
 use Rattle.deadpool_replay.specs.declared.look.Look.TheVariants as look
 use Rattle.deadpool_unmanaged.specs.State.{State, size as state_size}
-use Rattle.deadpool_unmanaged_replay.specs.Look.{look_of as unmanaged_look_of}
-use Rattle.deadpool_unmanaged_replay.specs.Pool.{Pool as UnmanagedPool, size as unmanaged_size}
-use Rattle.deadpool_unmanaged_replay.specs.declared.look.Look.{Look as UnmanagedLook}
-use Rattle.deadpool_unmanaged_replay.specs.declared.look.Look.TheVariants as unmanaged
-use Rattle.pool_lanes.specs.declared.shape.Shape.{Shape}
-use Rattle.pool_lanes.specs.declared.shape.Stage.{Stage}
-use Rattle.pool_lanes.specs.declared.shape.Stage.TheVariants as stage
+use Rattle.deadpool_replay.specs.Unmanaged.Look.{look_of as unmanaged_look_of}
+use Rattle.deadpool_replay.specs.Unmanaged.Pool.{Pool as UnmanagedPool, size as unmanaged_size}
+use Rattle.deadpool_replay.specs.declared.unmanaged.look.Look.{Look as UnmanagedLook}
+use Rattle.deadpool_replay.specs.declared.unmanaged.look.Look.TheVariants as unmanaged
+use Rattle.pool_shapes.specs.declared.marks.shape.Shape.{Shape}
+use Rattle.pool_shapes.specs.declared.marks.shape.Stage.{Stage}
+use Rattle.pool_shapes.specs.declared.marks.shape.Stage.TheVariants as stage
 
 abbrev pub alone : Stage → Shape
 alone stage = record { stage = stage; object = None }

@@ -2,7 +2,7 @@
 ghost use Rattle.std.specs.Prelude.{◌≡◌, ◌↔◌, IfSome, IsTrue};
 ghost use Rattle.pool_shapes.specs.Handed.{has_place, has_ended, WasGranted, GaveUp, Between};
 
-use pool_lanes::{Shape, Stage};
+use crate::marks::{Shape, Stage};
 
 /// A place goes from one party to another.
 #[derive(Clone, Copy, Debug)]

@@ -4,9 +4,8 @@ ghost use Rattle.pool_shapes.specs.Shapes.{levels_of, desk_levels_of, unmanaged_
 ghost use Rattle.pool_shapes.specs.Shapes.{queue_length};
 
 use deadpool_managed::{AsyncHook, Core, Counts, Manager, SyncHook};
-use deadpool_replay::Trial;
+use deadpool_replay::{Trial, unmanaged};
 use deadpool_unmanaged as plain;
-use deadpool_unmanaged_replay as unmanaged;
 use std::alloc::AllocError;
 
 /// Puts the counts of a trial in place of those that were there: limit, size, places, reach, queue.

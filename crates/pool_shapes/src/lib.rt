@@ -1,10 +1,11 @@
 //! What a picture shows of a pool at one move: a shape for each party, and the counts, taken from a trial or from a
-//! core.
+//! core; and of a run, in `marks`.
 #![tactic(auto)]
 
 mod given;
 mod handed;
 mod levels;
+pub mod marks;
 mod parties;
 mod shapes;
 

@@ -2,11 +2,10 @@
 ghost use Rattle.std.specs.Prelude.{◌≡◌, IfOk};
 ghost use Rattle.pool_shapes.specs.Shapes.{ShowsParties, UnmanagedShowsParties};
 
+use crate::marks::Shape;
 use crate::{shape_of, unmanaged_shape_of};
 use deadpool_managed::{AsyncHook, Manager, SyncHook};
-use deadpool_replay::Trial;
-use deadpool_unmanaged_replay as unmanaged;
-use pool_lanes::Shape;
+use deadpool_replay::{Trial, unmanaged};
 use std::alloc::AllocError;
 
 /// Puts a shape for each party in place of those that were there, by the party's number. `given` has what each party

@@ -1,8 +1,8 @@
 //! Files and folders that are changed in the midst of a run.
+use crate::lines::{Change, Reply};
 use std::alloc::AllocError;
 use std::fs;
 use std::fs::Files;
-use test_sqlite_moves::{Change, Reply};
 
 /// Makes a change in this folder.
 pub fn make_change<R: Files + AllocGlobal>(

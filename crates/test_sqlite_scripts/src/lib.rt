@@ -4,6 +4,7 @@
 mod change;
 mod fault;
 mod folder;
+mod lines;
 mod places;
 mod play;
 mod run;

@@ -1,10 +1,10 @@
 //! The moves of a script, one after the other.
 use crate::change::make_change;
+use crate::lines::{Connections, Move, PROMPT, Reply, Table, parse};
 use deadpool_sqlite::{Source, SqliteManager};
 use std::alloc::AllocError;
 use std::fs::Files;
 use std::random::RandomSource;
-use test_sqlite_moves::{Connections, Move, PROMPT, Reply, Table, parse};
 
 /// A script, and the folder in which files are changed.
 #[derive(Drop)]

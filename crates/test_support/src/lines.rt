@@ -1,6 +1,6 @@
 //! Scripts by lines, and what comes of a line that finds no memory.
+use crate::scripts::sides_of;
 use std::alloc::{AllocError, Global};
-use test_scripts::sides_of;
 
 /// The party that a line advances, polls or cancels.
 pub fn party_of(line: &str) -> Option<&str> {

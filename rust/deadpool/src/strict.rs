@@ -80,7 +80,7 @@ fn mode_of(value: &Value) -> Result<crate::managed::QueueMode, Fault> {
     }
 }
 
-/// There is no runtime in it.
+/// There is no runtime in it, and no journal.
 #[cfg(feature = "unmanaged")]
 impl Configuration for crate::unmanaged::PoolConfig {
     fn of(value: &Value) -> Result<Self, Fault> {
@@ -89,6 +89,7 @@ impl Configuration for crate::unmanaged::PoolConfig {
             max_size: value.max_size()?,
             timeout: value.duration("timeout", "")?,
             max_waiting: value.max_waiting()?,
+            journal: 0,
             runtime: None,
         })
     }

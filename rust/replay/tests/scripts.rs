@@ -84,7 +84,7 @@ fn kinds_of(script: &str) -> Vec<String> {
 fn texts_of_tests() -> Vec<(PathBuf, String)> {
     let crates = Path::new(env!("CARGO_MANIFEST_DIR")).join("../../crates");
     let mut files = Vec::new();
-    below(&crates.join("test_scripts/src"), &mut files);
+    below(&crates.join("test_support/src/scripts"), &mut files);
     let mut texts = Vec::new();
     for file in files {
         let source = fs::read_to_string(&file).expect("a source");

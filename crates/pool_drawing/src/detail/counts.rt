@@ -2,7 +2,7 @@
 use super::frame::{BAR, Frame};
 use super::rows::{LIMIT, Row, rows_of};
 use crate::{Picture, Svg};
-use pool_lanes::{Lane, Mark};
+use pool_shapes::marks::{Lane, Mark};
 use std::alloc::AllocError;
 
 // How far to the right of its step a count stands, and the limit.

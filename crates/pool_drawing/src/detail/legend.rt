@@ -4,7 +4,7 @@ use crate::paint::{
     PLACES, STAGES, place_class, place_name, stage_class, stage_letter, stage_name, stage_words,
 };
 use crate::{Kind, Svg};
-use pool_lanes::{Place, Stage};
+use pool_shapes::marks::{Place, Stage};
 use std::alloc::AllocError;
 
 // How far an entry is from the next, and how many stand in a line.

@@ -2,7 +2,7 @@
 use super::frame::{Frame, MARK};
 use crate::paint::{place_class, stage_class, stage_letter, stage_words};
 use crate::{Picture, Svg};
-use pool_lanes::{Mark, Place, Shape, Stage};
+use pool_shapes::marks::{Mark, Place, Shape, Stage};
 use std::alloc::AllocError;
 
 /// Writes the lane of a party.

@@ -2,7 +2,7 @@
 use super::frame::{Frame, LEFT, SMALL};
 use super::letters::width_of;
 use crate::{Picture, Svg};
-use pool_lanes::Shelf;
+use pool_shapes::marks::Shelf;
 use std::alloc::{AllocError, Global};
 
 // How far apart two labels in a row are at least.

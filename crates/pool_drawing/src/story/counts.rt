@@ -1,7 +1,7 @@
 //! Writes the chart: objects above its axis, those that wait below it, and the limit as a line.
 use super::frame::{Frame, LEFT};
 use crate::{Kind, Picture, Stock, Svg};
-use pool_lanes::Lane;
+use pool_shapes::marks::Lane;
 use std::alloc::AllocError;
 
 // What an area shows: from the axis up to, or down to, a count.

@@ -3,7 +3,7 @@ use super::guides::Guides;
 use super::head::Head;
 use super::letters::width_of;
 use crate::{Picture, Why};
-use pool_lanes::{Place, Stage};
+use pool_shapes::marks::{Place, Stage};
 
 // How wide a picture is at least.
 const LEAST_WIDTH: usize = 640;

@@ -2,7 +2,7 @@
 use super::frame::{Frame, SMALL, unit_of};
 use super::letters::width_of;
 use crate::{Owner, Picture, Svg};
-use pool_lanes::{Mark, Shelf};
+use pool_shapes::marks::{Mark, Shelf};
 use std::alloc::{AllocError, Global};
 
 // How far apart two labels in a row are at least.

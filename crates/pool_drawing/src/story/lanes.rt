@@ -3,7 +3,7 @@ use super::frame::{BAR, DOWN, Frame, LEFT, SMALL, end_of_object, end_of_party, r
 use super::letters::width_of;
 use super::paint::{class_of, class_of_place, names_object, words_of, words_of_place};
 use crate::{Kind, Picture, Svg, Why};
-use pool_lanes::{Mark, Place, Shape, Shelf, Stage};
+use pool_shapes::marks::{Mark, Place, Shape, Shelf, Stage};
 use std::alloc::{AllocError, Global};
 
 /// The bars of a party.

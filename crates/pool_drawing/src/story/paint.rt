@@ -1,6 +1,6 @@
 //! The colours of a story, in light and in the dark, and what stages and places are called.
 use crate::Kind;
-use pool_lanes::{Place, Stage};
+use pool_shapes::marks::{Place, Stage};
 
 /// Colours that differ in lightness, so that they can be told apart in print and by those who see no red or green.
 pub const STYLE: &str = "<style>

@@ -3,7 +3,7 @@ use super::words::{
     Words, end, next_moment, next_number, next_word, parse_timeout, unknown, words_of,
 };
 use super::{Language, LineError};
-use deadpool_unmanaged_replay::Move;
+use deadpool_replay::unmanaged::Move;
 use std::time::Duration;
 
 /// The move that a line says over an unmanaged pool.

@@ -2,8 +2,8 @@
 use super::expect;
 use super::made::{back, enter_add, enter_get};
 use deadpool_parts::Moment;
+use deadpool_replay::unmanaged::{Move, Trial};
 use deadpool_unmanaged::{AddState, Core, Reply, Step};
-use deadpool_unmanaged_replay::{Move, Trial};
 use futures::task::Poll;
 use std::alloc::Global;
 use std::cell::Cell;

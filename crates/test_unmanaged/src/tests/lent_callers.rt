@@ -10,7 +10,7 @@ ghost use Rattle.deadpool_unmanaged_journal.specs.declared.owner_step.OwnerReply
 ghost use Rattle.deadpool_unmanaged_journal.specs.declared.owner_step.OwnerStep.TheVariants as step;
 
 use super::{Host, expect, stands};
-use deadpool_chronicle::{Blank, Caller, Chronicle};
+use deadpool_chronicle::{Beginning, Blank, Caller, Chronicle};
 use deadpool_parts::NoTime;
 use deadpool_unmanaged::{PoolConfig, Reply, Status, Step};
 use deadpool_unmanaged_history::{Line, Recorded};
@@ -38,10 +38,18 @@ fn plays<R: Host, H: Chronicle>(rt: R, history: Blank) -> Result<(), Fail>
     requires { history.names ≡ H.names }
 {
     let config = PoolConfig::new(1);
-    let pool: Numbers<R, H> = Pool::with_history(rt.alloc(), &config, 4, history, NoTime, rt)?;
+    let (pool, opening): (Numbers<R, H>, Beginning<Line<u64>, H>) = Pool::with_history(
+        rt.alloc(),
+        &config,
+        4,
+        history,
+        NoTime,
+        rt,
+    )?;
     let mut one = pool.caller();
     let mut two = pool.caller();
     let status = add_and_ask(&pool, &mut one);
+    pool.after(&mut two, &opening);
     let got = pool.try_get_by(&mut two)?;
     let value = *got;
     let mut object = Object::give_back(got);

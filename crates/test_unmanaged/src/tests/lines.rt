@@ -1,7 +1,7 @@
 //! What the lines of a script say.
 use deadpool_parts::{Moment, Runtime};
+use deadpool_replay::unmanaged::Move;
 use deadpool_unmanaged::PoolConfig;
-use deadpool_unmanaged_replay::Move;
 use std::alloc::Global;
 use std::str::Split;
 use std::test::Fail;

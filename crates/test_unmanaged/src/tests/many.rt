@@ -2,8 +2,8 @@
 use super::made::{back, enter_add, enter_get};
 use super::{Host, expect, stands};
 use deadpool_parts::{Moment, NoTime, Status};
+use deadpool_replay::unmanaged::{Move, Reply, Trial};
 use deadpool_unmanaged::{Core, PoolError, Reply as CoreReply};
-use deadpool_unmanaged_replay::{Move, Reply, Trial};
 use deadpool_unmanaged_shared::Pool;
 use std::alloc::{AllocError, Global};
 use std::test::Fail;

@@ -8,7 +8,7 @@ use super::party::{
     with_object,
 };
 use deadpool_parts::Moment;
-use deadpool_unmanaged_replay::{Move, Reply};
+use deadpool_replay::unmanaged::{Move, Reply};
 use deadpool_unmanaged_shared::{Object, Pool};
 use futures::test::MockTask;
 use std::alloc::{AllocError, Global};

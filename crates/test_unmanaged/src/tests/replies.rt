@@ -1,6 +1,6 @@
 //! What comes of a move, as a line.
 use deadpool_parts::Status;
-use deadpool_unmanaged_replay::Reply;
+use deadpool_replay::unmanaged::Reply;
 use std::alloc::{AllocError, Global};
 
 /// A reply as a line. A reply that hands an object out has its value, if there is one.

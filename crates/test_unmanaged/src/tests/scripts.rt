@@ -15,7 +15,7 @@ use super::{Host, expect};
 use pool_scripts::{expect_crowd, expect_script};
 use std::alloc::{AllocError, Global};
 use std::test::Fail;
-use test_scripts::{UNMANAGED, is_listed, lines_of, parted, script_of, sides_of};
+use test_support::scripts::{UNMANAGED, is_listed, lines_of, parted, script_of, sides_of};
 
 // Plays a line, and says what came of it.
 fn played<R: Host>(rt: R, player: &mut Player<R>, line: &str) -> Result<String, Fail> {

@@ -2,7 +2,7 @@
 //! are those of a run that finds memory.
 use std::alloc::Global;
 use std::test::Fail;
-use test_scripts::{
+use test_support::scripts::{
     FIRST_PATH, MAX_WAITING, MIN_IDLE, OWN_STEPS, PREPARATION, TIMEOUTS, UNMANAGED, is_listed,
     script_of,
 };

@@ -9,7 +9,7 @@ use deadpool_shared::{Blanks, Ledgers};
 use std::alloc::Global;
 use std::marker::Brand;
 use std::test::Fail;
-use test_scripts::{parted, script_of, sides_of};
+use test_support::scripts::{parted, script_of, sides_of};
 
 // A script, of which each line may be seen to wake whom its steps are to wake.
 #[derive(Drop)]

@@ -3,8 +3,8 @@ use super::Host;
 use super::play::play;
 use std::process::Abort;
 use std::test::Fail;
-use test_scripts::{MANAGED, is_listed, script_of};
 use test_support::expected::expect;
+use test_support::scripts::{MANAGED, is_listed, script_of};
 
 // More entries than a script leaves in its journal.
 const ROOM: usize = 1_000;

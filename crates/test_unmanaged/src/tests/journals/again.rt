@@ -7,7 +7,7 @@ use deadpool_unmanaged_journal::{Entry, Journal, OwnerReply, OwnerStep};
 use pool_scripts::{PoolLine, parse_pool, parse_unmanaged, write_status};
 use std::alloc::Global;
 use std::test::Fail;
-use test_scripts::{UNMANAGED, is_listed, parted, script_of, sides_of};
+use test_support::scripts::{UNMANAGED, is_listed, parted, script_of, sides_of};
 
 // Plays a script, and makes its journal again.
 fn plays(alloc: Global, name: &str, text: &str) -> Result<(), Fail> {

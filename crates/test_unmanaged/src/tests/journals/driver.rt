@@ -1,8 +1,8 @@
 //! Gets and adds over a pool with a journal, as a script starts and polls them.
 use deadpool_parts::tables::take_out;
+use deadpool_replay::unmanaged::{Item, Move};
 use deadpool_unmanaged::{AddState, GetState, Moment, Runtime, Step};
 use deadpool_unmanaged_journal::{ByNumber, Journaled, OwnerReply, OwnerStep};
-use deadpool_unmanaged_replay::{Item, Move};
 use futures::task::Poll;
 use pool_scripts::UnmanagedPool;
 use std::alloc::{AllocError, Global};

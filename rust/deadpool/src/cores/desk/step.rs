@@ -29,14 +29,14 @@ pub enum Step {
     Take,
 }
 
-/// What a get that is cancelled holds.
+/// What a get holds at its desk, if anything: an entry in the queue is none of it.
 #[derive(Clone, Copy, Debug, PartialEq, Eq)]
 pub enum Held {
     /// A place, and nothing else.
     Place,
     /// A creation under way.
     Creation,
-    /// An object under preparation.
+    /// An object that it prepares or has given out.
     Object,
 }
 
@@ -79,17 +79,4 @@ pub enum Reply {
     },
     /// There is nothing to lower, or nobody has the ticket. Nothing has changed.
     Unknown,
-}
-
-/// What a get holds at its desk.
-#[derive(Clone, Copy, Debug, PartialEq, Eq)]
-pub enum Holding {
-    /// Nothing, or an entry in the queue.
-    Nothing,
-    /// A place, and nothing else.
-    Place,
-    /// A creation under way.
-    Creation,
-    /// An object.
-    Object,
 }

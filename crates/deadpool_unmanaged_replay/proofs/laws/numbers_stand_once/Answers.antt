@@ -1,6 +1,0 @@
--- The law that no object's number stands twice.
-use Rattle.deadpool_unmanaged_replay.proofs.{Words.IsNumbered, Well.each_state}
-use Rattle.deadpool_unmanaged_replay.proofs.laws.numbers_stand_once.Goals as goal
-
-pub returns : goal.returns
-returns g c = each_state IsNumbered (λ p well. well.numbered)

@@ -1,5 +1,0 @@
-//! Tests of the steps of a shared managed pool on one thread.
-#![tactic(auto)]
-
-#[cfg(test)]
-mod tests;
