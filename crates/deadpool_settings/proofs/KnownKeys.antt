@@ -2,7 +2,7 @@
 use Rattle.deadpool_settings.proofs.Words.{◌≡◌, ℕ, List, Bool, true, false, Option, Some, None, refl, sym, ap, ◌∙◌}
 use Rattle.deadpool_settings.proofs.Words.{subst, inl, inr, IsSome, cases_Bool, some_value, get, get_member, Data}
 use Rattle.deadpool_settings.proofs.Words.{null, boolean, number, string, array, object, Members, no_members, member}
-use Rattle.std.proofs.Common.{Ordering, Less, Equal, Greater, nat_cmp, is_eq, bytes_eq}
+use Rattle.std.proofs.Common.{Ordering, Less, Equal, Greater, nat_cmp, is_eq}
 use Rattle.std.proofs.lemmas.Cmp.{nat_list_cmp_total, tied_itself}
 use Rattle.std.proofs.lemmas.Map.Text.{is_eq-slice_cmp}
 use Rattle.std.proofs.lemmas.Slice.Eq.{bytes_eq-Decides}

@@ -1,6 +1,6 @@
 -- What a lenient reading tells of each key, and what stands there then.
 use Rattle.deadpool_settings.proofs.Words.{◌≡◌, ℕ, Option, Some, None, Ok, Err, refl, sym, subst, inl, inr}
-use Rattle.deadpool_settings.proofs.Words.{is_some, true, false, cases_Bool, option_and_then, ok_or, codes, Data, get}
+use Rattle.deadpool_settings.proofs.Words.{is_some, true, cases_Bool, option_and_then, ok_or, codes, Data, get}
 use Rattle.deadpool_settings.proofs.Words.{as_null, as_number, as_object, as_str, as_u64, not_some, map_failed}
 use Rattle.deadpool_settings.proofs.Words.{ok_or_failed}
 use Rattle.serde_json.specs.Data.{Num}

@@ -1,17 +1,17 @@
 -- What the strict reading of a managed pool's configuration is.
-use Rattle.deadpool_settings.proofs.Words.{◌≡◌, ℕ, List, Option, Some, None, Ok, Err, Result, refl, sym, ap, ◌∙◌}
-use Rattle.deadpool_settings.proofs.Words.{subst, inl, inr, true, is_some, cases_Bool, option_map, option_and_then}
+use Rattle.deadpool_settings.proofs.Words.{◌≡◌, ℕ, List, Option, Some, None, Ok, Err, Result, refl, sym}
+use Rattle.deadpool_settings.proofs.Words.{subst, inl, inr, true, is_some, cases_Bool, option_and_then}
 use Rattle.deadpool_settings.proofs.Words.{codes, Data, get, as_object, not_some, result_map, result_and_then}
 use Rattle.deadpool_settings.proofs.Words.{result_map_err, failed_one, map_failed, map_err_ok, map_err_failed}
 use Rattle.deadpool_settings.proofs.KnownKeys.{key_is_unknown, keys_are_known, none_is_unknown}
 use Rattle.deadpool_settings.proofs.Lenient.{SizeFault, no_object, missing, no_size, size_fault, size_in_object}
 use Rattle.deadpool_settings.proofs.Lenient.{wrong_number, number_is_known, timeout_fault, mode_fault, min_idle_fault}
 use Rattle.deadpool_settings.proofs.Lenient.{max_waiting_fault}
-use Rattle.deadpool_settings.specs.Faults.{Place, at, in_timeouts, Located, unless_unknown, value_at}
+use Rattle.deadpool_settings.specs.Faults.{at, in_timeouts, Located, unless_unknown}
 use Rattle.deadpool_settings.specs.Keys.{has_key, unknown_key}
 use Rattle.deadpool_settings.specs.Laws.{HasKnownKeys, IsFault, IsWrong}
-use Rattle.deadpool_settings.specs.Managed.{ReadsExactly, TellsFaults, first_bad_timeout, located, read_strict}
-use Rattle.deadpool_settings.specs.Managed.{unknown_of, unknown_place}
+use Rattle.deadpool_settings.specs.Managed.{ReadsExactly, TellsFaults, first_bad_timeout, located}
+use Rattle.deadpool_settings.specs.Managed.{unknown_of}
 use Rattle.deadpool_settings.specs.declared.fault.Why.TheVariants as why
 use Rattle.deadpool_settings.specs.declared.keys.Section.TheVariants as section
 use Rattle.deadpool_parts.specs.PoolConfig.{Settings, read_config, read_max_size, read_max_waiting, read_min_idle}

@@ -1,5 +1,5 @@
 -- What the strict reading of an unmanaged pool's configuration is.
-use Rattle.deadpool_settings.proofs.Words.{◌≡◌, ℕ, List, Option, Some, None, Ok, Err, Result, refl, sym, ap, ◌∙◌}
+use Rattle.deadpool_settings.proofs.Words.{◌≡◌, ℕ, List, Option, Some, None, Ok, Err, Result, refl, sym}
 use Rattle.deadpool_settings.proofs.Words.{subst, inl, inr, option_map, codes, Data, get, result_map, result_and_then}
 use Rattle.deadpool_settings.proofs.Words.{result_map_err, failed_one, map_failed, map_err_ok, map_err_failed}
 use Rattle.deadpool_settings.proofs.KnownKeys.{key_is_unknown, keys_are_known, none_is_unknown}
@@ -8,7 +8,7 @@ use Rattle.deadpool_settings.proofs.Lenient.{number_is_known, timeout_fault, max
 use Rattle.deadpool_settings.specs.Faults.{at, Located, unless_unknown}
 use Rattle.deadpool_settings.specs.Keys.{has_key, unknown_key}
 use Rattle.deadpool_settings.specs.Laws.{HasKnownKeys, IsFault}
-use Rattle.deadpool_settings.specs.Unmanaged.{ReadsExactly, TellsFaults, located, read_strict}
+use Rattle.deadpool_settings.specs.Unmanaged.{ReadsExactly, TellsFaults, located}
 use Rattle.deadpool_settings.specs.declared.fault.Why.TheVariants as why
 use Rattle.deadpool_settings.specs.declared.keys.Section.TheVariants as section
 use Rattle.deadpool_parts.specs.PoolConfig.{read_max_size, read_max_waiting}

@@ -1,6 +1,6 @@
 -- Where a configuration is at fault, and why.
 use Rattle.std.specs.Prelude.{◌≡◌, ℕ, ◌++◌, is_some, if◌then◌else◌, List, Option, Some, None, ⊤}
-use Rattle.std.specs.Prelude.{Result, Ok, Err, MatchResult, option_and_then, codes}
+use Rattle.std.specs.Prelude.{Result, Err, MatchResult, option_and_then, codes}
 use Rattle.std.specs.Cow.{cow_str_bytes}
 use Rattle.serde_json.specs.Data.{Data}
 use Rattle.serde_json.specs.Find.{get, as_number}

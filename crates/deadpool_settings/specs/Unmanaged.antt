@@ -1,5 +1,5 @@
 -- An unmanaged pool's configuration that is read strictly.
-use Rattle.std.specs.Prelude.{◌≡◌, ◌↔◌, Option, Result, Ok, Err, option_map, codes}
+use Rattle.std.specs.Prelude.{◌≡◌, ◌↔◌, Result, Ok, Err, option_map, codes}
 use Rattle.serde_json.specs.Data.{Data}
 use Rattle.serde_json.specs.Find.{get}
 use Rattle.deadpool_parts.specs.declared.errors.ConfigError.{ConfigError}
@@ -8,7 +8,7 @@ use Rattle.deadpool_settings.specs.Faults.{whole, at, Located, number_why, unles
 use Rattle.deadpool_settings.specs.Keys.{has_key, unknown_key}
 use Rattle.deadpool_settings.specs.Laws.{HasKnownKeys, IsFault}
 use Rattle.deadpool_settings.specs.Results.{result_map_err}
-use Rattle.deadpool_settings.specs.declared.fault.Why.TheVariants.{NoObject, Missing, NoDuration, NoQueueMode}
+use Rattle.deadpool_settings.specs.declared.fault.Why.TheVariants.{NoObject, Missing, NoDuration}
 use Rattle.deadpool_settings.specs.declared.keys.Section.TheVariants as section
 use Rattle.deadpool_unmanaged.specs.Config.{Settings, read_config}
 
