@@ -64,9 +64,9 @@ where
 }
 
 fn measure_alone<R: Host, L: Ledgers>(table: Table<R>, pool: &ZeroPool<R, L>) -> io::Result<()> {
-    // Beside its object's slot and timeouts of its own, a get takes at most 144 bytes.
+    // Beside its object's slot and timeouts of its own, a get takes at most 160 bytes.
     let places = size_of::<Option<Slot<Kept<u64>>>>() + size_of::<Option<Timeouts>>();
-    prove!(size_of::<ZeroGet<R, L>>() <= 144 + places);
+    prove!(size_of::<ZeroGet<R, L>>() <= 160 + places);
     measure_polls(table, pool)?;
     measure_waits(table, pool)
 }

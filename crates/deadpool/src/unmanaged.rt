@@ -10,6 +10,8 @@ pub use deadpool_unmanaged::{
     AddStage, AddState, ConfigError, Core, Counts, GetStage, GetState, HandleReply, PoolConfig,
     PoolError, Reply, Status, Step,
 };
+pub use deadpool_unmanaged_journal::{Report, Tally};
 pub use deadpool_unmanaged_shared::{
-    Add, AddRef, Adding, Get, GetRef, Getting, Object, Pool, Remove, Removing,
+    Add, AddRef, Adding, Drain, DrainError, Draining, Get, GetRef, Getting, Object, Pool, Remove,
+    Removing,
 };

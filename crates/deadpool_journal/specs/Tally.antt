@@ -1,5 +1,6 @@
 -- How often each thing has happened in a pool, and that its books balance.
-use Rattle.std.specs.Prelude.{◌≡◌, ◌<◌, ℕ, ◌+◌, min, Result, Ok, Err}
+use Rattle.std.specs.Prelude.{◌≡◌, ◌<◌, ℕ, ◌+◌, ◌-◌, min, Result, Ok, Err}
+use Rattle.deadpool_desk.specs.DeskState.{DeskState, size}
 use Rattle.deadpool_desk.specs.declared.owner_step.OwnerReply.{OwnerReply}
 use Rattle.deadpool_desk.specs.declared.owner_step.OwnerReply.TheVariants as owner_reply
 use Rattle.deadpool_desk.specs.declared.owner_step.OwnerStep.{OwnerStep}
@@ -58,6 +59,12 @@ abbrev pub entered : Reply → Tally → Tally
 entered (Waiting ticket) t = record t { waited = more t.waited 1 }
 entered reply t = answered reply t
 
+-- with the reply to an object that comes back
+abbrev pub came_back : Reply → Tally → Tally
+came_back Detach t = record t { surplus = more t.surplus 1 }
+came_back Dropped t = record t { dropped = more t.dropped 1 }
+came_back _ t = t
+
 -- with a step of a get or an object
 abbrev pub counted_made : Step → Reply → Tally → Tally
 counted_made (Enter wait) reply t = entered reply (record t { gets = more t.gets 1 })
@@ -67,8 +74,7 @@ counted_made Failed Done t = record t { failed = more t.failed 1 }
 counted_made Discard Done t = record t { refused = more t.refused 1 }
 counted_made Refused Done t = record t { refused = more t.refused 1 }
 counted_made (Cancel held.Object) Done t = record t { cancelled = more t.cancelled 1 }
-counted_made Back Detach t = record t { surplus = more t.surplus 1 }
-counted_made Back Dropped t = record t { dropped = more t.dropped 1 }
+counted_made Back reply t = came_back reply t
 counted_made Take (Taken detach) t = record t { taken = more t.taken 1 }
 counted_made _ _ t = t
 
@@ -98,3 +104,12 @@ all_given_up t = t.refused + t.cancelled + t.surplus + t.not_retained + t.taken 
 -- was created is there or was given up.
 abbrev pub AreBalanced : ℕ → Tally → Type 0
 AreBalanced size t = t.created < greatest_count → t.created ≡ size + all_given_up t
+
+module _ {O : Type 0} where
+  -- how many objects went between two states
+  abbrev pub gone : DeskState O → DeskState O → ℕ
+  gone d d' = size d - size d'
+
+  -- books that balance do so after a step that is counted so
+  abbrev pub StaysBalanced : (DeskState O → DeskState O → Tally → Tally) → DeskState O → DeskState O → Type 0
+  StaysBalanced count d d' = (t : Tally) → AreBalanced (size d) t → AreBalanced (size d') (count d d' t)

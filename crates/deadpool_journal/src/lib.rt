@@ -4,6 +4,7 @@
 mod entry;
 mod journal;
 mod journaled;
+pub mod laws;
 mod log;
 mod report;
 mod tally;

@@ -1,7 +1,7 @@
 //! How often each thing has happened in a pool.
 ghost use Rattle.std.specs.Prelude.{◌≡◌};
-ghost use Rattle.deadpool_journal.specs.Tally.{answered, counted_for_owner, counted_made, counted_retain};
-ghost use Rattle.deadpool_journal.specs.Tally.{entered, more, no_tally};
+ghost use Rattle.deadpool_journal.specs.Tally.{answered, came_back, counted_for_owner, counted_made};
+ghost use Rattle.deadpool_journal.specs.Tally.{counted_retain, entered, more, no_tally};
 
 use deadpool_desk::{Held, OwnerStep, Reply, Step};
 
@@ -70,25 +70,29 @@ impl Tally {
 
     /// Counts a step of a get or an object.
     #[inline(always)]
-    pub(crate) fn count(&mut self, step: &Step, reply: &Reply)
+    pub fn count(&mut self, step: &Step, reply: &Reply)
         ensures { self.new ≡ counted_made step.now reply.now self.old }
     {
         match (step, reply) {
+            (Step::Enter { .. }, Reply::Object { .. } | Reply::Create) => {
+                add(&mut self.gets, 1);
+                add(&mut self.served, 1);
+            }
             (Step::Enter { .. }, _) => self.enter(reply),
             (Step::Ask { .. }, _) => self.answer(reply),
             (Step::Created, Reply::Number(_)) => add(&mut self.created, 1),
             (Step::Failed, Reply::Done) => add(&mut self.failed, 1),
             (Step::Discard | Step::Refused, Reply::Done) => add(&mut self.refused, 1),
             (Step::Cancel(Held::Object), Reply::Done) => add(&mut self.cancelled, 1),
-            (Step::Back, Reply::Detach) => add(&mut self.surplus, 1),
-            (Step::Back, Reply::Dropped) => add(&mut self.dropped, 1),
+            (Step::Back, Reply::Kept) => {}
+            (Step::Back, _) => self.come_back(reply),
             (Step::Take, Reply::Taken { .. }) => add(&mut self.taken, 1),
             _ => {}
         }
     }
 
-    // Counts a get that enters.
-    #[inline(always)]
+    // Counts a get that enters. (What `count` does with the usual replies costs less.)
+    #[inline(never)]
     fn enter(&mut self, reply: &Reply)
         ensures { self.new ≡ entered reply.now (record self.old { gets = more self.old.gets 1 }) }
     {
@@ -100,7 +104,7 @@ impl Tally {
     }
 
     // Counts the reply to a get that asks for its place.
-    #[inline(always)]
+    #[inline(never)]
     fn answer(&mut self, reply: &Reply)
         ensures { self.new ≡ answered reply.now self.old }
     {
@@ -113,9 +117,21 @@ impl Tally {
         }
     }
 
+    // Counts an object that comes back.
+    #[inline(never)]
+    fn come_back(&mut self, reply: &Reply)
+        ensures { self.new ≡ came_back reply.now self.old }
+    {
+        match reply {
+            Reply::Detach => add(&mut self.surplus, 1),
+            Reply::Dropped => add(&mut self.dropped, 1),
+            _ => {}
+        }
+    }
+
     /// Counts a step of the owner, by which so many idle objects go.
     #[inline(always)]
-    pub(crate) fn count_for_owner(&mut self, step: &OwnerStep, gone: usize)
+    pub fn count_for_owner(&mut self, step: &OwnerStep, gone: usize)
         ensures { self.new ≡ counted_for_owner gone step.now self.old }
     {
         match step {
@@ -126,7 +142,7 @@ impl Tally {
     }
 
     /// Counts a retain with its result, by which so many idle objects go.
-    pub(crate) fn count_retain<A, E>(&mut self, retained: &Result<A, E>, gone: usize)
+    pub fn count_retain<A, E>(&mut self, retained: &Result<A, E>, gone: usize)
         ensures { self.new ≡ counted_retain gone retained.now self.old }
     {
         if retained.is_ok() {

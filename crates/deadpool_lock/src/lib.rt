@@ -1,13 +1,17 @@
 //! What the shared pools need of a lock: the wakers of those that wait, a lock whose steps tell them, a counted handle
-//! of what is shared, and what a future hears by. It knows nothing of objects.
+//! of what is shared, those that wait for its end, and what a future hears by. It knows nothing of objects.
 #![tactic(auto)]
 
+mod ended;
+mod ends;
 mod handle;
 mod lock;
 mod registration;
 mod request;
 mod wakers;
 
+pub use ended::DrainError;
+pub use ends::Ends;
 pub use handle::{Counted, Handle, Home};
 pub use lock::{Step, StepLock, Wakes};
 pub use registration::{Registration, wake_at};

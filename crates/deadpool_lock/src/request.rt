@@ -99,10 +99,10 @@ impl<K: Drop> Stage<K> {
 /// of the request. One that has ended stays pending. Dropping it gives up a request that has not ended, and then its
 /// handle.
 pub struct Owned<Q: Request> {
+    request: Q,
     // None if it never began.
     handle: Option<Handle<Q::Shared>>,
     stage: Stage<Q::Kept>,
-    request: Q,
     registration: Registration,
 }
 
@@ -280,9 +280,9 @@ impl<Q: Request> Drop for Owned<Q> {
 
 /// A request as a future that borrows a handle, and is none itself. Otherwise it is as an `Owned`.
 pub struct Borrowed<'a, Q: Request> {
+    request: Q,
     handle: &'a Handle<Q::Shared>,
     stage: Stage<Q::Kept>,
-    request: Q,
     registration: Registration,
 }
 
@@ -308,7 +308,7 @@ impl<'a, Q: Request> Borrowed<'a, Q> {
     #[inline(always)]
     pub fn new(handle: &'a Handle<Q::Shared>, kept: Result<Q::Kept, AllocError>, request: Q) -> Self
         requires new { (kept : _) → Q.fits (Stage.Asking kept) request }
-        requires unbegun { Q.fits Stage.Refused request }
+        requires unbegun { IfErr kept (λ _. Q.fits Stage.Refused request) }
         ensures asks { IfOk kept (λ k. Asks handle.now k request result) }
         ensures refused { IfErr kept (λ _. IsRefused (Some handle.now) request result) }
     {

@@ -14,3 +14,4 @@ pub mod Scripts
 -- How the fields of a trial are seen as the machine. No contract of another crate cites them.
 pub mod TrialFields
 pub mod Image
+pub mod CountingFields

@@ -16,10 +16,11 @@ mod owner;
 mod parties;
 mod seen;
 
+use crate::counting::Counting;
 use crate::{Move, Reply};
 use deadpool_builder::{OpenPool, PoolBuilder};
 use deadpool_managed::{
-    AsyncHook, BuildError, Core, Environment, GetState, Kept, Manager, OwnerStep, Slot, SyncHook,
+    AsyncHook, BuildError, Environment, GetState, Kept, Manager, OwnerStep, Slot, SyncHook,
     Timeouts,
 };
 use deadpool_parts::tables::append;
@@ -43,7 +44,7 @@ struct Setup<M: Manager, F: SyncHook<M>, A: AsyncHook<M>> {
 #[derive(Drop)]
 pub struct Trial<M: Manager, F: SyncHook<M>, A: AsyncHook<M>, C: Drop> {
     setup: Setup<M, F, A>,
-    core: Core<Kept<M::Type>>,
+    core: Counting<Kept<M::Type>>,
     // By number; none if the party was cancelled.
     parties: Vec<Option<GetState<M, A>>>,
     // By rising number.
@@ -105,7 +106,7 @@ impl<M: Manager, F: SyncHook<M>, A: AsyncHook<M>, C: Drop> Trial<M, F, A, C> {
         };
         Ok(Trial {
             setup,
-            core,
+            core: Counting::new(core),
             parties: Vec::with_capacity(alloc, parties)?,
             out: Vec::with_capacity(alloc, parties)?,
             clock,

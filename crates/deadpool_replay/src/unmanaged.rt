@@ -1,4 +1,5 @@
 //! Runs of moves over an unmanaged pool on one thread, by any number of parties.
+mod counting;
 pub mod laws;
 mod look;
 mod moves;

@@ -1,5 +1,5 @@
 -- How a drain ends, and which calls it makes for its caller.
-use Rattle.std.specs.Prelude.{◌≡◌, ◌⊎◌, ◌++◌, ℕ, List, codes, Bool, true, false, Option, Some, None, Result, Ok, Err}
+use Rattle.std.specs.Prelude.{◌≡◌, ◌⊎◌, Bool, true, false, Option, Some, None, Result, Ok, Err}
 use Rattle.futures.specs.declared.task.Poll.{Poll}
 use Rattle.futures.specs.declared.task.Poll.TheVariants.{Ready, Pending}
 use Rattle.deadpool_chronicle.specs.History.{Knowing}
@@ -9,22 +9,11 @@ use Rattle.deadpool_desk.specs.declared.owner_step.OwnerStep.TheVariants as owne
 use Rattle.deadpool_history.specs.History.{HasCalled}
 use Rattle.deadpool_history.specs.declared.line.Line.{Line}
 use Rattle.deadpool_journal.specs.declared.entry.Entry.TheVariants.{Owner}
-use Rattle.deadpool_parts.specs.Texts.{status_text}
+use Rattle.deadpool_lock.specs.Ends.{status_in}
+use Rattle.deadpool_lock.specs.declared.ended.DrainError.{DrainError}
+use Rattle.deadpool_lock.specs.declared.ended.DrainError.TheVariants.{Timeout, OutOfMemory}
 use Rattle.deadpool_parts.specs.declared.status.Status.{Status}
 use Rattle.deadpool_shared.specs.Counts.{IsNewCaller}
-use Rattle.deadpool_shared.specs.declared.ended.DrainError.{DrainError}
-use Rattle.deadpool_shared.specs.declared.ended.DrainError.TheVariants.{Timeout, OutOfMemory}
-
--- what it writes that has not ended well
-abbrev pub drain_error_text : DrainError → List ℕ
-drain_error_text (Timeout status) = codes "Timeout occurred while draining the pool: " ++ status_text status
-drain_error_text (OutOfMemory status) = codes "Out of memory while draining the pool: " ++ status_text status
-
--- the status that it ends with
-abbrev pub status_in : Result Status DrainError → Status
-status_in (Ok status) = status
-status_in (Err (Timeout status)) = status
-status_in (Err (OutOfMemory status)) = status
 
 -- It ends well where no object is left. Otherwise something is, and its time is over, if it is limited, or there was no
 -- memory to wait by.

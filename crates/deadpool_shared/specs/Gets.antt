@@ -1,6 +1,6 @@
 -- A get of the pool, as contracts see it, what it gives to who polls it, and what its poll is at its seat.
 use Rattle.std.specs.Option.{option_or}
-use Rattle.std.specs.Prelude.{◌≡◌, Option, Some, None, Result, Ok, Err, IfOk}
+use Rattle.std.specs.Prelude.{◌≡◌, ℕ, Option, Some, None, Result, Ok, Err, IfOk}
 use Rattle.futures.specs.declared.task.Poll.{Poll}
 use Rattle.futures.specs.declared.task.Poll.TheVariants as poll
 use Rattle.deadpool_parts.specs.declared.errors.PoolError.{PoolError}
@@ -21,17 +21,26 @@ use Rattle.deadpool_managed.specs.declared.kept.Kept.{Kept}
 use Rattle.deadpool_managed.specs.declared.work.Phase.TheVariants.{Unpolled}
 use Rattle.deadpool_shared.specs.Calling.{CallsFromSeat}
 use Rattle.deadpool_shared.specs.Counts.{Holder, IsKnown, counts_of, had}
+use Rattle.deadpool_shared.specs.Waits.{WaitsOn, is_queued, nanos_waited}
+use Rattle.deadpool_shared.specs.declared.waiting.Waiting.{Waiting}
+use Rattle.deadpool_shared.specs.declared.waiting.Waiting.TheVariants.{Never}
 
--- its timeouts, how far it is, and what it holds, once it was handed out shares
+-- its timeouts, how far it is, how long it waits, and what it holds, once it was handed out shares
 pub record Get (D V C R S : Type 0) : Type 0 where
   pub timeouts : D
   pub progress : Working V C R S
+  pub waiting : Waiting
   pub shares : Option Holder
 
 module _ {D V C R S : Type 0} where
   -- it was not polled yet
   abbrev pub getting : D → Get D V C R S
-  getting timeouts = record { timeouts = timeouts; progress = record { phase = Unpolled; slot = None }; shares = None }
+  getting timeouts = record {
+    timeouts = timeouts;
+    progress = record { phase = Unpolled; slot = None };
+    waiting = Never;
+    shares = None;
+  }
 
   abbrev pub stage_in : Get D V C R S → Stage V C R S
   stage_in get = stage_of get.progress.phase get.progress.slot
@@ -55,19 +64,24 @@ seat_desk = record {
       IsKnown step reply × CallsFromSeat step (number_in (option_or was hand)) reply s s';
 }
 
-module _ {O W V E : Type 0} (comes_from : O → W → Type 0) (slot_of : O → Slot (Kept V)) (holder_of : O → Holder) where
-  -- how a poll ends: an object that is given takes what the holder has with it, which otherwise stays with the get
-  abbrev pub Ends : Turn V E → Option Holder → Option Holder → Poll (Result W (PoolError E)) → Type 0
-  Ends (turn.Done (Ok slot)) holder left (poll.Ready (Ok w)) =
-      (o : O) × (comes_from o w × (slot_of o ≡ slot) × (holder ≡ Some (holder_of o)))
-  Ends (turn.Done (Err cause)) holder left (poll.Ready (Err given)) = (given ≡ cause) × (left ≡ holder)
-  Ends turn.Pending holder left poll.Pending = left ≡ holder
-  Ends turn.More holder left poll.Pending = left ≡ holder
-  Ends _ _ _ _ = ⊥
+module _ {O W V E : Type 0} (comes_from : O → W → Type 0) (slot_of : O → Slot (Kept V)) (holder_of : O → Holder)
+    (waited_of : O → ℕ) where
+  -- How a poll ends: an object that is given takes what the holder has with it, which otherwise stays with the get, and
+  -- knows how long the get waited.
+  abbrev pub Ends : Turn V E → Option Holder → Waiting → Option Holder → Poll (Result W (PoolError E)) → Type 0
+  Ends (turn.Done (Ok slot)) holder waiting left (poll.Ready (Ok w)) =
+      (o : O) × (comes_from o w × (slot_of o ≡ slot) × (holder ≡ Some (holder_of o))
+      × (waited_of o ≡ nanos_waited waiting))
+  Ends (turn.Done (Err cause)) holder waiting left (poll.Ready (Err given)) = (given ≡ cause) × (left ≡ holder)
+  Ends turn.Pending holder waiting left poll.Pending = left ≡ holder
+  Ends turn.More holder waiting left poll.Pending = left ≡ holder
+  Ends _ _ _ _ _ = ⊥
 
-  -- One poll of a get between threads: its calls are those of one run of a get's definition, one after the other.
-  abbrev pub PollsFrom : {C R S F A : Type 0} → (Moment → Lent V E C R S F A) → Option Holder → Stage V C R S
-      → Option Holder → Stage V C R S → Poll (Result W (PoolError E)) → Type 0
-  PollsFrom lent holder stage left stage' polled =
+  -- One poll of a get between threads: its calls are those of one run of a get's definition at a moment, one after the
+  -- other. It joins and leaves the queue at that moment too.
+  abbrev pub PollsFrom : {C R S F A : Type 0} → (Moment → Lent V E C R S F A) → Option Holder → Stage V C R S → Waiting
+      → Option Holder → Stage V C R S → Waiting → Poll (Result W (PoolError E)) → Type 0
+  PollsFrom lent holder stage waiting left stage' waiting' polled =
       (now : Moment) × ((came : Turn V E) × ((after : Option Holder)
-      × (PollsAt seat_desk (lent now) holder stage after stage' came × Ends came after left polled)))
+      × (PollsAt seat_desk (lent now) holder stage after stage' came
+      × WaitsOn now (is_queued stage') waiting waiting' × Ends came after waiting' left polled)))

@@ -4,8 +4,6 @@
 pub mod Names
 -- What each get and object holds of the pool's three counts.
 pub mod Counts
--- Who waits for the end of a pool.
-pub mod Ends
 -- What each step under the lock does to the pool and to the wakers.
 pub mod Locked
 -- What a step adds to the history.
@@ -14,6 +12,8 @@ pub mod Calling
 pub mod Drains
 -- A drain, as contracts see it.
 pub mod Draining
+-- How long a get waits for a place.
+pub mod Waits
 -- What a get gives, and what its poll is at its seat.
 pub mod Gets
 -- What contracts of this crate cite of those below.

@@ -11,8 +11,8 @@ use Rattle.deadpool_desk.specs.declared.step.Step.TheVariants.{Enter, Ask, Withd
 use Rattle.deadpool_journal.specs.Journaling.{Journaling}
 use Rattle.deadpool_journal.specs.Steps.{MakesNoted, NotifiesUnnoted}
 use Rattle.deadpool_journal.specs.declared.journal.Journal.{Journal}
+use Rattle.deadpool_lock.specs.Ends.{EndsState}
 use Rattle.deadpool_lock.specs.Places.{with_room, Follows}
-use Rattle.deadpool_shared.specs.Ends.{EndsState}
 
 -- the ticket of a get that makes this step
 abbrev pub ticket_of : Step → Option ℕ

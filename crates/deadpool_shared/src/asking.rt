@@ -5,6 +5,8 @@ ghost use Rattle.deadpool_managed.specs.Steps.{lent};
 ghost use Rattle.deadpool_parts.specs.declared.errors.PoolError.TheVariants.{OutOfMemory};
 ghost use Rattle.deadpool_shared.specs.Counts.{counts_of, had};
 ghost use Rattle.deadpool_shared.specs.Gets.{GivesReady, PollsFrom, getting, held_while, stage_in};
+ghost use Rattle.deadpool_shared.specs.Waits.{is_queued};
+ghost use Rattle.deadpool_managed.specs.Phases.{stage_of};
 
 use crate::ledgers::Ledgers;
 use crate::object::{Checkout, Object};
@@ -12,14 +14,15 @@ use crate::seat::Seat;
 use crate::shared::Shared;
 use crate::shares::Shares;
 use crate::timeouts::HasTimeouts;
+use crate::waiting::Waiting;
 use deadpool_lock::{Home, Registration, Request, Stage, wake_at};
-use deadpool_managed::{AsyncHook, Came, Clock, Manager, PoolError, Progress, SyncHook};
+use deadpool_managed::{AsyncHook, Came, Clock, Manager, PoolError, Progress, StageKind, SyncHook};
 use futures::task::{Context, Poll};
 use std::marker::{Model, PhantomData};
 use std::sync::Wait;
 
-/// What a get asks. It cannot be dropped, since its shares cannot. Contracts see its timeouts, how far it is, and its
-/// shares.
+/// What a get asks. It cannot be dropped, since its shares cannot. Contracts see its timeouts, how far it is, how
+/// long it waits, and its shares.
 pub struct Getting<
     M: Manager,
     F: SyncHook<M>,
@@ -36,6 +39,7 @@ pub struct Getting<
     // While it is pending with a deadline.
     alarm: Option<C::Alarm>,
     progress: Progress<M, A>,
+    waiting: Waiting,
     of: PhantomData<(F, R, W)>,
 }
 
@@ -53,7 +57,12 @@ impl<
 
     ghost Value = { Get D M.Type M.Creating M.Recycling A.State };
 
-    ghost view = { λ g. record { timeouts = g.timeouts; progress = g.progress; shares = g.shares } };
+    ghost view = { λ g. record {
+      timeouts = g.timeouts;
+      progress = g.progress;
+      waiting = g.waiting;
+      shares = g.shares;
+    } };
 }
 
 impl<
@@ -74,6 +83,7 @@ impl<
         Getting {
             timeouts,
             progress: Progress::new(),
+            waiting: Waiting::Never,
             shares: None,
             alarm: None,
             of: PhantomData,
@@ -110,10 +120,10 @@ where
     ghost refuses = { λ _ ended. ended ≡ Err OutOfMemory };
 
     ghost polls = { λ shared get turn left. (left.timeouts ≡ get.timeouts)
-        × PollsFrom W.from_gives (λ o. o.slot) (λ o. o.out.shares)
+        × PollsFrom W.from_gives (λ o. o.slot) (λ o. o.out.shares) (λ o. o.waited)
         (λ now. lent M.Manager F.SyncHook A.AsyncHook
         shared.environment now (D.chosen get.timeouts shared.timeouts))
-        get.shares (stage_in get) left.shares (stage_in left) turn };
+        get.shares (stage_in get) get.waiting left.shares (stage_in left) left.waiting turn };
 
     #[inline(always)]
     fn poll(
@@ -132,16 +142,19 @@ where
         Shares::put(&mut self.shares, seat.into_shares());
         match came {
             Came::More | Came::Pending => {
+                self.waiting.see(now, is_queued(&self.progress));
                 see_to_waking(&shared.clock, &self.progress, &mut self.alarm, cx);
                 return Poll::Pending;
             }
             Came::Failed(cause) => {
+                self.waiting.see(now, is_queued(&self.progress));
                 self.alarm = None;
                 *stage = Stage::Ended;
                 return refuse(cause);
             }
             Came::Given => self.alarm = None,
         }
+        let waited = self.waiting.end(now);
         let Some(slot) = self.progress.give() else {
             return Poll::Pending;
         };
@@ -149,13 +162,14 @@ where
             unreachable!();
         };
         let out = Checkout::new(stage.end(), shares);
-        Poll::Ready(Ok(W::from(Object { out, slot })))
+        Poll::Ready(Ok(W::from(Object { out, slot, waited })))
     }
 
     fn cancel(self, _home: Home<Shared<M, F, A, C, R, L>>, shared: &Shared<M, F, A, C, R, L>) {
         let Self {
             timeouts: _,
             mut progress,
+            waiting: _,
             shares,
             alarm: _,
             of: _,
@@ -175,12 +189,20 @@ where
         let Self {
             timeouts: _,
             progress: _,
+            waiting: _,
             shares,
             alarm: _,
             of: _,
         } = self;
         Shares::hand_in(shares);
     }
+}
+
+// Whether a poll left its get in the queue.
+fn is_queued<M: Manager, A: AsyncHook<M>>(progress: &Progress<M, A>) -> bool
+    ensures { result ≡ is_queued (stage_of progress.now.phase progress.now.slot) }
+{
+    matches!(progress.kind(), StageKind::Queued(_))
 }
 
 // A get ends without an object.

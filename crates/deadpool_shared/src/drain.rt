@@ -6,13 +6,12 @@ ghost use Rattle.futures.specs.declared.task.Poll.TheVariants.{Ready};
 ghost use Rattle.futures.specs.Task.{Covers, Keeps};
 ghost use Rattle.deadpool_shared.specs.Drains.{CallsOfDrain, EndsEmpty, PollsDrain};
 
-use crate::ended::DrainError;
 use crate::ledgers::{History, Ledgers};
 use crate::pool::Pool;
 use crate::shared::Shared;
 use deadpool_chronicle::Caller;
 use deadpool_history::Line;
-use deadpool_lock::{Handle, Registration, wake_at};
+use deadpool_lock::{DrainError, Handle, Registration, wake_at};
 use deadpool_managed::gate::Ticket;
 use deadpool_managed::{AsyncHook, Clock, Manager, Moment, Status, SyncHook};
 use deadpool_parts::deadline::{deadline_after, is_reached};

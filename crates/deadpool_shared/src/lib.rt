@@ -7,8 +7,6 @@
 mod asking;
 mod build;
 mod drain;
-mod ended;
-mod ends;
 mod ledgers;
 mod locked;
 mod object;
@@ -18,14 +16,15 @@ mod shared;
 mod shares;
 mod steps;
 mod timeouts;
+mod waiting;
 
 pub use asking::Getting;
 pub use build::Build;
 pub use deadpool_chronicle::Caller;
 pub use deadpool_history::Line;
 pub use deadpool_journal::{Entry, Journal, Report, Tally};
+pub use deadpool_lock::DrainError;
 pub use drain::Drain;
-pub use ended::DrainError;
 pub use ledgers::{Blanks, History, Ledgers};
 pub use object::Object;
 pub use pool::{Get, GetRef, Pool, WeakPool};

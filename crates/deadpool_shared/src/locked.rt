@@ -24,14 +24,13 @@ ghost use Rattle.deadpool_shared.specs.Locked.{IsCopy, MakesLocked, TellsEnd, Te
 
 mod draining;
 
-use crate::ends::Ends;
 use crate::ledgers::{Blanks, History, Ledgers};
 use crate::shares::{Books, Shares};
 use crate::steps::{left_by, may_wait, needed, ticket_after, ticket_of};
 use deadpool_chronicle::{Beginning, Caller};
 use deadpool_history::{Line, Recorded};
 use deadpool_journal::{Journal, Journaled, Tally};
-use deadpool_lock::{Wakers, Wakes};
+use deadpool_lock::{Ends, Wakers, Wakes};
 use deadpool_managed::{
     Desk, OwnerDesk, OwnerReply, OwnerStep, Reply, RetainResult, Retainer, Slot, Status, Step,
 };

@@ -1,5 +1,6 @@
 //! An object that is out.
 ghost use Rattle.std.specs.Prelude.{◌≡◌, Some, None, IfOk, IfSome};
+ghost use Rattle.std.specs.Duration.{as_nanos};
 ghost use Rattle.deadpool_managed.specs.Answers.{LeavesOrKeeps};
 ghost use Rattle.deadpool_managed.specs.Prepare.{with_value};
 ghost use Rattle.deadpool_desk.specs.declared.step.Held.{Held};
@@ -23,6 +24,7 @@ use deadpool_managed::{
 use std::alloc::AllocError;
 use std::ops::{Deref, DerefMut};
 use std::sync::Wait;
+use std::time::Duration;
 
 // What an object has that has not gone back. It cannot be dropped, since its shares cannot.
 pub(crate) struct Checkout<
@@ -66,6 +68,8 @@ pub struct Object<
     L: Ledgers,
 > {
     pub(crate) out: Checkout<M, F, A, C, R, L>,
+    // How long its get waited, in nanoseconds. Here it takes no room: the slot's place is a multiple of 16.
+    pub(crate) waited: u64,
     pub(crate) slot: Slot<Kept<M::Type>>,
 }
 
@@ -94,7 +98,11 @@ impl<M: Manager, F: SyncHook<M>, A: AsyncHook<M>, C: Clock, R: Wait + Drop, L: L
         ensures call { (reply : Reply) × HasCalled (λ e. e ≡ entry.Made step.Take None reply)
             this.out.shares.caller result.1 }
     {
-        let Self { out, slot } = this;
+        let Self {
+            out,
+            slot,
+            waited: _,
+        } = this;
         let Checkout { home, shares } = out;
         let mut registration = Registration::new();
         let mut seat = Seat::new(home.shared(), Some(shares), &mut registration);
@@ -117,7 +125,11 @@ impl<M: Manager, F: SyncHook<M>, A: AsyncHook<M>, C: Clock, R: Wait + Drop, L: L
             × HasCalled (λ e. e ≡ entry.Made step.Back (Some this.slot.number) reply)
             this.out.shares.caller result }
     {
-        let Self { out, slot } = this;
+        let Self {
+            out,
+            slot,
+            waited: _,
+        } = this;
         let Checkout { home, shares } = out;
         let mut registration = Registration::new();
         let mut seat = Seat::new(home.shared(), Some(shares), &mut registration);
@@ -149,6 +161,14 @@ impl<M: Manager, F: SyncHook<M>, A: AsyncHook<M>, C: Clock, R: Wait + Drop, L: L
         ensures { result.now ≡ this.now.slot.value.metrics }
     {
         &this.slot.value.metrics
+    }
+
+    /// How long its get waited for a place, by the pool's clock: zero if the get was served at once. It counts from the
+    /// poll that joined the queue to the poll that left it, so what the manager and the hooks took is no part of it.
+    pub fn waited(this: &Self) -> Duration
+        ensures { as_nanos result ≡ this.now.waited }
+    {
+        Duration::from_nanos(this.waited)
     }
 
     /// One more handle of its pool, if the pool has a handle left. `AllocError` says that there was no memory for it,

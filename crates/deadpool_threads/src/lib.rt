@@ -14,6 +14,7 @@ mod plain;
 mod sweeper;
 mod threads;
 mod trying;
+mod unmanaged_draining;
 mod user;
 
 pub use blocking::Blocking;

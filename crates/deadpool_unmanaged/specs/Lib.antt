@@ -8,6 +8,8 @@ pub mod Replies
 pub mod Kept
 -- What a pool counts.
 pub mod Counts
+-- What is left in a pool that has closed, and what its steps do with that.
+pub mod Closing
 -- A get and an add that are polled over it, and when a poll joins a queue.
 pub mod Gets
 pub mod Adds

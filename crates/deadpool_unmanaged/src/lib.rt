@@ -8,6 +8,7 @@ mod config_json;
 mod counts;
 mod error;
 mod get;
+pub mod laws;
 mod state;
 mod step;
 

@@ -4,7 +4,8 @@ use Rattle.deadpool_unmanaged_history.proofs.Words.{nat_lt}
 use Rattle.deadpool_unmanaged_history.proofs.Words.{ap, sym, arith, inl, inr, length-append, ltb-true, ltb-false}
 use Rattle.deadpool_unmanaged_history.proofs.Words.{cases_Bool}
 use Rattle.deadpool_unmanaged_history.proofs.Words.{lt-ltb, le-ltb, length-take-le, take_all, take-append-le}
-use Rattle.deadpool_unmanaged_history.proofs.Words.{LogState, no_entries, noted, Entry, HasFirst}
+use Rattle.deadpool_unmanaged_history.proofs.Words.{LogState, no_entries, noted, Entry, HasFirst, no_tally, Journaling}
+use Rattle.deadpool_unmanaged_history.proofs.Words.{JournalInvariant}
 
 module _ {O : Type 0} where
   -- there is none yet
@@ -73,3 +74,12 @@ module _ {O : Type 0} where
         | inl room ↦ rw room (first_if_room kept es e first (ltb-true (length kept.entries) kept.most room))
         | inr none ↦ rw none (first_if_full kept es e first (ltb-false (length kept.entries) kept.most none))
       ]
+
+-- nothing is counted before the first step
+pub has_no_tally : {T O : Type 0} (name : T → O) (j : Journaling T O) → JournalInvariant name j
+    → j.log ≡ no_entries j.log.most → j.tally ≡ no_tally
+has_no_tally {O} name j k empty =
+    let entries : j.log.entries ≡ [] = ap (λ (l : LogState O). l.entries) empty in
+    let free : j.log.is_full ≡ false = ap (λ (l : LogState O). l.is_full) empty in
+    let counts = rw entries at k.counts.2 in
+    sym (k.counts.3 free).1 ∙ counts.1

@@ -1,13 +1,15 @@
 -- One line more leads one step further.
 use Rattle.deadpool_unmanaged_history.proofs.Words.{◌≡◌, ◌∙◌, ℕ, List, [], ◌∷◌, ◌++◌, map, Option, ap, sym}
 use Rattle.deadpool_unmanaged_history.proofs.Words.{map-append, IsPrefix, Calls, Knowing, State, CoreState, bounded}
-use Rattle.deadpool_unmanaged_history.proofs.Words.{opened, silent, Runs-snoc, step_silent, Journaling, Notes, noted}
+use Rattle.deadpool_unmanaged_history.proofs.Words.{opened, silent, RunsCounted-snoc, runs, step_silent, Journaling}
+use Rattle.deadpool_unmanaged_history.proofs.Words.{Notes, noted, size, counted, no_tally, Tally, IsTallyOf, refl, ◌-◌}
 use Rattle.deadpool_unmanaged_history.proofs.Words.{Steps, Entry, Journal, Result, Ok, Err, IfOk, AllocError, HasCalled}
 use Rattle.deadpool_unmanaged_history.proofs.Words.{IsBeginning, IsLegal, IsNext, LeadsTo, LeadsWith, entries_of}
 use Rattle.deadpool_unmanaged_history.proofs.Words.{lines_of, named, Line, false, nat_lt, length, drop, drop_all}
 use Rattle.deadpool_unmanaged_history.proofs.Words.{take-append-drop, ltb-false, TakesAddWake, TakesGetWake}
 use Rattle.deadpool_unmanaged_history.proofs.First.{has_first}
 use Rattle.deadpool_unmanaged_history.specs.declared.line.Line.TheVariants.{Opening, Next}
+use Rattle.deadpool_unmanaged_journal.specs.declared.entry.Entry.TheVariants.{Made, Owner}
 
 module _ {T : Type 0} where
   entries_of-snoc : (steps : List (ℕ × Entry T)) (n : ℕ) (e : Entry T)
@@ -23,6 +25,11 @@ nothing_after : {E : Type 0} (most : ℕ) (es : List E) → nat_lt most (length 
 nothing_after most es none = drop_all most es (ltb-false most (length es) none)
 
 module _ {T O : Type 0} (name : T → O) where
+  -- an entry counts the same with the name of its object
+  counted_named : (gone : ℕ) (e : Entry T) (t : Tally) → counted gone (named name e) t ≡ counted gone e t
+  counted_named gone (Made step object reply) t = refl
+  counted_named gone (Owner step reply) t = refl
+
   -- the entry of a step leads to where the step does
   pub leads_with : (j j' : Journaling T O) (log : List (ℕ × Line T)) (e : Entry T) → Notes (named name e) j j'
       → Steps j.core.pool e j'.core.pool → LeadsTo name j log → LeadsWith name j' log e
@@ -30,16 +37,19 @@ module _ {T O : Type 0} (name : T → O) where
       let limit : j'.limit ≡ j.limit = ap (λ (k : Journaling T O). k.limit) notes in
       let most : j'.max_waiting ≡ j.max_waiting = ap (λ (k : Journaling T O). k.max_waiting) notes in
       let kept : j'.log ≡ noted (named name e) j.log = ap (λ (k : Journaling T O). k.log) notes in
+      let gone = size j.core.pool - size j'.core.pool in
+      let tally : j'.tally ≡ counted gone e j.tally =
+      ap (λ (k : Journaling T O). k.tally) notes ∙ counted_named gone e j.tally in
       let es = entries_of leads.0 in
       let all : map (named name) (es ++ e ∷ []) ≡ map (named name) es ++ named name e ∷ [] =
       map-append (named name) es (e ∷ []) in
-      rw (limit, most, kept) (
+      rw (limit, most, kept, tally) (
         leads.0,
         (
           leads.1.0,
           (
-            Runs-snoc (bounded j.max_waiting (opened j.limit [])) (silent j.core.pool) (silent j'.core.pool) es e
-                leads.1.1.0 (step_silent j.core.pool j'.core.pool e made),
+            RunsCounted-snoc (bounded j.max_waiting (opened j.limit [])) (silent j.core.pool) (silent j'.core.pool)
+                no_tally j.tally es e leads.1.1.0 (step_silent j.core.pool j'.core.pool e made),
             rw all (has_first j.log (map (named name) es) (named name e) leads.1.1.1),
           ),
         ),
@@ -73,6 +83,12 @@ module _ {T O : Type 0} (name : T → O) where
 
   pub is_legal : (j : Journaling T O) (log : List (ℕ × Line T)) → LeadsTo name j log → IsLegal log
   is_legal j log leads =
+      let run = runs (bounded j.max_waiting (opened j.limit [])) (silent j.core.pool) no_tally j.tally
+      (entries_of leads.0) leads.1.1.0 in
+      (j.limit, (j.max_waiting, (leads.0, (leads.1.0, (silent j.core.pool, run)))))
+
+  pub is_tally_of : (j : Journaling T O) (log : List (ℕ × Line T)) → LeadsTo name j log → IsTallyOf log j.tally
+  is_tally_of j log leads =
       (j.limit, (j.max_waiting, (leads.0, (leads.1.0, (silent j.core.pool, leads.1.1.0)))))
 
   -- what a call is to its caller, by what it is to the history

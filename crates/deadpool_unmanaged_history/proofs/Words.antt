@@ -13,15 +13,18 @@ pub use Rattle.std.specs.Option.{option_or}
 pub use Rattle.std.specs.declared.alloc.AllocError.{AllocError}
 pub use Rattle.deadpool_chronicle.specs.History.{Calls, Knowing}
 pub use Rattle.deadpool_unmanaged.specs.{State.State, State.CoreState, State.bounded, State.last_idle, State.opened}
+pub use Rattle.deadpool_unmanaged.specs.{State.size}
 pub use Rattle.deadpool_unmanaged.specs.{StateSteps.Does, StateSteps.TakesAddWake, StateSteps.TakesGetWake}
 pub use Rattle.deadpool_unmanaged.specs.{Replies.Brings, Replies.Leaves, declared.step.Reply.Reply}
 pub use Rattle.deadpool_unmanaged.specs.{declared.step.Step.Step}
-pub use Rattle.deadpool_unmanaged_journal.proofs.Kept.{Runs-snoc, step_silent}
+pub use Rattle.deadpool_unmanaged_journal.proofs.{Balance.RunsCounted-snoc, Balance.runs, Kept.step_silent}
 pub use Rattle.deadpool_unmanaged_journal.specs.{ByName.silent, Journaling.Journaling, Journaling.Notes}
-pub use Rattle.deadpool_unmanaged_journal.specs.{Copies.HasSteps}
+pub use Rattle.deadpool_unmanaged_journal.specs.{Copies.HasSteps, Kept.JournalInvariant, Tally.counted, Tally.no_tally}
+pub use Rattle.deadpool_unmanaged_journal.specs.{declared.tally.Tally.Tally}
 pub use Rattle.deadpool_unmanaged_journal.specs.{LogState.LogState, LogState.no_entries, LogState.noted, Replay.Steps}
 pub use Rattle.deadpool_unmanaged_journal.specs.{Replay.Runs, declared.entry.Entry.Entry}
 pub use Rattle.deadpool_unmanaged_journal.specs.{declared.journal.Journal.Journal}
 pub use Rattle.deadpool_unmanaged_history.specs.History.{HasCalled, HasFirst, IsBeginning, IsLegal, IsNext, LeadsTo}
+pub use Rattle.deadpool_unmanaged_history.specs.History.{IsTallyOf}
 pub use Rattle.deadpool_unmanaged_history.specs.History.{LeadsWith, entries_of, lines_of, named, object_of}
 pub use Rattle.deadpool_unmanaged_history.specs.declared.line.Line.{Line}

@@ -7,10 +7,12 @@ use Rattle.deadpool_unmanaged.specs.declared.step.Reply.TheVariants.{Stored, Kep
 use Rattle.deadpool_unmanaged_journal.specs.ByName.{name_in, silent}
 use Rattle.deadpool_unmanaged_journal.specs.Journaling.{Journaling}
 use Rattle.deadpool_unmanaged_journal.specs.LogState.{LogState}
-use Rattle.deadpool_unmanaged_journal.specs.Replay.{Runs}
+use Rattle.deadpool_unmanaged_journal.specs.Replay.{Runs, RunsCounted}
+use Rattle.deadpool_unmanaged_journal.specs.Tally.{no_tally}
 use Rattle.deadpool_unmanaged_journal.specs.declared.entry.Entry.{Entry}
 use Rattle.deadpool_unmanaged_journal.specs.declared.entry.Entry.TheVariants.{Made, Owner}
 use Rattle.deadpool_unmanaged_journal.specs.declared.journal.Journal.{Journal}
+use Rattle.deadpool_unmanaged_journal.specs.declared.tally.Tally.{Tally}
 use Rattle.deadpool_unmanaged_history.specs.declared.line.Line.{Line}
 use Rattle.deadpool_unmanaged_history.specs.declared.line.Line.TheVariants.{Opening, Next}
 
@@ -35,6 +37,13 @@ module _ {T : Type 0} where
   IsLegal log =
       (limit : ℕ) × ((max_waiting : Option ℕ) × ((steps : List (ℕ × Entry T)) × (IsHistoryOf limit max_waiting steps log
       × ((last : State T) × Runs (bounded max_waiting (opened limit [])) (entries_of steps) last))))
+
+  -- The tally counts each step once, and nothing else.
+  abbrev pub IsTallyOf : List (ℕ × Line T) → Tally → Type 0
+  IsTallyOf log tally =
+      (limit : ℕ) × ((max_waiting : Option ℕ) × ((steps : List (ℕ × Entry T)) × (IsHistoryOf limit max_waiting steps log
+      × ((last : State T)
+      × RunsCounted (bounded max_waiting (opened limit [])) no_tally (entries_of steps) last tally))))
 
   -- a line of a step with one of these entries
   abbrev pub IsNext : (Entry T → Type 0) → Line T → Type 0
@@ -75,18 +84,20 @@ module _ {T O : Type 0} (name : T → O) where
       × (journal.full ≡ false → rest ≡ []))))
 
   -- The history's lines are how the pool opened, and its steps, one after the other, from there to the state that it
-  -- has. The journal has the first of these steps.
+  -- has. The tally counts these steps, and the journal has the first of them.
   abbrev pub LeadsTo : Journaling T O → List (ℕ × Line T) → Type 0
   LeadsTo j log =
       (steps : List (ℕ × Entry T)) × (IsHistoryOf j.limit j.max_waiting steps log
-      × (Runs (bounded j.max_waiting (opened j.limit [])) (entries_of steps) (silent j.core.pool)
+      × (RunsCounted (bounded j.max_waiting (opened j.limit [])) no_tally (entries_of steps)
+      (silent j.core.pool) j.tally
       × HasFirst j.log (map named (entries_of steps))))
 
   -- The history leads there with this entry at its end.
   abbrev pub LeadsWith : Journaling T O → List (ℕ × Line T) → Entry T → Type 0
   LeadsWith j log e =
       (steps : List (ℕ × Entry T)) × (IsHistoryOf j.limit j.max_waiting steps log
-      × (Runs (bounded j.max_waiting (opened j.limit [])) (entries_of steps ++ e ∷ []) (silent j.core.pool)
+      × (RunsCounted (bounded j.max_waiting (opened j.limit [])) no_tally (entries_of steps ++ e ∷ [])
+      (silent j.core.pool) j.tally
       × HasFirst j.log (map named (entries_of steps ++ e ∷ []))))
 
 -- a pool, and the history of its callers

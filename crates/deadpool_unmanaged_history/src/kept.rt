@@ -36,6 +36,10 @@ impl<T: Drop> KeepsState<T> for Core<T> {
         Core::is_closed(self)
     }
 
+    fn is_drained(&self) -> bool {
+        Core::is_drained(self)
+    }
+
     fn get_would_queue(&self) -> bool {
         Core::get_would_queue(self)
     }
@@ -98,6 +102,10 @@ impl<T: Drop, K: Naming<T>, H: Chronicle> KeepsState<T> for Recorded<T, K, H> {
 
     fn is_closed(&self) -> bool {
         Recorded::is_closed(self)
+    }
+
+    fn is_drained(&self) -> bool {
+        Recorded::is_drained(self)
     }
 
     fn get_would_queue(&self) -> bool {

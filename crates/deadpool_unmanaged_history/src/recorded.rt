@@ -3,23 +3,28 @@ ghost use Rattle.std.specs.Prelude.{◌≡◌, ◌+◌, [], ◌∷◌, IfOk, nat
 ghost use Rattle.std.specs.Option.{option_or};
 ghost use mathlib.Core.List.{IsPrefix};
 ghost use Rattle.deadpool_chronicle.specs.History.{Calls, calls_by};
+ghost use Rattle.deadpool_unmanaged.specs.Closing.{is_drained};
 ghost use Rattle.deadpool_unmanaged.specs.Replies.{Brings, IsReplyTo, Leaves};
 ghost use Rattle.deadpool_unmanaged.specs.State.{add_would_queue, bounded, get_would_queue, has_due, opened};
+ghost use Rattle.deadpool_unmanaged.specs.State.{size};
 ghost use Rattle.deadpool_unmanaged_journal.specs.Copies.{HasSteps};
 ghost use Rattle.deadpool_unmanaged_journal.specs.LogState.{no_entries};
 ghost use Rattle.deadpool_unmanaged_journal.specs.OwnerSteps.{IsOwnerReplyTo};
 ghost use Rattle.deadpool_unmanaged_journal.specs.Steps.{MakesNoted, MakesForOwnerNoted};
 ghost use Rattle.deadpool_unmanaged_journal.specs.Steps.{TellsAddUnnoted, TellsGetUnnoted};
+ghost use Rattle.deadpool_unmanaged_journal.specs.Tally.{AreBalanced};
 ghost use Rattle.deadpool_unmanaged_journal.specs.declared.entry.Entry.TheVariants as entry;
-ghost use Rattle.deadpool_unmanaged_history.specs.History.{HasCalled, IsBeginning, IsLegal, IsNext, LeadsTo};
-ghost use Rattle.deadpool_unmanaged_history.specs.History.{object_of};
+ghost use Rattle.deadpool_unmanaged_journal.specs.declared.owner_step.OwnerReply.TheVariants as owner_reply;
+ghost use Rattle.deadpool_unmanaged_journal.specs.declared.owner_step.OwnerStep.TheVariants as step;
+ghost use Rattle.deadpool_unmanaged_history.specs.History.{HasCalled, IsBeginning, IsLegal, IsNext};
+ghost use Rattle.deadpool_unmanaged_history.specs.History.{IsTallyOf, LeadsTo, object_of};
 ghost use Rattle.deadpool_unmanaged_history.specs.declared.line.Line.TheVariants as line;
 
 use crate::line::Line;
 use deadpool_chronicle::{Author, Beginning, Caller, Chronicle, Says};
 use deadpool_unmanaged::gate::Ticket;
-use deadpool_unmanaged::{Reply, Step};
-use deadpool_unmanaged_journal::{Journal, Journaled, Naming, OwnerReply, OwnerStep};
+use deadpool_unmanaged::{Reply, Status, Step};
+use deadpool_unmanaged_journal::{Journal, Journaled, Naming, OwnerReply, OwnerStep, Tally};
 use std::alloc::AllocError;
 use std::marker::Model;
 
@@ -97,6 +102,7 @@ impl<T: Drop, K: Naming<T>, H: Chronicle> Recorded<T, K, H> {
             ≡ (first.old.number, line.Opening pool.limit pool.max_waiting) ∷ [] }
         ensures beginning { result.1.log ≡ result.0.log }
     {
+        pool.laws();
         author.note::<Journaled<T, K>, (), ToOpening>(first, &pool, &());
         let beginning = author.seen();
         (Recorded { pool, author }, beginning)
@@ -185,6 +191,32 @@ impl<T: Drop, K: Naming<T>, H: Chronicle> Recorded<T, K, H> {
         author.audit(caller);
     }
 
+    /// How often each thing has happened since the pool was opened. It is no step.
+    pub fn tally(&self) -> Tally
+        ensures tally { result ≡ self.now.pool.tally }
+        ensures balances { AreBalanced (size self.now.pool.core.pool) result }
+        ensures counted { IsTallyOf self.now.log result }
+    {
+        self.pool.tally()
+    }
+
+    /// The same, and how the pool stands, which is one entry more of its caller's: the last that is counted.
+    pub fn tally_by(&mut self, caller: &mut Caller<Line<T>, H>) -> (Tally, Status)
+        ensures made { MakesForOwnerNoted self.old.pool step.Status (owner_reply.Stands result.1)
+            self.new.pool }
+        ensures tally { result.0 ≡ self.new.pool.tally }
+        ensures balances { AreBalanced result.1.size result.0 }
+        ensures counted { IsTallyOf caller.new.seen result.0 }
+        ensures called { HasCalled
+            (λ e. e ≡ entry.Owner step.Status (owner_reply.Stands result.1))
+            caller.old caller.new }
+    {
+        match self.make_for_owner(caller, &OwnerStep::Status) {
+            OwnerReply::Stands(status) => (self.tally(), status),
+            _ => unreachable!(),
+        }
+    }
+
     /// A copy of the journal. It is no step.
     pub fn journal(&self) -> Result<Journal<K::Name>, AllocError>
         ensures limit { IfOk result (λ journal. journal.limit ≡ self.now.pool.limit) }
@@ -220,6 +252,13 @@ impl<T: Drop, K: Naming<T>, H: Chronicle> Recorded<T, K, H> {
         ensures { result ≡ not self.now.pool.core.pool.is_open }
     {
         self.pool.is_closed()
+    }
+
+    /// Whether the pool was closed and no object is left, idle or out. It is no step.
+    pub fn is_drained(&self) -> bool
+        ensures { result ≡ is_drained self.now.pool.core.pool }
+    {
+        self.pool.is_drained()
     }
 
     /// Whether a pool handle is left. It is no step.

@@ -4,12 +4,15 @@
 pub mod ByName
 pub mod OwnerSteps
 pub mod LogState
+pub mod Tally
 pub mod Journaling
 pub mod Steps
 -- What a journal proves: replayed, its entries are steps of the pool.
 pub mod Replay
 pub mod Kept
 pub mod Copies
+-- What the owner's steps do with a pool that has closed.
+pub mod Closing
 -- How the fields are seen as these. No contract of another crate cites them.
 pub mod LogFields
 pub mod JournaledFields

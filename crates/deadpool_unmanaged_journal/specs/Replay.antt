@@ -1,11 +1,13 @@
 -- A journal, replayed: its entries as steps of a pool, whose objects are names.
-use Rattle.std.specs.Prelude.{◌≡◌, List, [], ◌∷◌}
-use Rattle.deadpool_unmanaged.specs.State.{State}
+use Rattle.std.specs.Prelude.{◌≡◌, ◌-◌, List, [], ◌∷◌}
+use Rattle.deadpool_unmanaged.specs.State.{State, size}
 use Rattle.deadpool_unmanaged.specs.StateSteps.{Does}
 use Rattle.deadpool_unmanaged_journal.specs.ByName.{silent}
 use Rattle.deadpool_unmanaged_journal.specs.OwnerSteps.{DoesForOwner}
+use Rattle.deadpool_unmanaged_journal.specs.Tally.{counted}
 use Rattle.deadpool_unmanaged_journal.specs.declared.entry.Entry.{Entry}
 use Rattle.deadpool_unmanaged_journal.specs.declared.entry.Entry.TheVariants.{Made, Owner}
+use Rattle.deadpool_unmanaged_journal.specs.declared.tally.Tally.{Tally}
 
 module _ {O : Type 0} where
   -- the entry is a step with the reply that it has there
@@ -21,3 +23,9 @@ module _ {O : Type 0} where
   abbrev pub Runs : State O → List (Entry O) → State O → Type 0
   Runs d [] d' = d' ≡ d
   Runs d (e ∷ es) d' = (next : State O) × (IsStep d e next × Runs next es d')
+
+  -- The same, and by them one tally becomes another.
+  abbrev pub RunsCounted : State O → Tally → List (Entry O) → State O → Tally → Type 0
+  RunsCounted d t [] d' t' = (d' ≡ d) × (t' ≡ t)
+  RunsCounted d t (e ∷ es) d' t' =
+      (next : State O) × (IsStep d e next × RunsCounted next (counted (size d - size next) e t) es d' t')

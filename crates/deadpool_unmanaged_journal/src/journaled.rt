@@ -1,34 +1,40 @@
 //! A pool's state, beside the steps that led to it.
-ghost use Rattle.std.specs.Prelude.{◌≡◌, [], None, IfOk, false, nat_lt, not, option_copied, slice_get};
+ghost use Rattle.std.specs.Prelude.{◌≡◌, ◌-◌, [], None, IfOk, false, nat_lt, not, option_copied, slice_get};
+ghost use Rattle.deadpool_unmanaged.specs.Closing.{is_drained};
 ghost use Rattle.deadpool_unmanaged.specs.Kept as pools;
 ghost use Rattle.deadpool_unmanaged.specs.Replies.{Brings, IsReplyTo, Leaves};
 ghost use Rattle.deadpool_unmanaged.specs.State.{add_would_queue, bounded, get_would_queue, has_due, opened};
+ghost use Rattle.deadpool_unmanaged.specs.State.{size};
 ghost use Rattle.deadpool_unmanaged_journal.specs.ByName.{name_in};
 ghost use Rattle.deadpool_unmanaged_journal.specs.Copies.{HasSteps};
 ghost use Rattle.deadpool_unmanaged_journal.specs.Kept.{JournalInvariant};
 ghost use Rattle.deadpool_unmanaged_journal.specs.LogState.{no_entries};
-ghost use Rattle.deadpool_unmanaged_journal.specs.OwnerSteps.{IsOwnerReplyTo};
+ghost use Rattle.deadpool_unmanaged_journal.specs.OwnerSteps.{DoesForOwner, IsOwnerReplyTo};
 ghost use Rattle.deadpool_unmanaged_journal.specs.Steps.{MakesNoted, MakesForOwnerNoted};
 ghost use Rattle.deadpool_unmanaged_journal.specs.Steps.{TellsAddUnnoted, TellsGetUnnoted};
+ghost use Rattle.deadpool_unmanaged_journal.specs.Tally.{AreBalanced, no_tally};
 
 use crate::log::Log;
+use crate::tally::Tally;
 use crate::{Entry, Journal, Naming, OwnerReply, OwnerStep};
 use deadpool_unmanaged::gate::Ticket;
 use deadpool_unmanaged::{Core, Reply, Step};
 use std::alloc::{AllocError, Global};
 use std::marker::{Model, PhantomData};
 
-/// A pool's state with a journal: at most so many entries, one for each step, and a mark that a step found no room.
-/// `K` says what stands for an object in it.
+/// A pool's state with a journal: at most so many entries, one for each step, and a mark that a step found no room; and
+/// a tally of all steps. `K` says what stands for an object in the journal.
 ///
 /// Until the mark is set, the entries, replayed from the state that the pool opened with, are the state, objects by
-/// name. Whom the pool has told is not looked at. Each step is that of `Core` and adds its entry, or sets the mark.
+/// name. Whom the pool has told is not looked at. Each step is that of `Core`, is counted, and adds its entry, or sets
+/// the mark.
 #[derive(Drop)]
 pub struct Journaled<T, K: Naming<T>> {
     core: Core<T>,
     limit: usize,
     max_waiting: Option<usize>,
     log: Log<K::Name>,
+    tally: Tally,
     by: PhantomData<K>,
 }
 
@@ -53,14 +59,17 @@ impl<T: Drop, K: Naming<T>> Journaled<T, K> {
         ensures limit { IfOk result (λ j. j.limit ≡ max_size) }
         ensures max_waiting { IfOk result (λ j. j.max_waiting ≡ None) }
         ensures log { IfOk result (λ j. j.log ≡ no_entries most_entries) }
+        ensures tally { IfOk result (λ j. j.tally ≡ no_tally) }
     {
         let core = Core::new(alloc, max_size)?;
         let log = Log::new(alloc, most_entries)?;
+        let tally = Tally::new();
         Ok(Journaled {
             core,
             limit: max_size,
             max_waiting: None,
             log,
+            tally,
             by: PhantomData,
         })
     }
@@ -83,7 +92,7 @@ impl<T: Drop, K: Naming<T>> Journaled<T, K> {
         }
     }
 
-    /// Makes one step of a get, an add or an object, as `Core` does, and notes it.
+    /// Makes one step of a get, an add or an object, as `Core` does, notes it, and counts it.
     #[inline(always)]
     pub fn make(&mut self, step: &Step, hand: &mut Option<T>) -> Reply
         requires { Brings step.now hand.old }
@@ -95,16 +104,18 @@ impl<T: Drop, K: Naming<T>> Journaled<T, K> {
         let reply = self.core.make(step, hand);
         let object = taken.or(name_in::<T, K>(hand));
         self.log.add_step(step, object, &reply);
+        self.tally.count(step, &reply);
         reply
     }
 
-    /// Makes a step of the pool's owner, and notes it.
+    /// Makes a step of the pool's owner, notes it, and counts it.
     pub fn make_for_owner(&mut self, step: &OwnerStep) -> OwnerReply
         ensures made { MakesForOwnerNoted self.old step.now result self.new }
         ensures fits { IsOwnerReplyTo step.now result }
     {
-        let reply = step.make(&mut self.core);
+        let (reply, gone) = make_counting(&mut self.core, step);
         self.log.add_owner_step(step, &reply);
+        self.tally.count_for_owner(step, gone);
         reply
     }
 
@@ -141,6 +152,7 @@ impl<T: Drop, K: Naming<T>> Journaled<T, K> {
     /// What is true of every state with its journal. The call does nothing.
     pub fn laws(&self)
         ensures kept { JournalInvariant K.name_of self.now }
+        ensures balances { AreBalanced (size self.now.core.pool) self.now.tally }
         ensures pool { pools.IsKept self.now.core.pool }
     {
         self.core.laws();
@@ -151,6 +163,13 @@ impl<T: Drop, K: Naming<T>> Journaled<T, K> {
         ensures { result ≡ not self.now.core.pool.is_open }
     {
         self.core.is_closed()
+    }
+
+    /// Whether the pool was closed and no object is left, idle or out. It is no step.
+    pub fn is_drained(&self) -> bool
+        ensures { result ≡ is_drained self.now.core.pool }
+    {
+        self.core.is_drained()
     }
 
     /// Whether a pool handle is left. It is no step.
@@ -188,6 +207,14 @@ impl<T: Drop, K: Naming<T>> Journaled<T, K> {
         self.core.next_add()
     }
 
+    /// How often each thing has happened since the pool was opened. It is no step.
+    pub fn tally(&self) -> Tally
+        ensures tally { result ≡ self.now.tally }
+        ensures balances { AreBalanced (size self.now.core.pool) result }
+    {
+        self.tally
+    }
+
     /// The next get in the queue that is due to be woken. It is no step, and nothing is noted.
     pub fn take_get_wake(&mut self) -> Option<Ticket>
         ensures { TellsGetUnnoted self.old result self.new }
@@ -207,6 +234,22 @@ impl<T: Drop, K: Naming<T>> Journaled<T, K> {
         ensures { result ≡ has_due self.now.core.pool }
     {
         self.core.is_wake_due()
+    }
+}
+
+// Makes a step of the owner, and says how many objects go by it. Those are counted only where some may.
+fn make_counting<T: Drop>(core: &mut Core<T>, step: &OwnerStep) -> (OwnerReply, usize)
+    ensures made { DoesForOwner core.old.pool step.now result.0 core.new.pool }
+    ensures fits { IsOwnerReplyTo step.now result.0 }
+    ensures gone { result.1 ≡ size core.old.pool - size core.new.pool }
+{
+    match step {
+        OwnerStep::Close | OwnerStep::DropHandle => {
+            let size = core.counts().size;
+            let reply = step.make(core);
+            (reply, size.saturating_sub(core.counts().size))
+        }
+        OwnerStep::Status | OwnerStep::CloneHandle | OwnerStep::Upgrade => (step.make(core), 0),
     }
 }
 

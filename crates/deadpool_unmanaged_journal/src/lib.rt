@@ -1,12 +1,16 @@
-//! An unmanaged pool's state with a journal of its steps, for whoever keeps both under a lock. Nothing here takes one.
+//! An unmanaged pool's state with a journal and a tally of its steps, for whoever keeps them under a lock. Nothing here
+//! takes one.
 #![tactic(auto)]
 
 mod entry;
 mod journal;
 mod journaled;
+pub mod laws;
 mod log;
 mod naming;
 mod owner_step;
+mod report;
+mod tally;
 mod texts;
 
 pub use entry::Entry;
@@ -14,3 +18,5 @@ pub use journal::Journal;
 pub use journaled::Journaled;
 pub use naming::{ByNumber, Nameless, Naming, Unnamed};
 pub use owner_step::{OwnerReply, OwnerStep};
+pub use report::Report;
+pub use tally::Tally;

@@ -3,6 +3,8 @@ pub mod Locked
 -- What a poll or a call is to its caller.
 pub mod Calling
 pub mod Asking
+-- A drain, how it ends, and its calls.
+pub mod Drains
 -- What contracts of this crate cite of those below: states that are polled, and the steps of the pool.
 pub use Rattle.deadpool_unmanaged.specs.Gets
 pub use Rattle.deadpool_unmanaged.specs.Adds

@@ -1,12 +1,16 @@
 -- What is done under the lock of a pool.
-use Rattle.std.specs.Prelude.{◌≡◌, true, false, ◌⊎◌, is_some, if◌then◌else◌, List, Option, Some, None, Result, Err}
+use Rattle.std.specs.Prelude.{◌≡◌, true, false, ◌⊎◌, ◌&&◌, ◌==◌, not, Bool, is_some, if◌then◌else◌, List, Option, Some}
+use Rattle.std.specs.Prelude.{None, Result, Err}
 use Rattle.std.specs.Option.{option_map_or}
 use Rattle.futures.specs.declared.task.Poll.{Poll}
 use Rattle.futures.specs.declared.task.Poll.TheVariants.{Ready}
+use Rattle.deadpool_lock.specs.Ends.{EndsState}
 use Rattle.deadpool_lock.specs.Places.{waker_at}
+use Rattle.deadpool_gate.specs.Gate.{waiting_count}
 use Rattle.deadpool_gate.specs.Waking.{still_unnotified}
 use Rattle.deadpool_parts.specs.declared.moment.Moment.{Moment}
 use Rattle.deadpool_parts.specs.declared.moment.Runtime.{Runtime}
+use Rattle.deadpool_unmanaged.specs.Closing.{is_drained}
 use Rattle.deadpool_unmanaged.specs.State.{State, due_get, due_add}
 use Rattle.deadpool_unmanaged.specs.StateSteps.{Does}
 use Rattle.deadpool_unmanaged.specs.Replies.{Leaves}
@@ -53,6 +57,10 @@ module _ {T : Type 0} where
       (answer : Reply) × ((hand : Option T)
       × (Does d (AddEnter false) (Some value) answer d' × Leaves answer (Some value) hand
       × (Ready added ≡ adds.turn_after answer hand)))
+
+  -- somebody waits for the end of a pool, which has come
+  abbrev pub is_end_due : EndsState → State T → Bool
+  is_end_due ends d = not (waiting_count ends.line.waiters == 0) && is_drained d
 
   -- the waker of the get that is to be told next, or of the add
   abbrev pub next_waker : {W : Type 0} → State T → List (Option W) → List (Option W) → Option W

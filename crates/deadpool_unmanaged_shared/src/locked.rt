@@ -1,8 +1,9 @@
 //! What the lock of a pool keeps.
-ghost use Rattle.std.specs.Prelude.{◌≡◌, ◌⊎◌, not, [], Some, None, IfSome, IsSome};
+ghost use Rattle.std.specs.Prelude.{◌≡◌, ◌⊎◌, ◌||◌, true, false, not, [], Some, None, IfSome, IsSome};
 ghost use Rattle.std.specs.Option.{option_or};
 ghost use Rattle.deadpool_lock.specs.Places.{Follows, waker_at};
 ghost use Rattle.deadpool_unmanaged.specs.Adds as adds;
+ghost use Rattle.deadpool_unmanaged.specs.Closing.{is_drained};
 ghost use Rattle.deadpool_unmanaged.specs.Gets as gets;
 ghost use Rattle.deadpool_unmanaged.specs.State.{has_due};
 ghost use Rattle.deadpool_unmanaged.specs.StateSteps.{Does};
@@ -13,9 +14,12 @@ ghost use Rattle.deadpool_unmanaged_journal.specs.OwnerSteps.{DoesForOwner, IsOw
 ghost use Rattle.deadpool_unmanaged_journal.specs.declared.entry.Entry.TheVariants as entry;
 ghost use Rattle.deadpool_unmanaged_shared.specs.Calling.{CallsOrRefusesAdd, CallsOrRefusesGet, IsSupplied};
 ghost use Rattle.deadpool_unmanaged_shared.specs.Calling.{CallsTryAdd, CallsTryGet};
-ghost use Rattle.deadpool_unmanaged_shared.specs.Locked.{PollsGet, PollsAdd, TriesGet, TriesAdd, next_waker, told};
+ghost use Rattle.deadpool_unmanaged_shared.specs.Locked.{PollsGet, PollsAdd, TriesGet, TriesAdd};
+ghost use Rattle.deadpool_unmanaged_shared.specs.Locked.{is_end_due, next_waker, told};
 
-use deadpool_lock::{Wakers, Wakes};
+mod draining;
+
+use deadpool_lock::{Ends, Wakers, Wakes};
 use deadpool_unmanaged::{AddState, GetState, Moment, PoolError, Reply, Runtime, Step};
 use deadpool_unmanaged_history::KeepsState;
 use deadpool_unmanaged_journal::{OwnerReply, OwnerStep};
@@ -30,6 +34,8 @@ pub struct Locked<T: Drop, S: KeepsState<T>> {
     first: S::Caller,
     gets: Wakers,
     adds: Wakers,
+    // Those that wait for the end of the pool.
+    ends: Ends,
     of: PhantomData<T>,
 }
 
@@ -46,6 +52,7 @@ impl<T: Drop, S: KeepsState<T>> Locked<T, S> {
             first,
             gets: Wakers::new(alloc),
             adds: Wakers::new(alloc),
+            ends: Ends::new(alloc),
             of: PhantomData,
         }
     }
@@ -249,22 +256,28 @@ impl<T: Drop, S: KeepsState<T>> Locked<T, S> {
 
 impl<T: Drop, S: KeepsState<T>> Wakes for Locked<T, S> {
     fn is_wake_due(&self) -> bool
-        ensures { result ≡ has_due (S.state_of self.now.state).pool }
+        ensures { result ≡ (has_due (S.state_of self.now.state).pool
+            || is_end_due self.now.ends (S.state_of self.now.state).pool) }
     {
-        self.state.is_wake_due()
+        self.state.is_wake_due() || (!self.ends.is_empty() && self.state.is_drained())
     }
 
     fn take_wake(&mut self) -> Option<Waker>
-        ensures waker { result
-            ≡ next_waker (S.state_of self.old.state).pool self.old.gets self.old.adds }
+        ensures waker { (result
+            ≡ next_waker (S.state_of self.old.state).pool self.old.gets self.old.adds)
+            ⊎ ((has_due (S.state_of self.old.state).pool ≡ false)
+            × (is_drained (S.state_of self.old.state).pool ≡ true)) }
         ensures told { (S.state_of self.new.state).pool ≡ told (S.state_of self.old.state).pool }
     {
         if let Some(ticket) = self.state.take_get_wake() {
             return self.gets.take(ticket);
         }
-        match self.state.take_add_wake() {
-            Some(ticket) => self.adds.take(ticket),
-            None => None,
+        if let Some(ticket) = self.state.take_add_wake() {
+            return self.adds.take(ticket);
         }
+        if self.state.is_drained() {
+            return self.ends.take_wake();
+        }
+        None
     }
 }

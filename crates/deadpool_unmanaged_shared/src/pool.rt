@@ -1,5 +1,5 @@
 //! The handles of a pool.
-ghost use Rattle.std.specs.Prelude.{◌≡◌, ◌⊎◌, None, Err, IfOk, IfErr};
+ghost use Rattle.std.specs.Prelude.{◌≡◌, ◌⊎◌, true, false, None, Err, IfOk, IfErr};
 ghost use Rattle.deadpool_parts.specs.Result.{result_map};
 ghost use Rattle.deadpool_unmanaged.specs.declared.error.PoolError.TheVariants.{OutOfMemory};
 ghost use Rattle.deadpool_lock.specs.Asked.{Asks, BorrowingAsks, OwnAsks};
@@ -8,11 +8,14 @@ ghost use Rattle.deadpool_unmanaged_journal.specs.declared.owner_step.OwnerReply
 ghost use Rattle.deadpool_unmanaged_journal.specs.declared.owner_step.OwnerStep.TheVariants as step;
 ghost use Rattle.deadpool_unmanaged_shared.specs.Asking.{adding, getting};
 ghost use Rattle.deadpool_unmanaged_shared.specs.Calling.{CallsTryAdd, CallsTryGet};
+ghost use Rattle.deadpool_unmanaged_shared.specs.Drains.{CallsOfDrain, EndsEmpty, draining};
+ghost use Rattle.futures.specs.declared.task.Poll.TheVariants.{Ready};
 
 use crate::asking::{Adding, Getting, Removing};
+use crate::draining::Draining;
 use crate::object::Object;
 use crate::shared::Shared;
-use deadpool_lock::{Borrowed, Handle, Home, Owned};
+use deadpool_lock::{Borrowed, DrainError, Handle, Home, Owned};
 use deadpool_unmanaged::{Clock, Core, PoolConfig, PoolError, Status};
 use deadpool_unmanaged_history::KeepsState;
 use deadpool_unmanaged_journal::{OwnerReply, OwnerStep};
@@ -35,6 +38,11 @@ pub type Add<T, C, R, S = Core<T>> = Owned<Adding<T, C, R, S>>;
 
 /// An add as a future that borrows a handle of its pool, and is none itself. Dropping it is as for an `Add`.
 pub type AddRef<'a, T, C, R, S = Core<T>> = Borrowed<'a, Adding<T, C, R, S>>;
+
+/// A drain as a future that borrows a handle of its pool, and is none itself: its first poll closes the pool, and it
+/// ends with the pool's status once no object is left, idle or out. Then the pool stays empty. Dropping it waits no
+/// longer; the pool stays closed. After its end it stays pending.
+pub type Drain<'a, T, C, R, S = Core<T>> = Borrowed<'a, Draining<T, C, R, S>>;
 
 /// A handle of a pool whose objects are those that its users add. The last handle that is dropped takes the idle
 /// objects with it. Each future holds a handle of its own, but for those that borrow one.
@@ -262,6 +270,39 @@ impl<T: Drop, C: Clock, R: Wait + Drop, S: KeepsState<T>> Pool<T, C, R, S> {
         let OwnerReply::Done = self.shared().make_for_owner_by(caller, &OwnerStep::Close) else {
             unreachable!();
         };
+    }
+
+    /// Closes the pool, as `close`, at the first poll, and waits until all objects are back or were taken. It ends with
+    /// the status of that moment, or with `OutOfMemory` if there was no memory to wait by, and never with `Timeout`.
+    ///
+    /// An object that its own task keeps never comes back.
+    pub fn drain(&self) -> Drain<'_, T, C, R, S>
+        ensures { Asks self.now tt (draining false) result }
+    {
+        Borrowed::new(&self.inner, Ok(()), Draining::new(None))
+    }
+
+    /// `drain`, which waits no longer than this from its first poll on, by the pool's clock. Then it ends with
+    /// `Timeout`, which has the status of that moment. The pool stays closed.
+    pub fn drain_for(&self, limit: Duration) -> Drain<'_, T, C, R, S>
+        ensures { Asks self.now tt (draining true) result }
+    {
+        Borrowed::new(&self.inner, Ok(()), Draining::new(Some(limit)))
+    }
+
+    /// Closes the pool, as `close`, and does not wait: `Timeout` says that an object is left, with the status.
+    pub fn try_drain(&self) -> Result<Status, DrainError>
+        ensures { EndsEmpty true result }
+    {
+        self.shared().try_drain_by(&mut self.caller())
+    }
+
+    /// `try_drain` by a caller that the history has its calls of: the close, and the status that it gives.
+    pub fn try_drain_by(&self, caller: &mut S::Caller) -> Result<Status, DrainError>
+        ensures ends { EndsEmpty true result }
+        ensures calls { CallsOfDrain S.calls true (Ready result) caller.old caller.new }
+    {
+        self.shared().try_drain_by(caller)
     }
 
     /// Whether the pool was closed.

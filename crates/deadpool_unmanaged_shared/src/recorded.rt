@@ -2,16 +2,20 @@
 ghost use Rattle.std.specs.Prelude.{◌≡◌, [], IfOk};
 ghost use mathlib.Core.List.{IsPrefix};
 ghost use Rattle.deadpool_chronicle.specs.History.{calls_by};
-ghost use Rattle.deadpool_unmanaged_history.specs.History.{IsBeginning, IsLegal, OpensWith};
+ghost use Rattle.deadpool_unmanaged_history.specs.History.{HasCalled, IsBeginning, IsLegal, IsTallyOf, OpensWith};
 ghost use Rattle.deadpool_unmanaged.specs.State.{bounded, opened};
 ghost use Rattle.deadpool_unmanaged_journal.specs.Copies.{HasSteps};
+ghost use Rattle.deadpool_unmanaged_journal.specs.Tally.{AreBalanced};
+ghost use Rattle.deadpool_unmanaged_journal.specs.declared.entry.Entry.TheVariants as entry;
+ghost use Rattle.deadpool_unmanaged_journal.specs.declared.owner_step.OwnerReply.TheVariants as reply;
+ghost use Rattle.deadpool_unmanaged_journal.specs.declared.owner_step.OwnerStep.TheVariants as step;
 
 use crate::pool::Pool;
 use crate::shared::Shared;
 use deadpool_chronicle::{Beginning, Blank, Caller, Chronicle};
-use deadpool_unmanaged::{Clock, PoolConfig};
+use deadpool_unmanaged::{Clock, PoolConfig, Status};
 use deadpool_unmanaged_history::{Line, Recorded};
-use deadpool_unmanaged_journal::{Journal, Journaled, Naming};
+use deadpool_unmanaged_journal::{Journal, Journaled, Naming, Tally};
 use std::alloc::{AllocError, Global};
 use std::sync::Wait;
 
@@ -52,6 +56,26 @@ where
         recorded.audit(caller);
     }
 
+    /// How often each thing has happened since the pool was opened, and how it stands now, which the journal notes. It
+    /// makes nobody due.
+    pub fn tally_by(&self, caller: &mut Caller<Line<T>, H>) -> (Tally, Status)
+        ensures call { HasCalled (λ e. e ≡ entry.Owner step.Status (reply.Stands result.1))
+            caller.old caller.new }
+        ensures counted { IsTallyOf caller.new.seen result.0 }
+        ensures balances { AreBalanced result.1.size result.0 }
+    {
+        self.lock.look().state.tally_by(caller)
+    }
+
+    /// The same by a new caller.
+    pub fn tally(&self) -> (Tally, Status)
+        ensures { AreBalanced result.1.size result.0 }
+    {
+        let mut locked = self.lock.look();
+        let mut caller = locked.admit();
+        locked.state.tally_by(&mut caller)
+    }
+
     /// A copy of the journal. It is no step.
     pub fn journal(&self) -> Result<Journal<K::Name>, AllocError>
         ensures { IfOk result HasSteps }
@@ -82,8 +106,8 @@ where
     K: Naming<T>,
     H: Chronicle,
 {
-    /// An open pool with nothing in it, whose history this one is, and room for so many entries in its journal. Beside
-    /// it stands the beginning of the history, which says how the pool opened.
+    /// An open pool with nothing in it, whose history this one is, with a tally, and room for so many entries in its
+    /// journal. Beside it stands the beginning of the history, which says how the pool opened.
     pub fn with_history(
         alloc: Global,
         config: &PoolConfig,
@@ -140,6 +164,25 @@ where
         ensures legal { IsLegal caller.new.seen }
     {
         self.shared().after(caller, earlier);
+    }
+
+    /// How often each thing has happened since the pool was opened, and how the pool stands, all at one moment. The
+    /// books balance: each object that was stored is in the pool, or is counted where it was given up. A pool that
+    /// another call opens keeps a bare `Core`, and counts nothing.
+    pub fn tally(&self) -> (Tally, Status)
+        ensures { AreBalanced result.1.size result.0 }
+    {
+        self.shared().tally()
+    }
+
+    /// `tally` by a caller that the history has it of. The tally is that of the history.
+    pub fn tally_by(&self, caller: &mut Caller<Line<T>, H>) -> (Tally, Status)
+        ensures call { HasCalled (λ e. e ≡ entry.Owner step.Status (reply.Stands result.1))
+            caller.old caller.new }
+        ensures counted { IsTallyOf caller.new.seen result.0 }
+        ensures balances { AreBalanced result.1.size result.0 }
+    {
+        self.shared().tally_by(caller)
     }
 
     /// A copy of the pool's journal: how the pool opened, and its first steps since, each with the reply that it got.

@@ -1,18 +1,20 @@
 //! What the handles of a pool share.
-ghost use Rattle.std.specs.Prelude.{◌≡◌, IfErr};
+ghost use Rattle.std.specs.Prelude.{◌≡◌, true, IfErr};
 ghost use Rattle.deadpool_parts.specs.Result.{result_map};
 ghost use Rattle.deadpool_unmanaged_journal.specs.OwnerSteps.{IsOwnerReplyTo};
 ghost use Rattle.deadpool_unmanaged_journal.specs.declared.entry.Entry.TheVariants as entry;
 ghost use Rattle.deadpool_unmanaged_journal.specs.declared.owner_step.OwnerReply.TheVariants as reply;
 ghost use Rattle.deadpool_unmanaged_journal.specs.declared.owner_step.OwnerStep.TheVariants as step;
 ghost use Rattle.deadpool_unmanaged_shared.specs.Calling.{CallsBack, CallsTake, CallsTryAdd, CallsTryGet};
+ghost use Rattle.deadpool_unmanaged_shared.specs.Drains.{CallsOfDrain, EndsEmpty};
+ghost use Rattle.futures.specs.declared.task.Poll.TheVariants.{Ready};
 
 use crate::locked::Locked;
-use deadpool_lock::{Counted, StepLock};
+use deadpool_lock::{Counted, DrainError, StepLock};
 use deadpool_unmanaged::{Clock, PoolConfig, PoolError, Runtime, Status};
 use deadpool_unmanaged_history::KeepsState;
 use deadpool_unmanaged_journal::{OwnerReply, OwnerStep};
-use futures::task::Source;
+use futures::task::{Poll, Source};
 use std::alloc::Global;
 use std::sync::Wait;
 use std::time::Duration;
@@ -158,6 +160,25 @@ impl<T: Drop, C: Clock, R: Wait + Drop, S: KeepsState<T>> Shared<T, C, R, S> {
         match locked.make_for_owner(&mut caller, &OwnerStep::Status) {
             OwnerReply::Stands(status) => status,
             _ => unreachable!(),
+        }
+    }
+
+    /// Closes the pool, and gives its status, which says whether an object is left. Idle objects are dropped with the
+    /// lock taken.
+    pub fn try_drain_by(&self, caller: &mut S::Caller) -> Result<Status, DrainError>
+        ensures ends { EndsEmpty true result }
+        ensures calls { CallsOfDrain S.calls true (Ready result) caller.old caller.new }
+    {
+        let (is_first, is_late) = (true, true);
+        let mut step = self.lock.begin();
+        let (polled, spare) = step
+            .kept()
+            .drain(caller, is_first, is_late, &mut None, &mut None);
+        self.lock.end(step);
+        drop(spare);
+        match polled {
+            Poll::Ready(ended) => ended,
+            Poll::Pending => unreachable!(),
         }
     }
 

@@ -3,12 +3,13 @@ use crate::fault::Fault;
 use crate::lines::{read_line, without_line_feed, write_out};
 use crate::lists::{list_of, managed_moves, unmanaged_moves};
 use crate::making::{
-    make_drain, make_get, make_managed, make_unmanaged, run_managed, run_unmanaged,
+    make_drain, make_get, make_managed, make_tally, make_unmanaged, make_unmanaged_drain,
+    make_unmanaged_tally, run_managed, run_unmanaged,
 };
 use crate::manager::{Answer, Answers, Kind};
 use crate::opening::{PARTIES, Refusal, ScriptPool, open_pool};
 use crate::script;
-use crate::script::{Excerpt, LineError, ManagedLine, Reason, ScriptLine};
+use crate::script::{Excerpt, LineError, ManagedLine, Reason, ScriptLine, UnmanagedLine};
 use crate::stopped::Stopped;
 use crate::texts::end_line;
 use futures::task::{Context, Doorbell, Solo};
@@ -114,14 +115,17 @@ impl<'a> Engine<'a> {
             Some(ScriptPool::Managed(trial)) => match script::parse_script_line(*alloc, line)? {
                 ScriptLine::Get(now) => make_get(trial, now, cx, reply),
                 ScriptLine::Drain => make_drain(trial, cx, reply),
+                ScriptLine::Tally => make_tally(trial, cx, reply),
                 ScriptLine::Plain(ManagedLine::Answer(kind, words)) => {
                     answer(answers, kind, words, reply)
                 }
                 ScriptLine::Plain(ManagedLine::Move(next)) => make_managed(trial, next, cx, reply),
             },
-            Some(ScriptPool::Unmanaged(trial)) => {
-                make_unmanaged(trial, script::parse_unmanaged(line)?, reply)
-            }
+            Some(ScriptPool::Unmanaged(trial)) => match script::parse_unmanaged_line(line)? {
+                UnmanagedLine::Drain => make_unmanaged_drain(trial, reply),
+                UnmanagedLine::Tally => make_unmanaged_tally(trial, reply),
+                UnmanagedLine::Move(next) => make_unmanaged(trial, next, reply),
+            },
         }
     }
 

@@ -31,10 +31,13 @@ pub use mismatch::Mismatch;
 pub use opening::{ManagedTrial, PARTIES, Refusal, ScriptPool, UnmanagedTrial, open_pool};
 pub use script::{
     Excerpt, Language, LineError, ManagedLine, ManagedPool, PoolLine, Reason, ScriptLine, Settings,
-    UnmanagedPool, Wanted, is_skipped, parse_managed, parse_number, parse_pool, parse_script_line,
-    parse_unmanaged,
+    UnmanagedLine, UnmanagedPool, Wanted, is_skipped, parse_managed, parse_number, parse_pool,
+    parse_script_line, parse_unmanaged, parse_unmanaged_line,
 };
 pub use standing::{Colour, Standing};
 pub use stopped::{Detail, Stopped};
-pub use texts::{end_line, write_left, write_managed, write_status, write_unmanaged};
+pub use texts::{
+    end_line, write_left, write_managed, write_remainder, write_status, write_tally,
+    write_unmanaged, write_unmanaged_tally,
+};
 pub use watching::watch_script;

@@ -1,7 +1,10 @@
 //! Makes moves over a pool, one or a list of them, and writes the line that replies.
 use crate::opening::UnmanagedTrial;
 use crate::script::LineError;
-use crate::texts::{end_line, write_left, write_managed, write_unmanaged};
+use crate::texts::{
+    end_line, write_left, write_managed, write_remainder, write_tally, write_unmanaged,
+    write_unmanaged_tally,
+};
 use deadpool_managed::{AsyncHook, Manager, SyncHook};
 use deadpool_parts::Moment;
 use deadpool_replay::{Move, Reply, Trial, unmanaged};
@@ -62,6 +65,23 @@ where
     end(written, text)
 }
 
+/// Says how often each thing has happened in a managed pool. It is asked for by a handle, as the status is.
+pub fn make_tally<M: Manager<Type = u64>, F: SyncHook<M>, A: AsyncHook<M>, C: Drop>(
+    trial: &mut Trial<M, F, A, C>,
+    cx: &mut Context<'_>,
+    text: &mut String,
+) -> Result<(), LineError>
+where
+    M::Error: fmt::Display,
+{
+    let stands = trial.make(Move::Status, cx);
+    let written = match stands {
+        Reply::Stands(_) => write_tally(text, trial.tally()),
+        other => write_managed(text, &other, None),
+    };
+    end(written, text)
+}
+
 /// Makes a list of moves over a managed pool in one call. Of an object that a move has handed out it writes no value,
 /// since a later move may have put another or taken it.
 pub fn run_managed<M: Manager<Type = u64>, F: SyncHook<M>, A: AsyncHook<M>, C: Drop>(
@@ -113,6 +133,32 @@ pub fn make_unmanaged(
 ) -> Result<(), LineError> {
     let reply = trial.make(next);
     let written = write_unmanaged(text, &reply, unmanaged_value_of(&reply, trial));
+    end(written, text)
+}
+
+/// Closes an unmanaged pool, and says what is left in it.
+pub fn make_unmanaged_drain(
+    trial: &mut UnmanagedTrial,
+    text: &mut String,
+) -> Result<(), LineError> {
+    let closed = trial.make(unmanaged::Move::Close);
+    let written = match closed {
+        unmanaged::Reply::Done => write_remainder(text, trial.counts().size),
+        other => write_unmanaged(text, &other, None),
+    };
+    end(written, text)
+}
+
+/// Says how often each thing has happened in an unmanaged pool. It is asked for by a handle, as the status is.
+pub fn make_unmanaged_tally(
+    trial: &mut UnmanagedTrial,
+    text: &mut String,
+) -> Result<(), LineError> {
+    let stands = trial.make(unmanaged::Move::Status);
+    let written = match stands {
+        unmanaged::Reply::Stands(_) => write_unmanaged_tally(text, trial.tally()),
+        other => write_unmanaged(text, &other, None),
+    };
     end(written, text)
 }
 

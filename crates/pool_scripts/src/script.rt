@@ -11,7 +11,7 @@ pub use managed::{ManagedLine, ScriptLine, parse_managed, parse_script_line};
 pub use pool::{ManagedPool, PoolLine, Settings, UnmanagedPool, parse_pool};
 pub use reason::{Excerpt, Reason, Wanted};
 use std::alloc::{AllocError, AllocFailed};
-pub use unmanaged::parse_unmanaged;
+pub use unmanaged::{UnmanagedLine, parse_unmanaged, parse_unmanaged_line};
 pub use words::parse_number;
 
 /// Why a line was not done.

@@ -1,7 +1,9 @@
 //! The replies to the lines of a script.
+use deadpool_journal::Tally;
 use deadpool_managed::{Counts, RetainResult};
 use deadpool_parts::Status;
 use deadpool_replay::{Reply, unmanaged};
+use deadpool_unmanaged_journal as plain;
 use std::alloc::AllocError;
 use std::fmt;
 
@@ -97,10 +99,73 @@ pub fn write_status(text: &mut String, status: Status) -> Result<(), AllocError>
 /// Appends what is left in a closed pool: how many objects there are, and how many gets hold a place or have a creation
 /// under way. A get that was granted a place and has not asked is refused when it does.
 pub fn write_left(text: &mut String, counts: Counts) -> Result<(), AllocError> {
-    match counts.places.saturating_sub(counts.granted) {
+    write_remainder(text, counts.places.saturating_sub(counts.granted))
+}
+
+/// Appends that so much is left in a closed pool.
+pub fn write_remainder(text: &mut String, left: usize) -> Result<(), AllocError> {
+    match left {
         0 => text.push_str("drained"),
         left => write!(text, "left {left}"),
     }
+}
+
+/// Appends how often each thing has happened, in the order of the fields. What never has is left out.
+pub fn write_tally(text: &mut String, tally: Tally) -> Result<(), AllocError> {
+    write_counts(
+        text,
+        &[
+            ("gets", tally.gets),
+            ("served", tally.served),
+            ("waited", tally.waited),
+            ("late", tally.late),
+            ("crowded", tally.crowded),
+            ("closed", tally.closed),
+            ("created", tally.created),
+            ("failed", tally.failed),
+            ("refused", tally.refused),
+            ("cancelled", tally.cancelled),
+            ("surplus", tally.surplus),
+            ("not_retained", tally.not_retained),
+            ("taken", tally.taken),
+            ("dropped", tally.dropped),
+        ],
+    )
+}
+
+/// The same of an unmanaged pool.
+pub fn write_unmanaged_tally(text: &mut String, tally: plain::Tally) -> Result<(), AllocError> {
+    write_counts(
+        text,
+        &[
+            ("gets", tally.gets),
+            ("served", tally.served),
+            ("waited", tally.waited),
+            ("late", tally.late),
+            ("crowded", tally.crowded),
+            ("closed", tally.closed),
+            ("adds", tally.adds),
+            ("stored", tally.stored),
+            ("adds_waited", tally.adds_waited),
+            ("adds_full", tally.adds_full),
+            ("adds_crowded", tally.adds_crowded),
+            ("adds_closed", tally.adds_closed),
+            ("taken", tally.taken),
+            ("dropped", tally.dropped),
+        ],
+    )
+}
+
+// Appends the counts that are not 0, each behind its name.
+fn write_counts(text: &mut String, counts: &[(&str, u64)]) -> Result<(), AllocError> {
+    let mut between = "";
+    for (name, count) in counts {
+        if *count > 0 {
+            write!(text, "{between}{name} {count}")?;
+            between = " ";
+        }
+    }
+    text.push_str(if between.is_empty() { "nothing" } else { "" })
 }
 
 /// Ends the line of a reply, if its text has not ended it.

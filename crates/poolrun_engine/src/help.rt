@@ -58,7 +58,7 @@ Over a managed pool (P is a party, which is a get that has started; N an object;
   put N V          an object has another value           retain N ..  keeps these idle objects alone
   resize MAX       another limit                         close        closes the pool
   drain            closes it, and says what is left      clone, drop, upgrade   its handles
-  status           how the pool stands
+  status           how the pool stands                   tally        how often each thing has happened
   answer KIND WORD ..   how the manager and the hooks answer next: KIND create, recycle, pre, post or postcreate,
                         WORD ok, pending, refuse or add
 
@@ -67,7 +67,7 @@ Over an unmanaged pool (V is a value):
   get, get D       a get starts, which may wait so long  add V        an add starts
   poll P NOW       goes on                               cancel P     is given up
   tryget           an object, if one is free             tryadd V     adds an object, if there is room
-  back N, take N, close, status, clone, drop, upgrade    as above
+  back N, take N, close, drain, status, tally, clone, drop, upgrade   as above
 
 Numbers are decimal digits alone. 1,024 gets and adds may start.
 ";

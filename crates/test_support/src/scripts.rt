@@ -11,11 +11,12 @@ mod max_waiting;
 mod min_idle;
 mod own_steps;
 mod preparation;
+mod tallies;
 mod timeouts;
 mod unmanaged;
 
 pub use cancelled::CANCELLED;
-pub use closing::CLOSING;
+pub use closing::{CLOSING, CLOSING_UNMANAGED};
 pub use configuration::CONFIGURATION;
 pub use first_path::FIRST_PATH;
 pub use limits::LIMITS;
@@ -23,6 +24,7 @@ pub use max_waiting::MAX_WAITING;
 pub use min_idle::MIN_IDLE;
 pub use own_steps::OWN_STEPS;
 pub use preparation::PREPARATION;
+pub use tallies::{TALLIES, TALLIES_UNMANAGED};
 pub use timeouts::TIMEOUTS;
 pub use unmanaged::UNMANAGED;
 

@@ -3,6 +3,7 @@
 mod clock;
 mod configuration;
 mod crowds;
+mod draining;
 mod draw;
 mod drops;
 mod errors;

@@ -41,11 +41,11 @@ pub(crate) trait Desk {
 }
 
 /// Has a core be a desk: where the steps of its owner are from, which calls name those that are due, where the parcel of an idle
-/// object is, what is asked for it and for the handles, and when the pool is drained.
+/// object is, and what is asked for it and for the handles.
 macro_rules! desk_of {
     (
         $core:ident, steps of $steps:ident, $next_get:ident $(and $next_add:ident)?, $parcel:ident in $idle:pat,
-        $desk:ident: $state:expr, $is_drained:expr
+        $desk:ident: $state:expr
     ) => {
         impl<V> Desk for $core<Parcel<V>> {
             type Value = V;
@@ -77,8 +77,7 @@ macro_rules! desk_of {
             }
 
             fn is_drained(&self) -> bool {
-                let $desk = self;
-                $is_drained
+                self.is_drained()
             }
 
             fn status(&mut self) -> Status {
@@ -105,8 +104,8 @@ macro_rules! desk_of {
         }
     };
 }
-desk_of!(Managed, steps of desk, take_wake, value in Slot { value, .. }, desk: desk, desk.is_drained());
+desk_of!(Managed, steps of desk, take_wake, value in Slot { value, .. }, desk: desk);
 desk_of!(
     Unmanaged, steps of unmanaged_journal, take_get_wake and take_add_wake, parcel in parcel,
-    desk: desk.core, desk.is_closed() && desk.core.counts().size == 0
+    desk: desk.core
 );

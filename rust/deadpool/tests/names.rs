@@ -192,8 +192,10 @@ fn what_is_this_crates_own_has_its_names() {
     let _: fn(&Pool<Numbers>) -> Option<&str> = Pool::name;
     let _: fn(&Object<Numbers>) -> Duration = Object::waited;
     let _: for<'a> fn(&'a Pool<Numbers>) -> Report<'a> = Pool::tally;
+    let _: fn(&Items) -> unmanaged::Report<'static> = Items::tally;
     is_plain::<Limits>();
     is_plain::<Tally>();
+    is_plain::<unmanaged::Tally>();
     let _: fn(Limits) -> Hook<Numbers> = Hook::from;
     let _: fn(&Limits, &Metrics, Instant) -> bool = Limits::allow;
     let _: fn(std::future::Ready<u8>) -> u8 = deadpool::wait;

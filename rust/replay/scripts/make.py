@@ -4,7 +4,8 @@
 managed.txt and unmanaged.txt were made with a COUNT of 1500 over a build of crates/poolrun without a proof; `rt run` there leaves a
 proved one, out/poolrun. The lines are chosen by a generator with a fixed seed, which knows nothing of a pool. It notes of each reply
 whether an object was handed out and whether a party has ended, so that most lines name an object that is out or a party that
-goes on; some name others. The replies are those of poolrun, none is written by hand.
+goes on; some name others. At its end each script asks what was counted, before a closing and after it. The replies are those of
+poolrun, none is written by hand.
 """
 import os
 import random
@@ -89,6 +90,8 @@ class Script:
 
 class Managed(Script):
     kinds = MANAGED
+    # (what is left in a pool with a get under way, no call of the Rust crate tells)
+    ending = ["tally", "close", "tally"]
 
     def opening(self):
         dice = self.dice
@@ -118,6 +121,7 @@ class Managed(Script):
 
 class Unmanaged(Script):
     kinds = UNMANAGED
+    ending = ["tally", "drain", "tally"]
     first = 0
 
     def opening(self):
@@ -138,8 +142,8 @@ def made(program, kind, seed):
     count = script.dice.randrange(10, 45)
     with subprocess.Popen([program], stdin=subprocess.PIPE, stdout=subprocess.PIPE, text=True) as ran:
         told = []
-        for at in range(count + 1):
-            line = script.next_line() if at else script.opening()
+        for at in range(count + 1 + len(script.ending)):
+            line = script.opening() if at == 0 else script.next_line() if at <= count else script.ending[at - count - 1]
             ran.stdin.write(line + "\n")
             ran.stdin.flush()
             reply = ran.stdout.readline().rstrip("\n")

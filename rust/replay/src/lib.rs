@@ -104,3 +104,10 @@ fn status(status: deadpool::Status) -> Reply {
     let deadpool::Status { max_size, size, available, waiting } = status;
     Reply::said(format!("max {max_size} size {size} available {available} waiting {waiting}"))
 }
+
+/// The counts that are not 0, each behind its name.
+fn counts(counts: &[(&str, u64)]) -> Reply {
+    let some: Vec<String> =
+        counts.iter().filter(|(_, count)| *count > 0).map(|(name, count)| format!("{name} {count}")).collect();
+    Reply::said(if some.is_empty() { "nothing".into() } else { some.join(" ") })
+}

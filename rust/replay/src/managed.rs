@@ -1,7 +1,7 @@
 //! A script over a managed pool.
 use crate::answers::{Answer, KINDS, Refused, Script, Value};
-use crate::{MOST_PARTIES, Reply, bounded, clock, duration, number, status};
-use deadpool::managed::{Object, Pool, PoolError, QueueMode, Timeouts, WeakPool};
+use crate::{MOST_PARTIES, Reply, bounded, clock, counts, duration, number, status};
+use deadpool::managed::{Object, Pool, PoolError, QueueMode, Tally, Timeouts, WeakPool};
 use std::collections::{BTreeMap, BTreeSet, HashMap};
 use std::future::Future;
 use std::pin::{Pin, pin};
@@ -93,6 +93,7 @@ impl ManagedPlayer {
                 Reply::said("ok")
             }),
             ["drain"] => self.drain(),
+            ["tally"] => self.on_handle(|pool| tally(&pool.tally().tally)),
             ["status"] => self.on_handle(|pool| status(pool.status())),
             ["clone"] => self.clone_handle(),
             ["drop"] => self.drop_handle(),
@@ -259,4 +260,23 @@ impl ManagedPlayer {
             }
         }
     }
+}
+
+fn tally(tally: &Tally) -> Reply {
+    counts(&[
+        ("gets", tally.gets),
+        ("served", tally.served),
+        ("waited", tally.waited),
+        ("late", tally.late),
+        ("crowded", tally.crowded),
+        ("closed", tally.closed),
+        ("created", tally.created),
+        ("failed", tally.failed),
+        ("refused", tally.refused),
+        ("cancelled", tally.cancelled),
+        ("surplus", tally.surplus),
+        ("not_retained", tally.not_retained),
+        ("taken", tally.taken),
+        ("dropped", tally.dropped),
+    ])
 }

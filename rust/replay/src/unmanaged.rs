@@ -1,10 +1,10 @@
 //! A script over an unmanaged pool.
 use crate::answers::{Script, Value};
-use crate::{MOST_PARTIES, Reply, bounded, clock, duration, number, status};
-use deadpool::unmanaged::{Object, Pool, PoolConfig, PoolError};
+use crate::{MOST_PARTIES, Reply, bounded, clock, counts, duration, number, status};
+use deadpool::unmanaged::{Object, Pool, PoolConfig, PoolError, Tally};
 use std::collections::{BTreeMap, HashMap};
 use std::future::Future;
-use std::pin::Pin;
+use std::pin::{Pin, pin};
 use std::sync::Arc;
 use std::task::{Context, Poll, Waker};
 use std::time::Duration;
@@ -65,6 +65,8 @@ impl UnmanagedPlayer {
                 pool.close();
                 Reply::said("ok")
             }),
+            ["drain"] => self.drain(),
+            ["tally"] => self.on_handle(|pool| tally(&pool.tally().tally)),
             ["status"] => self.on_handle(|pool| status(pool.status())),
             ["clone"] => self.clone_handle(),
             ["drop"] => self.drop_handle(),
@@ -75,6 +77,17 @@ impl UnmanagedPlayer {
 
     fn on_handle(&self, call: impl FnOnce(&Pool<Value>) -> Reply) -> Reply {
         self.handles.first().map_or_else(|| Reply::said("no handle"), |pool| call(pool))
+    }
+
+    fn drain(&self) -> Reply {
+        self.on_handle(|pool| {
+            let drain = pin!(pool.drain_for(Duration::ZERO));
+            match drain.poll(&mut Context::from_waker(Waker::noop())) {
+                Poll::Ready(Ok(())) => Reply::said("drained"),
+                Poll::Ready(Err(status)) => Reply::said(format!("left {}", status.size)),
+                Poll::Pending => Reply::NotExpressible,
+            }
+        })
     }
 
     /// A value that is handed in, with the next number.
@@ -207,6 +220,25 @@ impl UnmanagedPlayer {
             }
         }
     }
+}
+
+fn tally(tally: &Tally) -> Reply {
+    counts(&[
+        ("gets", tally.gets),
+        ("served", tally.served),
+        ("waited", tally.waited),
+        ("late", tally.late),
+        ("crowded", tally.crowded),
+        ("closed", tally.closed),
+        ("adds", tally.adds),
+        ("stored", tally.stored),
+        ("adds_waited", tally.adds_waited),
+        ("adds_full", tally.adds_full),
+        ("adds_crowded", tally.adds_crowded),
+        ("adds_closed", tally.adds_closed),
+        ("taken", tally.taken),
+        ("dropped", tally.dropped),
+    ])
 }
 
 fn added(ended: Result<(), (Value, PoolError)>, turn: u64) -> Reply {

@@ -1,12 +1,16 @@
 //! What is seen of a trial from outside, between its moves.
 ghost use Rattle.std.specs.Prelude.{◌≡◌, slice_get};
 ghost use Rattle.std.specs.Option.{option_map};
+ghost use Rattle.deadpool_journal.specs.Tally.{AreBalanced};
 ghost use Rattle.deadpool_replay.specs.Look.{look_of, counts_of};
+ghost use Rattle.deadpool_replay.specs.Pool.{size};
 ghost use Rattle.deadpool_replay.specs.TrialFields.{look_as};
 
 use super::Trial;
 use crate::Look;
-use deadpool_managed::{AsyncHook, Core, Counts, Manager, StageKind, SyncHook};
+use crate::counting::Counting;
+use deadpool_journal::Tally;
+use deadpool_managed::{AsyncHook, Counts, Manager, StageKind, SyncHook};
 
 impl<M: Manager, F: SyncHook<M>, A: AsyncHook<M>, C: Drop> Trial<M, F, A, C> {
     /// How the party with this number stands. Nothing changes.
@@ -28,6 +32,14 @@ impl<M: Manager, F: SyncHook<M>, A: AsyncHook<M>, C: Drop> Trial<M, F, A, C> {
         self.core.counts()
     }
 
+    /// How often each thing has happened since the pool was opened. The books balance: until the count of objects that
+    /// were created has stopped, each is there or was given up. Nothing changes.
+    pub fn tally(&self) -> Tally
+        ensures { AreBalanced (size self.now.pool) result }
+    {
+        self.core.tally()
+    }
+
     /// The number of the idle object at this position, front to back.
     pub fn idle_at(&self, at: usize) -> Option<usize>
         ensures { result ≡ option_map (λ s. s.number) (slice_get self.now.pool.idle at) }
@@ -46,7 +58,7 @@ impl<M: Manager, F: SyncHook<M>, A: AsyncHook<M>, C: Drop> Trial<M, F, A, C> {
 }
 
 // What is seen of a get at this stage.
-fn look_at<T: Drop>(kind: StageKind, core: &mut Core<T>) -> Look
+fn look_at<T: Drop>(kind: StageKind, core: &mut Counting<T>) -> Look
     ensures look { result ≡ look_as core.old.desk.granted kind }
     ensures same { core.new ≡ core.old }
 {

@@ -19,6 +19,7 @@ ghost use Rattle.deadpool_replay.specs.declared.unmanaged.moves.Move.TheVariants
 
 mod seen;
 
+use crate::unmanaged::counting::Counting;
 use crate::unmanaged::{Item, Move, Reply};
 use deadpool_parts::tables::{append, put_in, take_out};
 use deadpool_unmanaged::{
@@ -50,7 +51,7 @@ pub(crate) enum Turn<T> {
 /// its moment.
 #[derive(Drop)]
 pub struct Trial<T> {
-    core: Core<Item<T>>,
+    core: Counting<Item<T>>,
     runtime: Option<Runtime>,
     // By number; none if the party was cancelled.
     visitors: Vec<Option<Visitor<T>>>,
@@ -91,8 +92,10 @@ impl<T: Drop> Trial<T> {
     ) -> Result<Self, AllocError>
         ensures { IfOk result (λ t. t ≡ opened max_size runtime parties) }
     {
+        let core = Core::new(alloc, max_size)?;
+        let counting = Counting::new(core);
         Ok(Trial {
-            core: Core::new(alloc, max_size)?,
+            core: counting,
             runtime,
             visitors: Vec::with_capacity(alloc, parties)?,
             out: Vec::with_capacity(alloc, max_size)?,
@@ -350,7 +353,7 @@ fn draw<T: Drop>(next: &mut usize, value: T) -> Result<Item<T>, T>
 // Polls a party that was not cancelled.
 fn poll_visitor<T: Drop>(
     visitor: &mut Option<Visitor<T>>,
-    core: &mut Core<Item<T>>,
+    core: &mut Counting<Item<T>>,
     runtime: Option<Runtime>,
     now: Moment,
 ) -> Option<Turn<T>>
@@ -365,14 +368,14 @@ fn poll_visitor<T: Drop>(
 
 fn poll_get<T: Drop>(
     state: &mut GetState,
-    core: &mut Core<Item<T>>,
+    core: &mut Counting<Item<T>>,
     runtime: Option<Runtime>,
     now: Moment,
 ) -> Turn<T>
     ensures { PolledGet runtime now state.old core.old.pool
         (Option.Some result) (Option.Some (visitor.Get state.new)) core.new.pool }
 {
-    match state.poll(core, runtime, now) {
+    match core.poll_get(state, runtime, now) {
         Poll::Pending => Turn::Pending,
         Poll::Ready(Ok(item)) => Turn::Object(item),
         Poll::Ready(Err(cause)) => Turn::Failed(cause),
@@ -380,7 +383,7 @@ fn poll_get<T: Drop>(
 }
 
 // An add that has ended has no object and is not polled any more.
-fn poll_add<T: Drop>(state: &mut AddState<Item<T>>, core: &mut Core<Item<T>>) -> Turn<T>
+fn poll_add<T: Drop>(state: &mut AddState<Item<T>>, core: &mut Counting<Item<T>>) -> Turn<T>
     ensures { PolledAdd state.old core.old.pool
         (Option.Some result) (Option.Some (visitor.Add state.new)) core.new.pool }
 {
@@ -388,7 +391,7 @@ fn poll_add<T: Drop>(state: &mut AddState<Item<T>>, core: &mut Core<Item<T>>) ->
         return Turn::Pending;
     };
     let number = item.number;
-    match state.poll(core) {
+    match core.poll_add(state) {
         Poll::Pending => Turn::Pending,
         Poll::Ready(Ok(())) => Turn::Added(number),
         Poll::Ready(Err((item, cause))) => Turn::Refused(cause, item.value),
@@ -396,14 +399,12 @@ fn poll_add<T: Drop>(state: &mut AddState<Item<T>>, core: &mut Core<Item<T>>) ->
 }
 
 // Gives a party up.
-fn cancel_visitor<T: Drop>(visitor: Visitor<T>, core: &mut Core<Item<T>>)
+fn cancel_visitor<T: Drop>(visitor: Visitor<T>, core: &mut Counting<Item<T>>)
     ensures { CancelsVisitor visitor core.old.pool core.new.pool }
 {
     match visitor {
-        Visitor::Get(state) => state.cancel(core),
-        Visitor::Add(state) => {
-            let _object = state.cancel(core);
-        }
+        Visitor::Get(state) => core.cancel_get(state),
+        Visitor::Add(state) => core.cancel_add(state),
     }
 }
 
@@ -444,7 +445,7 @@ fn after_back<T: Drop>(reply: CoreReply) -> Reply<T>
 }
 
 // The step of an object that leaves for good.
-fn leave<T: Drop>(core: &mut Core<T>) -> CoreReply
+fn leave<T: Drop>(core: &mut Counting<T>) -> CoreReply
     ensures { Does core.old.pool Take None result core.new.pool }
 {
     core.make(&Step::Take, &mut None)

@@ -7,14 +7,15 @@ ghost use Rattle.deadpool_desk.specs.declared.owner_step.OwnerStep.TheVariants a
 ghost use Rattle.deadpool_history.specs.History.{HasCalled};
 ghost use Rattle.deadpool_journal.specs.declared.entry.Entry.TheVariants as entry;
 ghost use Rattle.deadpool_shared.specs.Counts.{counted};
-ghost use Rattle.deadpool_shared.specs.Drains.{CallsOfDrain, EndsAt, HasClosed, status_in};
+ghost use Rattle.deadpool_lock.specs.Ends.{status_in};
+ghost use Rattle.deadpool_shared.specs.Drains.{CallsOfDrain, EndsAt, HasClosed};
 
 use super::Locked;
-use crate::ended::DrainError;
 use crate::ledgers::{History, Ledgers};
 use deadpool_chronicle::Caller;
 use deadpool_desk::laws;
 use deadpool_history::{Line, Recorded};
+use deadpool_lock::DrainError;
 use deadpool_managed::gate::Ticket;
 use deadpool_managed::{OwnerReply, OwnerStep, Status};
 use futures::task::{Poll, Waker};

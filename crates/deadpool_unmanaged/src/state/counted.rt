@@ -2,6 +2,7 @@
 //! granted what it asks for.
 ghost use Rattle.std.specs.Prelude.{◌≡◌, ◌&&◌, ◌==◌, length, nat_lt, not, option_copied, slice_get};
 ghost use Rattle.deadpool_gate.specs.Numbers.{has_number};
+ghost use Rattle.deadpool_unmanaged.specs.Closing.{is_drained};
 ghost use Rattle.deadpool_unmanaged.specs.Counts.{counts_of};
 ghost use Rattle.deadpool_unmanaged.specs.State.{free_objects, free_room, get_would_queue, add_would_queue};
 
@@ -15,6 +16,13 @@ impl<T: Drop> Core<T> {
         ensures { result ≡ not self.now.pool.is_open }
     {
         self.gets.is_closed()
+    }
+
+    /// Whether the pool was closed and no object is left, idle or out. It stays so.
+    pub fn is_drained(&self) -> bool
+        ensures { result ≡ is_drained self.now.pool }
+    {
+        self.is_closed() && self.idle.is_empty() && self.outside == 0
     }
 
     /// Whether a pool handle is left.

@@ -4,8 +4,9 @@ use deadpool_managed::Moment;
 use deadpool_replay::{Move, Reply, unmanaged};
 use futures::task::Context;
 use pool_scripts::{
-    Answers, ManagedLine, ManagedTrial, Refused, ScriptLine, UnmanagedTrial, end_line,
-    parse_script_line, parse_unmanaged, write_left, write_managed, write_unmanaged,
+    Answers, ManagedLine, ManagedTrial, Refused, ScriptLine, UnmanagedLine, UnmanagedTrial,
+    end_line, parse_script_line, parse_unmanaged_line, write_left, write_managed, write_remainder,
+    write_tally, write_unmanaged, write_unmanaged_tally,
 };
 use pool_shapes::Given;
 use std::alloc::{AllocError, Global};
@@ -32,6 +33,7 @@ pub fn play_managed(
     let event = match parse_script_line(alloc, line)? {
         ScriptLine::Get(now) => get(trial, given, now, cx, reply)?,
         ScriptLine::Drain => drain(trial, is_closed, cx, reply)?,
+        ScriptLine::Tally => ask_tally(trial, cx, reply)?,
         ScriptLine::Plain(ManagedLine::Move(next)) => {
             make(trial, given, is_closed, next, cx, reply)?
         }
@@ -79,6 +81,19 @@ fn drain(
         other => write_managed(reply, &other, None)?,
     }
     Ok(event)
+}
+
+// Says how often each thing has happened. Nothing changes.
+fn ask_tally(
+    trial: &mut ManagedTrial<'_>,
+    cx: &mut Context<'_>,
+    reply: &mut String,
+) -> Result<Event, Stop> {
+    match trial.make(Move::Status, cx) {
+        Reply::Stands(_) => write_tally(reply, trial.tally())?,
+        other => write_managed(reply, &other, None)?,
+    }
+    Ok(Event::new())
 }
 
 // Makes a move, and appends the reply.
@@ -151,14 +166,54 @@ pub fn play_unmanaged(
     line: &[u8],
     reply: &mut String,
 ) -> Result<Event, Stop> {
-    let next = parse_unmanaged(line)?;
+    let event = match parse_unmanaged_line(line)? {
+        UnmanagedLine::Drain => drain_unmanaged(trial, is_closed, reply)?,
+        UnmanagedLine::Tally => ask_unmanaged_tally(trial, reply)?,
+        UnmanagedLine::Move(next) => make_unmanaged(trial, given, is_closed, next, reply)?,
+    };
+    end_line(reply)?;
+    Ok(event)
+}
+
+// Closes the pool, and says what is left in it.
+fn drain_unmanaged(
+    trial: &mut UnmanagedTrial,
+    is_closed: bool,
+    reply: &mut String,
+) -> Result<Event, Stop> {
+    let mut event = Event::of_unmanaged(&unmanaged::Move::Close, is_closed);
+    let answer = trial.make(unmanaged::Move::Close);
+    event.note_unmanaged(&answer);
+    match answer {
+        unmanaged::Reply::Done => write_remainder(reply, trial.counts().size)?,
+        other => write_unmanaged(reply, &other, None)?,
+    }
+    Ok(event)
+}
+
+// Says how often each thing has happened. Nothing changes.
+fn ask_unmanaged_tally(trial: &mut UnmanagedTrial, reply: &mut String) -> Result<Event, Stop> {
+    match trial.make(unmanaged::Move::Status) {
+        unmanaged::Reply::Stands(_) => write_unmanaged_tally(reply, trial.tally())?,
+        other => write_unmanaged(reply, &other, None)?,
+    }
+    Ok(Event::new())
+}
+
+// Makes a move, and appends the reply.
+fn make_unmanaged(
+    trial: &mut UnmanagedTrial,
+    given: &mut Given,
+    is_closed: bool,
+    next: unmanaged::Move<u64>,
+    reply: &mut String,
+) -> Result<Event, Stop> {
     let named = named_by_unmanaged(&next);
     let mut event = Event::of_unmanaged(&next, is_closed);
     let answer = trial.make(next);
     event.note_unmanaged(&answer);
     note_unmanaged(given, named, &answer)?;
     write_unmanaged(reply, &answer, unmanaged_value_of(trial, &answer))?;
-    end_line(reply)?;
     Ok(event)
 }
 

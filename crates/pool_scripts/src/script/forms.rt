@@ -55,7 +55,6 @@ fn managed_wants(word: &str) -> Option<&'static str> {
         "put" => "an object and a value",
         "resize" => "a limit",
         "retain" => "the numbers of objects",
-        "drain" => NOTHING,
         word => return either_wants(word),
     })
 }
@@ -75,7 +74,7 @@ fn either_wants(word: &str) -> Option<&'static str> {
         "poll" => PARTY_AND_MOMENT,
         "cancel" => "a party",
         "back" | "take" => "an object",
-        "close" | "status" | "clone" | "drop" | "upgrade" => NOTHING,
+        "close" | "drain" | "status" | "tally" | "clone" | "drop" | "upgrade" => NOTHING,
         _ => return None,
     })
 }

@@ -19,8 +19,8 @@ pub enum ManagedLine {
     Move(Move<u64>),
 }
 
-/// What a line of a script says over a managed pool: a line of one move, a get that is polled at once, or a closing
-/// that says what is left.
+/// What a line of a script says over a managed pool: a line of one move, a get that is polled at once, a closing that
+/// says what is left, or a question for what was counted.
 #[derive(Drop)]
 pub enum ScriptLine {
     Plain(ManagedLine),
@@ -28,6 +28,8 @@ pub enum ScriptLine {
     Get(Moment),
     /// The pool closes.
     Drain,
+    /// How often each thing has happened.
+    Tally,
 }
 
 /// What a line of a script says over a managed pool.
@@ -45,6 +47,7 @@ fn read_own(line: &[u8]) -> Result<Option<ScriptLine>, LineError> {
     let own = match next_word(&mut words)? {
         "get" => ScriptLine::Get(next_moment(&mut words)?),
         "drain" => ScriptLine::Drain,
+        "tally" => ScriptLine::Tally,
         _ => return Ok(None),
     };
     end(&mut words)?;

@@ -6,6 +6,38 @@ use super::{Language, LineError};
 use deadpool_replay::unmanaged::Move;
 use std::time::Duration;
 
+/// What a line of a script says over an unmanaged pool: a move, a closing that says what is left, or a question for
+/// what was counted.
+#[derive(Drop)]
+pub enum UnmanagedLine {
+    Move(Move<u64>),
+    /// The pool closes.
+    Drain,
+    /// How often each thing has happened.
+    Tally,
+}
+
+/// What a line of a script says over an unmanaged pool.
+pub fn parse_unmanaged_line(line: &[u8]) -> Result<UnmanagedLine, LineError> {
+    match read_own(line) {
+        Ok(Some(own)) => Ok(own),
+        Ok(None) => Ok(UnmanagedLine::Move(parse_unmanaged(line)?)),
+        Err(cause) => Err(cause.in_line(Language::Unmanaged, line)),
+    }
+}
+
+// What a line says that is not a move. None if it is one.
+fn read_own(line: &[u8]) -> Result<Option<UnmanagedLine>, LineError> {
+    let mut words = words_of(line)?;
+    let own = match next_word(&mut words)? {
+        "drain" => UnmanagedLine::Drain,
+        "tally" => UnmanagedLine::Tally,
+        _ => return Ok(None),
+    };
+    end(&mut words)?;
+    Ok(Some(own))
+}
+
 /// The move that a line says over an unmanaged pool.
 pub fn parse_unmanaged(line: &[u8]) -> Result<Move<u64>, LineError> {
     read_unmanaged(line).map_err(|cause| cause.in_line(Language::Unmanaged, line))

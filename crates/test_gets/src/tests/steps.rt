@@ -6,6 +6,7 @@ mod hooks;
 mod limits;
 mod lines;
 mod play;
+mod waits;
 mod wakes;
 mod world;
 mod wrappers;

@@ -1,6 +1,6 @@
-//! Managed pools that close while something is out. A line `drain` closes the pool and says what is left in it.
+//! Pools that close while something is out. A line `drain` closes the pool and says what is left in it.
 
-/// Pools that are drained at once, by a return, by a take, and by a get that ends.
+/// Managed pools that are drained at once, by a return, by a take, and by a get that ends.
 pub const CLOSING: &str = "\
 # drained-by-the-last-return
 pool 2 fifo none 0 => ok
@@ -66,4 +66,43 @@ resize 1 => ok
 drain => drained
 drop => ok
 drain => no handle
+";
+
+/// Unmanaged pools that are drained by a return, by a take, and at once.
+pub const CLOSING_UNMANAGED: &str = "\
+# drained-by-the-last-return
+unmanaged 2 none => ok
+tryadd 7 => added 0
+tryadd 8 => added 1
+get => party 0
+poll 0 0 => object 1 value 8
+drain => left 1
+tryadd 9 => error Pool has been closed value 9
+back 1 => dropped
+drain => drained
+drop => ok
+drain => no handle
+
+# drained-by-the-last-take
+unmanaged 2 none => ok
+tryadd 7 => added 0
+tryadd 8 => added 1
+tryget => object 1 value 8
+add 9 => party 0
+poll 0 0 => pending
+drain => left 1
+take 1 => taken 8
+poll 0 0 => error Pool has been closed value 9
+drain => drained
+
+# granted-get-is-not-waited-for
+unmanaged 1 none => ok
+tryadd 7 => added 0
+tryget => object 0 value 7
+get => party 0
+poll 0 0 => pending
+back 0 => kept
+drain => drained
+poll 0 0 => error Pool has been closed
+drain => drained
 ";

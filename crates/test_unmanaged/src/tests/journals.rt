@@ -1,6 +1,8 @@
-//! The journal of a pool: what it has of some steps, its text, and that a pool of its own makes its steps again.
+//! The journal of a pool: what it has of some steps, its text, and that a pool of its own makes its steps again. And
+//! its tally.
 mod again;
 mod driver;
+mod tallies;
 mod texts;
 
 use super::expect;

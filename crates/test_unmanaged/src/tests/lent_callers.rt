@@ -14,7 +14,7 @@ use deadpool_chronicle::{Beginning, Blank, Caller, Chronicle};
 use deadpool_parts::NoTime;
 use deadpool_unmanaged::{PoolConfig, Reply, Status, Step};
 use deadpool_unmanaged_history::{Line, Recorded};
-use deadpool_unmanaged_journal::{Entry, Nameless, OwnerReply, OwnerStep, Unnamed};
+use deadpool_unmanaged_journal::{Entry, Nameless, OwnerReply, OwnerStep, Tally, Unnamed};
 use deadpool_unmanaged_shared::{Object, Pool};
 use std::marker::Brand;
 use std::test::Fail;
@@ -31,6 +31,24 @@ fn add_and_ask<R: Host, H: Chronicle>(pool: &Numbers<R, H>, me: &mut Calls<H>) -
 {
     drop(pool.try_add_by(me, 7));
     pool.status_by(me)
+}
+
+// An object was added, went out and came back, and went with the close.
+fn counts<R: Host, H: Chronicle>(pool: &Numbers<R, H>, me: &mut Calls<H>) -> Result<(), Fail> {
+    let counted = pool.tally_by(me);
+    let wanted = Tally {
+        gets: 1,
+        served: 1,
+        adds: 1,
+        stored: 1,
+        dropped: 1,
+        ..Tally::new()
+    };
+    expect(
+        "the tally with the status, by a caller and by none",
+        (counted, pool.tally()),
+        ((wanted, stands(1, 0, 0, 0)), (wanted, stands(1, 0, 0, 0))),
+    )
 }
 
 // Two callers at once, and the object that one of them gets, gives back, and finds in the history.
@@ -56,6 +74,7 @@ fn plays<R: Host, H: Chronicle>(rt: R, history: Blank) -> Result<(), Fail>
     pool.close_by(&mut two);
     pool.audit(&mut one, &mut two);
     let journal = pool.journal_by(&mut object)?;
+    counts(&pool, &mut object)?;
     expect(
         "the object, and the pool before it was given",
         (value, status),

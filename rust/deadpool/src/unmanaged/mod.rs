@@ -16,6 +16,7 @@ mod object;
 mod pool;
 
 pub use crate::Status;
+pub use crate::cores::unmanaged_journal::{Report, Tally};
 pub use crate::journal::Journal;
 pub use config::{PoolConfig, PoolError};
 pub use object::Object;

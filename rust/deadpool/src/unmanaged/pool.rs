@@ -1,5 +1,5 @@
 //! A handle of a pool.
-use super::{Core, Journal, Object, PoolConfig, PoolError};
+use super::{Core, Journal, Object, PoolConfig, PoolError, Report};
 use crate::Status;
 use crate::cores::unmanaged::{Reply, Step};
 use crate::desk::Desk;
@@ -176,6 +176,25 @@ impl<T> Pool<T> {
     #[must_use]
     pub fn status(&self) -> Status {
         self.shared.look().desk.status()
+    }
+
+    /// How often each thing has happened since the pool was opened, with how it stands, both of one moment. It is printed as
+    /// Prometheus reads it, with the name as a label: none until you set one.
+    ///
+    /// ```
+    /// use deadpool::unmanaged::{Pool, PoolError, Report};
+    ///
+    /// let pool = Pool::from(["a letter", "another"]);
+    /// pool.try_remove()?;
+    /// let report = Report { name: "letters", ..pool.tally() };
+    /// assert_eq!((report.tally.stored, report.tally.taken, report.status.size), (2, 1, 1));
+    /// assert!(report.to_string().contains("pool_adds_stored_total{pool=\"letters\"} 2\n"));
+    /// # Ok::<(), PoolError>(())
+    /// ```
+    #[must_use]
+    pub fn tally(&self) -> Report<'static> {
+        let desk = &mut self.shared.look().desk;
+        Report { name: "", tally: desk.tally(), status: desk.status() }
     }
 
     /// The steps that the pool has made, of which [`PoolConfig::journal`] says how many are noted. An object has no name there.

@@ -1,12 +1,16 @@
 //! What is seen of a trial from outside, between its moves.
 ghost use Rattle.std.specs.Prelude.{◌≡◌, slice_get};
 ghost use Rattle.std.specs.Option.{option_map};
+ghost use Rattle.deadpool_unmanaged_journal.specs.Tally.{AreBalanced};
 ghost use Rattle.deadpool_replay.specs.Unmanaged.Look.{look_of, counts_of};
+ghost use Rattle.deadpool_replay.specs.Unmanaged.Pool.{size};
 ghost use Rattle.deadpool_replay.specs.Unmanaged.TrialFields.{look_at_get, look_at_add};
 
 use super::{Trial, Visitor};
+use crate::unmanaged::counting::Counting;
 use crate::unmanaged::{Item, Look};
-use deadpool_unmanaged::{AddStage, Core, Counts, GetStage};
+use deadpool_unmanaged::{AddStage, Counts, GetStage};
+use deadpool_unmanaged_journal::Tally;
 
 impl<T: Drop> Trial<T> {
     /// How the party with this number stands. Nothing changes.
@@ -29,6 +33,14 @@ impl<T: Drop> Trial<T> {
         self.core.counts()
     }
 
+    /// How often each thing has happened since the pool was opened. The books balance: until the count of objects that
+    /// were stored has stopped, each is there or was given up. Nothing changes.
+    pub fn tally(&self) -> Tally
+        ensures { AreBalanced (size self.now) result }
+    {
+        self.core.tally()
+    }
+
     /// The number of the idle object at this position. The last is the next to go out.
     pub fn idle_at(&self, at: usize) -> Option<usize>
         ensures { result ≡ option_map (λ s. s.number) (slice_get self.now.idle at) }
@@ -47,7 +59,7 @@ impl<T: Drop> Trial<T> {
 }
 
 // What is seen of a get at this stage.
-fn look_at_get<T: Drop>(stage: &GetStage, core: &mut Core<Item<T>>) -> Look
+fn look_at_get<T: Drop>(stage: &GetStage, core: &mut Counting<Item<T>>) -> Look
     ensures look { result ≡ look_at_get core.old.pool.gets stage.now }
     ensures same { core.new ≡ core.old }
 {
@@ -65,7 +77,7 @@ fn look_at_get<T: Drop>(stage: &GetStage, core: &mut Core<Item<T>>) -> Look
 }
 
 // What is seen of an add at this stage.
-fn look_at_add<T: Drop>(stage: &AddStage<Item<T>>, core: &mut Core<Item<T>>) -> Look
+fn look_at_add<T: Drop>(stage: &AddStage<Item<T>>, core: &mut Counting<Item<T>>) -> Look
     ensures look { result ≡ look_at_add core.old.pool.adds stage.now }
     ensures same { core.new ≡ core.old }
 {

@@ -24,6 +24,8 @@ pub enum Step {
     Take(usize),
     /// What value an object has.
     Read(usize),
+    /// How long an object's get waited.
+    Waited(usize),
     Resize(usize),
     /// The objects are kept whose value is at least this.
     Retain(u64),
@@ -66,6 +68,8 @@ pub enum Reply {
     Counted(usize, usize, usize, usize),
     /// 0 says that it was not told.
     At(u64),
+    /// How long a get waited, in nanoseconds.
+    For(u128),
 }
 
 type Words<'a> = Split<'a, char>;
@@ -140,6 +144,7 @@ fn step_at(word: &str, place: usize) -> Option<Step> {
         "back" => Some(Step::Back(place)),
         "take" => Some(Step::Take(place)),
         "read" => Some(Step::Read(place)),
+        "waited" => Some(Step::Waited(place)),
         "resize" => Some(Step::Resize(place)),
         "pool" => Some(Step::PoolOf(place)),
         "drop" => Some(Step::DropHandle(place)),
@@ -163,5 +168,6 @@ pub fn write_reply(text: &mut String, reply: Reply) -> Result<(), AllocError> {
             "created {created}, recycled {recycled}, polled {polled}, detached {detached}"
         ),
         Reply::At(moment) => write!(text, "at {moment}"),
+        Reply::For(nanos) => write!(text, "for {nanos}"),
     }
 }

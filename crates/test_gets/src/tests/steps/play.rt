@@ -204,6 +204,7 @@ impl<R: Wait + Drop, L: Ledgers> Table<R, L> {
             Step::Back(place) => self.back(place),
             Step::Take(place) => self.take(place),
             Step::Read(place) => self.read(place),
+            Step::Waited(place) => self.waited(place),
             step => self.ask(step),
         }
     }
@@ -303,6 +304,13 @@ impl<R: Wait + Drop, L: Ledgers> Table<R, L> {
     fn read(&mut self, place: usize) -> Result<Reply, Fail> {
         match &self.party(place)?.object {
             Some(object) => Ok(Reply::Value(**object)),
+            None => Err(Fail::new("the object is not out")),
+        }
+    }
+
+    fn waited(&mut self, place: usize) -> Result<Reply, Fail> {
+        match &self.party(place)?.object {
+            Some(object) => Ok(Reply::For(Object::waited(object).as_nanos())),
             None => Err(Fail::new("the object is not out")),
         }
     }

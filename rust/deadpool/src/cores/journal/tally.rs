@@ -68,21 +68,25 @@ impl Tally {
     #[inline(always)]
     pub(crate) fn count(&mut self, step: &Step, reply: &Reply) {
         match (step, reply) {
+            (Step::Enter { .. }, Reply::Object { .. } | Reply::Create) => {
+                add(&mut self.gets, 1);
+                add(&mut self.served, 1);
+            }
             (Step::Enter { .. }, _) => self.enter(reply),
             (Step::Ask { .. }, _) => self.answer(reply),
             (Step::Created, Reply::Number(_)) => add(&mut self.created, 1),
             (Step::Failed, Reply::Done) => add(&mut self.failed, 1),
             (Step::Discard | Step::Refused, Reply::Done) => add(&mut self.refused, 1),
             (Step::Cancel(Held::Object), Reply::Done) => add(&mut self.cancelled, 1),
-            (Step::Back, Reply::Detach) => add(&mut self.surplus, 1),
-            (Step::Back, Reply::Dropped) => add(&mut self.dropped, 1),
+            (Step::Back, Reply::Kept) => {}
+            (Step::Back, _) => self.come_back(reply),
             (Step::Take, Reply::Taken { .. }) => add(&mut self.taken, 1),
             _ => {}
         }
     }
 
-    // Counts a get that enters.
-    #[inline(always)]
+    // Counts a get that enters. (What `count` does with the usual replies costs less.)
+    #[inline(never)]
     fn enter(&mut self, reply: &Reply) {
         add(&mut self.gets, 1);
         match reply {
@@ -92,13 +96,23 @@ impl Tally {
     }
 
     // Counts the reply to a get that asks for its place.
-    #[inline(always)]
+    #[inline(never)]
     fn answer(&mut self, reply: &Reply) {
         match reply {
             Reply::Object { .. } | Reply::Create | Reply::Going => add(&mut self.served, 1),
             Reply::Full | Reply::Expired => add(&mut self.late, 1),
             Reply::Crowded => add(&mut self.crowded, 1),
             Reply::Closed => add(&mut self.closed, 1),
+            _ => {}
+        }
+    }
+
+    // Counts an object that comes back.
+    #[inline(never)]
+    fn come_back(&mut self, reply: &Reply) {
+        match reply {
+            Reply::Detach => add(&mut self.surplus, 1),
+            Reply::Dropped => add(&mut self.dropped, 1),
             _ => {}
         }
     }

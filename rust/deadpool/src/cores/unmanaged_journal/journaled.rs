@@ -4,21 +4,24 @@
 use crate::cores::unmanaged::gate::Ticket;
 use crate::cores::unmanaged::{Core, Reply, Step};
 use crate::cores::unmanaged_journal::log::Log;
+use crate::cores::unmanaged_journal::tally::Tally;
 use crate::cores::unmanaged_journal::{Entry, Journal, Naming, OwnerReply, OwnerStep};
 use crate::rattle::{AllocError, Global};
 use std::marker::PhantomData;
 
-/// A pool's state with a journal: at most so many entries, one for each step, and a mark that a step found no room.
-/// `K` says what stands for an object in it.
+/// A pool's state with a journal: at most so many entries, one for each step, and a mark that a step found no room; and
+/// a tally of all steps. `K` says what stands for an object in the journal.
 ///
 /// Until the mark is set, the entries, replayed from the state that the pool opened with, are the state, objects by
-/// name. Whom the pool has told is not looked at. Each step is that of `Core` and adds its entry, or sets the mark.
+/// name. Whom the pool has told is not looked at. Each step is that of `Core`, is counted, and adds its entry, or sets
+/// the mark.
 #[repr(C)]
 pub struct Journaled<T, K: Naming<T>> {
     pub(crate) core: Core<T>,
     log: Log<K::Name>,
     limit: usize,
     max_waiting: Option<usize>,
+    tally: Tally,
     by: PhantomData<K>,
 }
 
@@ -29,7 +32,8 @@ impl<T, K: Naming<T>> Journaled<T, K> {
     pub fn new(alloc: Global, max_size: usize, most_entries: usize) -> Result<Self, AllocError> {
         let core = Core::new(alloc, max_size)?;
         let log = Log::new(alloc, most_entries)?;
-        Ok(Journaled { core, limit: max_size, max_waiting: None, log, by: PhantomData })
+        let tally = Tally::new();
+        Ok(Journaled { core, limit: max_size, max_waiting: None, log, tally, by: PhantomData })
     }
 
     /// The pool, before its first step, with a bound on the gets that wait, and on the adds, or with none.
@@ -38,21 +42,23 @@ impl<T, K: Naming<T>> Journaled<T, K> {
         Journaled { core: self.core.bounded(max_waiting), max_waiting, ..self }
     }
 
-    /// Makes one step of a get, an add or an object, as `Core` does, and notes it.
+    /// Makes one step of a get, an add or an object, as `Core` does, notes it, and counts it.
     #[inline(always)]
     pub fn make(&mut self, step: &Step, hand: &mut Option<T>) -> Reply {
         let taken = name_in::<T, K>(hand);
         let reply = self.core.make(step, hand);
         let object = taken.or(name_in::<T, K>(hand));
         self.log.add_step(step, object, &reply);
+        self.tally.count(step, &reply);
         reply
     }
 
-    /// Makes a step of the pool's owner, and notes it.
+    /// Makes a step of the pool's owner, notes it, and counts it.
     #[inline]
     pub fn make_for_owner(&mut self, step: &OwnerStep) -> OwnerReply {
-        let reply = step.make(&mut self.core);
+        let (reply, gone) = make_counting(&mut self.core, step);
         self.log.add_owner_step(step, &reply);
+        self.tally.count_for_owner(step, gone);
         reply
     }
 
@@ -91,6 +97,12 @@ impl<T, K: Naming<T>> Journaled<T, K> {
         self.core.is_closed()
     }
 
+    /// Whether the pool was closed and no object is left, idle or out. It is no step.
+    #[inline]
+    pub fn is_drained(&self) -> bool {
+        self.core.is_drained()
+    }
+
     /// Whether a pool handle is left. It is no step.
     #[inline]
     pub fn has_handle(&self) -> bool {
@@ -121,6 +133,12 @@ impl<T, K: Naming<T>> Journaled<T, K> {
         self.core.next_add()
     }
 
+    /// How often each thing has happened since the pool was opened. It is no step.
+    #[inline]
+    pub fn tally(&self) -> Tally {
+        self.tally
+    }
+
     /// The next get in the queue that is due to be woken. It is no step, and nothing is noted.
     #[inline]
     pub fn take_get_wake(&mut self) -> Option<Ticket> {
@@ -137,6 +155,19 @@ impl<T, K: Naming<T>> Journaled<T, K> {
     #[inline]
     pub fn is_wake_due(&self) -> bool {
         self.core.is_wake_due()
+    }
+}
+
+// Makes a step of the owner, and says how many objects go by it. Those are counted only where some may.
+#[inline]
+fn make_counting<T>(core: &mut Core<T>, step: &OwnerStep) -> (OwnerReply, usize) {
+    match step {
+        OwnerStep::Close | OwnerStep::DropHandle => {
+            let size = core.counts().size;
+            let reply = step.make(core);
+            (reply, size.saturating_sub(core.counts().size))
+        }
+        OwnerStep::Status | OwnerStep::CloneHandle | OwnerStep::Upgrade => (step.make(core), 0),
     }
 }
 

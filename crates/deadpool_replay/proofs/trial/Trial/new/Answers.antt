@@ -7,7 +7,12 @@ invariant_of-result g c =
     let b = c.args.builder in
     let pool = c.in_ok-core.ensures in
     record {
-      counted = rw (pool.core, c.in_ok-with_capacity.ensures.items, c.in_ok-with_capacity-2.ensures.items)
+      counted = rw (
+        c.new.ensures,
+        pool.core,
+        c.in_ok-with_capacity.ensures.items,
+        c.in_ok-with_capacity-2.ensures.items,
+      )
           record {
             tickets = record { owned = λ t h. cc; listed = λ n t get h. cc };
             going = refl;
@@ -16,6 +21,7 @@ invariant_of-result g c =
             room = omega arith;
           };
       well = rw (
+        c.new.ensures,
         pool.core,
         pool.environment,
         pool.timeouts,
@@ -33,6 +39,7 @@ pub returns-clause-pool : goal.returns-clause-pool
 returns-clause-pool g c =
     let pool = c.in_ok-core.ensures in
     rw (
+      c.new.ensures,
       pool.core,
       pool.environment,
       pool.timeouts,

@@ -16,6 +16,7 @@ returns-in-More-clause-polls g c =
             _,
             (
               rw (c.new-seat.ensures, c.take.ensures.value, c.timeouts-timeouts.ensures) at c.run-came.ensures.polled,
+              rw (c.is_queued.ensures) at c.see.ensures,
               elim c.in-More.is [ inl more ↦ rw (more) left | inr pending ↦ rw (pending) left ],
             ),
           ),
@@ -36,6 +37,7 @@ returns-in-Failed-clause-polls g c =
             (
               rw (c.new-seat.ensures, c.take.ensures.value, c.timeouts-timeouts.ensures, c.in-Failed.is)
                   at c.run-came.ensures.polled,
+              rw (c.is_queued-in-Failed.ensures) at c.see-in-Failed.ensures,
               (refl, c.put.ensures ∙ c.into_shares.ensures),
             ),
           ),
@@ -64,6 +66,7 @@ returns-in_default-clause-polls g c =
                 c.in_default.is,
               )
                   at c.run-came.ensures.polled,
+              c.end-waited.ensures.ended,
               c.put.ensures ∙ c.into_shares.ensures,
             ),
           ),
@@ -92,6 +95,7 @@ returns-clause-polls g c =
                 c.in-Some.is,
               )
                   at c.run-came.ensures.polled,
+              c.end-waited.ensures.ended,
               (
                 _,
                 (
@@ -99,6 +103,7 @@ returns-clause-polls g c =
                   refl,
                   sym (c.put.ensures ∙ c.into_shares.ensures) ∙ sym c.take-2.ensures.value ∙ c.in-Some-take.is
                       ∙ ap Some (sym c.new-out.ensures.shares),
+                  c.end-waited.ensures.waited,
                 ),
               ),
             ),

@@ -1,6 +1,6 @@
 -- A new pool's history is its opening alone, which leads to the state that it has.
 use Rattle.deadpool_unmanaged_history.proofs.Words.{◌∙◌, [], ◌∷◌, ◌++◌, ap, silent}
-use Rattle.deadpool_unmanaged_history.proofs.First.{has_none}
+use Rattle.deadpool_unmanaged_history.proofs.First.{has_no_tally, has_none}
 use Rattle.deadpool_unmanaged_history.proofs.recorded.Recorded.new.Goals as goal
 
 pub invariant_of-result : goal.invariant_of-result
@@ -15,6 +15,12 @@ invariant_of-result g c =
               ∙ ap (λ l. l ++ (n, added.0) ∷ []) c.requires.empty
               ∙ ap (λ x. (n, x) ∷ []) added.1.0,
         ),
-        (ap silent c.requires.opened, has_none c.args.pool.log c.requires.unnoted),
+        (
+          (
+            ap silent c.requires.opened,
+            has_no_tally g.K.Naming.name_of c.args.pool c.laws.ensures.kept c.requires.unnoted,
+          ),
+          has_none c.args.pool.log c.requires.unnoted,
+        ),
       ),
     )

@@ -17,6 +17,6 @@ invariant_of-self g c =
     let noted : c.or-object.result ≡ name_in name object =
     rw (c.or-object.ensures, c.name_in-taken.ensures, c.name_in.ensures)
     (or_named name c.args.hand.now c.make-reply.new.hand) in
-    rw (c.add_step.ensures, noted)
+    rw (c.add_step.ensures, noted, c.count.ensures)
     (step_kept name (journaling_of c.self.inside) after e c.self.invariant
     (step_silent (by_name name core.pool) (by_name name after.pool) e made))

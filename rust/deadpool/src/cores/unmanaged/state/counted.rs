@@ -13,6 +13,12 @@ impl<T> Core<T> {
         self.gets.is_closed()
     }
 
+    /// Whether the pool was closed and no object is left, idle or out. It stays so.
+    #[inline]
+    pub fn is_drained(&self) -> bool {
+        self.is_closed() && self.idle.is_empty() && self.outside == 0
+    }
+
     /// Whether a pool handle is left.
     #[inline]
     pub fn has_handle(&self) -> bool {

@@ -4,7 +4,12 @@ use Rattle.deadpool_replay.proofs.unmanaged.trial.Trial.new.Goals as goal
 
 pub invariant_of-result : goal.invariant_of-result
 invariant_of-result g c =
-    rw (c.in_ok-new.ensures, c.in_ok-with_capacity.ensures.items, c.in_ok-with_capacity-2.ensures.items)
+    rw (
+      c.new-counting.ensures,
+      c.in_ok-core.ensures,
+      c.in_ok-with_capacity.ensures.items,
+      c.in_ok-with_capacity-2.ensures.items,
+    )
     record {
       counted = record {
         gets = record { owned = λ t h. cc; listed = λ n t x h. cc };

@@ -2,8 +2,8 @@
 ghost use Rattle.std.specs.Prelude.{◌≡◌, ◌==◌, [], None, Some, IfSome, IsSome, OnErr, OnOk};
 ghost use Rattle.deadpool_gate.specs.Gate.{waiting_count};
 
-use deadpool_lock::Wakers;
-use deadpool_managed::gate::{Entry, Gate, Ticket};
+use crate::Wakers;
+use deadpool_gate::gate::{Entry, Gate, Ticket};
 use futures::task::Waker;
 use std::alloc::{AllocError, Global};
 use std::marker::Model;
@@ -16,7 +16,7 @@ pub struct Ends {
 }
 
 impl Model for Ends {
-    ghost use Rattle.deadpool_shared.specs.Ends.{EndsState};
+    ghost use Rattle.deadpool_lock.specs.Ends.{EndsState};
 
     ghost Value = { EndsState };
 

@@ -1,6 +1,6 @@
 //! How a drain ends that does not end well.
 
-use deadpool_managed::Status;
+use deadpool_parts::Status;
 use std::fmt;
 
 /// Why a drain ended while something was left in its pool, which is closed. It says how the pool stood then.
@@ -14,7 +14,7 @@ pub enum DrainError {
 
 impl fmt::Display for DrainError {
     ghost use Rattle.std.specs.Prelude.{Some};
-    ghost use Rattle.deadpool_shared.specs.Drains.{drain_error_text};
+    ghost use Rattle.deadpool_lock.specs.Ends.{drain_error_text};
 
     ghost output = { λ error. Some (drain_error_text error) };
 

@@ -1,0 +1,110 @@
+//! What a drain does under the lock of its pool.
+ghost use Rattle.std.specs.Prelude.{◌≡◌, ◌⊎◌, false, None, IsSome};
+ghost use Rattle.deadpool_lock.specs.Ends.{status_in};
+ghost use Rattle.deadpool_unmanaged.specs.Closing.{ShowsLeft, is_drained};
+ghost use Rattle.deadpool_unmanaged.specs.StateSteps.{closed_pool};
+ghost use Rattle.deadpool_unmanaged_journal.specs.declared.entry.Entry.TheVariants as entry;
+ghost use Rattle.deadpool_unmanaged_journal.specs.declared.owner_step.OwnerReply.TheVariants as reply;
+ghost use Rattle.deadpool_unmanaged_journal.specs.declared.owner_step.OwnerStep.TheVariants as step;
+ghost use Rattle.deadpool_unmanaged_shared.specs.Drains.{CallsOfDrain, EndsAt, HasClosed};
+ghost use Rattle.futures.specs.Poll.{IfReady, OnPending};
+
+use super::Locked;
+use deadpool_lock::DrainError;
+use deadpool_unmanaged::gate::Ticket;
+use deadpool_unmanaged::{Status, laws};
+use deadpool_unmanaged_history::KeepsState;
+use deadpool_unmanaged_journal::{OwnerReply, OwnerStep};
+use futures::task::{Poll, Waker};
+
+impl<T: Drop, S: KeepsState<T>> Locked<T, S> {
+    /// Closes the pool, at the first poll of a drain in any case, and ends the drain with the pool's status if no
+    /// object is left, or if the drain is late. Otherwise its task waits, under its ticket, until none is left; if
+    /// there is no memory for that, the drain ends too. The waker that is kept no longer is given out.
+    pub fn drain(
+        &mut self,
+        caller: &mut S::Caller,
+        is_first: bool,
+        is_late: bool,
+        ticket: &mut Option<Ticket>,
+        waker: &mut Option<Waker>,
+    ) -> (Poll<Result<Status, DrainError>>, Option<Waker>)
+        ensures closed { (S.state_of self.new.state).pool.is_open ≡ false }
+        ensures pool { ((S.state_of self.new.state).pool ≡ closed_pool (S.state_of self.old.state).pool)
+            ⊎ ((S.state_of self.new.state).pool ≡ (S.state_of self.old.state).pool) }
+        ensures ends { IfReady result.0
+            (EndsAt (is_drained (S.state_of self.new.state).pool) is_late) }
+        ensures waits { OnPending result.0
+            ((is_drained (S.state_of self.new.state).pool ≡ false)
+            × (is_late ≡ false) × IsSome ticket.new) }
+        ensures left { IfReady result.0 (λ _. ticket.new ≡ None) }
+        ensures calls { CallsOfDrain S.calls is_first result.0 caller.old caller.new }
+        ensures gets { self.new.gets ≡ self.old.gets }
+        ensures adds { self.new.adds ≡ self.old.adds }
+    {
+        let Locked { state, ends, .. } = self;
+        close::<T, S>(state, caller, is_first);
+        let is_drained = state.is_drained();
+        if !is_drained && !is_late {
+            if let Ok(spare) = ends.wait(ticket, waker) {
+                return (Poll::Pending, spare);
+            }
+        }
+        let spare = ends.leave(ticket);
+        let status = status::<T, S>(state, caller);
+        (Poll::Ready(end(status, is_drained, is_late)), spare)
+    }
+
+    /// A drain waits no longer. Its waker is given out. It is no step.
+    pub fn leave_drain(&mut self, ticket: &mut Option<Ticket>) -> Option<Waker>
+        ensures same { S.state_of self.new.state ≡ S.state_of self.old.state }
+        ensures gets { self.new.gets ≡ self.old.gets }
+        ensures adds { self.new.adds ≡ self.old.adds }
+        ensures left { ticket.new ≡ None }
+    {
+        self.ends.leave(ticket)
+    }
+}
+
+// The pool is closed, once more if this is the first poll.
+fn close<T: Drop, S: KeepsState<T>>(state: &mut S, caller: &mut S::Caller, is_first: bool)
+    ensures closed { (S.state_of state.new).pool.is_open ≡ false }
+    ensures pool { ((S.state_of state.new).pool ≡ closed_pool (S.state_of state.old).pool)
+        ⊎ ((S.state_of state.new).pool ≡ (S.state_of state.old).pool) }
+    ensures call { HasClosed S.calls is_first caller.old caller.new }
+{
+    if is_first || !state.is_closed() {
+        let OwnerReply::Done = state.make_for_owner(caller, &OwnerStep::Close) else {
+            unreachable!();
+        };
+    }
+}
+
+// How a closed pool stands, which shows whether an object is left in it.
+fn status<T: Drop, S: KeepsState<T>>(state: &mut S, caller: &mut S::Caller) -> Status
+    requires closed { (S.state_of state.old).pool.is_open ≡ false }
+    ensures shows { ShowsLeft (is_drained (S.state_of state.old).pool) result }
+    ensures pool { (S.state_of state.new).pool ≡ (S.state_of state.old).pool }
+    ensures call { S.calls (entry.Owner step.Status (reply.Stands result)) caller.old caller.new }
+{
+    laws::status_shows_what_is_left::<T>();
+    match state.make_for_owner(caller, &OwnerStep::Status) {
+        OwnerReply::Stands(status) => status,
+        _ => unreachable!(),
+    }
+}
+
+// The end of a drain, with the status of its pool.
+fn end(status: Status, is_drained: bool, is_late: bool) -> Result<Status, DrainError>
+    requires { ShowsLeft is_drained status }
+    ensures ends { EndsAt is_drained is_late result }
+    ensures status { status_in result ≡ status }
+{
+    if is_drained {
+        Ok(status)
+    } else if is_late {
+        Err(DrainError::Timeout(status))
+    } else {
+        Err(DrainError::OutOfMemory(status))
+    }
+}
