@@ -24,11 +24,9 @@ const ARROW: &str = " => ";
 ///
 /// Some lines are not of the program:
 /// - `list start; poll 0 0 => party 0; object 0` makes a list of moves in one call. Its replies name no value of an
-/// object
-///   that a move has handed out. An empty list has the reply `nothing`.
+///   object that a move has handed out. An empty list has the reply `nothing`.
 /// - `calls => create 1 recycle 0 poll 1 detach 0` says how often the manager was asked so far: creations and
-/// recyclings
-///   that were begun, polls of both, and objects that were detached.
+///   recyclings that were begun, polls of both, and objects that were detached.
 /// - `woken => no` says whether the task in which the line before was played is to be polled again.
 pub fn expect_script<R: RandomSource + AllocGlobal>(rt: &R, text: &str) -> Result<(), Fail> {
     expect_crowd(rt, PARTIES, text)
