@@ -14,7 +14,6 @@ use Rattle.deadpool_desk.specs.declared.step.Held.TheVariants as held
 use Rattle.deadpool_desk.specs.declared.step.Reply.{Reply}
 use Rattle.deadpool_desk.specs.declared.step.Reply.TheVariants.{Object, Create, Going, Exhausted, Closed, Done, Number}
 use Rattle.deadpool_desk.specs.declared.step.Reply.TheVariants.{Kept, Detach, Dropped, Taken, Unknown}
-use Rattle.deadpool_desk.specs.declared.step.Step.{Step}
 use Rattle.deadpool_desk.specs.declared.step.Step.TheVariants.{Enter, Ask, Again, Discard, Created, Failed, Refused}
 use Rattle.deadpool_desk.specs.declared.step.Step.TheVariants.{Back, Withdraw, Cancel, Take}
 

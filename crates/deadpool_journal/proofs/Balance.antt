@@ -1,6 +1,6 @@
 -- The books balance after each step.
 use Rattle.deadpool_journal.proofs.Words.{◌≡◌, ℕ, ◌+◌, ◌-◌, ◌<◌, ◌≤◌, Bool, true, false, List, [], ◌∷◌, ◌++◌, length}
-use Rattle.deadpool_journal.proofs.Words.{map, refl, ap, ◌∙◌, Option, Some, None, drop, if◌then◌else◌, ◌==◌}
+use Rattle.deadpool_journal.proofs.Words.{refl, ap, ◌∙◌, Option, Some, None, if◌then◌else◌, ◌==◌}
 use Rattle.deadpool_journal.proofs.Words.{Ok, Err, arith, inl, inr, cases_Bool, length-map, length-append}
 use Rattle.deadpool_journal.proofs.Words.{subst}
 use Rattle.deadpool_journal.proofs.Words.{most_handles, QueueMode, Fifo, Lifo, DeskState, next_idle, other_idle}

@@ -1,8 +1,6 @@
 -- How often each thing has happened in a pool, and that its books balance.
 use Rattle.std.specs.Prelude.{◌≡◌, ◌<◌, ℕ, ◌+◌, ◌-◌, min, Result, Ok, Err}
 use Rattle.deadpool_desk.specs.DeskState.{DeskState, size}
-use Rattle.deadpool_desk.specs.declared.owner_step.OwnerReply.{OwnerReply}
-use Rattle.deadpool_desk.specs.declared.owner_step.OwnerReply.TheVariants as owner_reply
 use Rattle.deadpool_desk.specs.declared.owner_step.OwnerStep.{OwnerStep}
 use Rattle.deadpool_desk.specs.declared.owner_step.OwnerStep.TheVariants as owner
 use Rattle.deadpool_desk.specs.declared.step.Held.TheVariants as held

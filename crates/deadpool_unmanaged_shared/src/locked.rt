@@ -1,6 +1,5 @@
 //! What the lock of a pool keeps.
 ghost use Rattle.std.specs.Prelude.{◌≡◌, ◌⊎◌, ◌||◌, true, false, not, [], Some, None, IfSome, IsSome};
-ghost use Rattle.std.specs.Option.{option_or};
 ghost use Rattle.deadpool_lock.specs.Places.{Follows, waker_at};
 ghost use Rattle.deadpool_unmanaged.specs.Adds as adds;
 ghost use Rattle.deadpool_unmanaged.specs.Closing.{is_drained};

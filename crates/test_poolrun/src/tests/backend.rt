@@ -6,7 +6,7 @@ use deadpool::managed::{Ledgers, Metrics, NoHook, Object, PoolBuilder};
 use deadpool::{Moment, NoTime};
 use deadpool_buffers::{Buffer, BufferError, BufferPool, Buffers, GetBuffer, fill, poll_buffer};
 use deadpool_threads::{Plain, PlainManager, PoolUser, with_pool};
-use futures::task::{Context, Doorbell, Poll, Solo};
+use futures::task::{Doorbell, Poll, Solo};
 use std::alloc::AllocError;
 use std::random::RandomSource;
 use std::sync::Wait;

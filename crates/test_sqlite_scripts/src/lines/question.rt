@@ -1,6 +1,6 @@
 //! What a connection is asked.
 use crate::lines::reply::Reply;
-use sqlite::{Alter, Connection, Error, ErrorCode};
+use sqlite::{Alter, Connection, Error};
 
 /// What a connection is asked, whoever has it.
 #[derive(Clone, Copy)]

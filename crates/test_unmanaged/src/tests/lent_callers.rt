@@ -1,9 +1,7 @@
 //! A pool for threads over its one history: what each caller has there is what it asked, with the answers that it got.
-ghost use Rattle.std.specs.Prelude.{◌≡◌, [], ◌∷◌, Some, IfOk, false};
-ghost use Rattle.deadpool_chronicle.specs.History.{calls_by};
+ghost use Rattle.std.specs.Prelude.{◌≡◌, [], ◌∷◌, Some, false};
 ghost use Rattle.deadpool_unmanaged.specs.declared.step.Reply.{Reply};
 ghost use Rattle.deadpool_unmanaged.specs.declared.step.Step.TheVariants.{AddEnter, Back};
-ghost use Rattle.deadpool_unmanaged_history.specs.History.{IsLegal};
 ghost use Rattle.deadpool_unmanaged_history.specs.declared.line.Line.TheVariants.{Next};
 ghost use Rattle.deadpool_unmanaged_journal.specs.declared.entry.Entry.TheVariants.{Made, Owner};
 ghost use Rattle.deadpool_unmanaged_journal.specs.declared.owner_step.OwnerReply.TheVariants as reply;

@@ -6,7 +6,7 @@ use deadpool_managed::{ConfigError, Hook, NoHook, PoolConfig, QueueMode, Timeout
 use deadpool_unmanaged as unmanaged;
 use pool_scripts::Kind;
 use serde_json::Value;
-use std::alloc::{AllocError, Global};
+use std::alloc::Global;
 use std::test::Fail;
 use std::time::Duration;
 use test_support::expected::expect;
