@@ -4,20 +4,25 @@
 
 mod board;
 mod connections;
+mod counts;
 mod server;
 
 use board::{Board, SharedBoard};
-use connections::{ConnectionPool, Connector, Limited, USES};
+use connections::{Connector, USES};
+use counts::Counts;
+use deadpool::Runtime;
 use deadpool::limits::{Limits, Retire};
-use deadpool::managed::{Hook, Ledgers, NoHook, PoolBuilder, Tally};
-use deadpool::threads::{Handed, Host, Plain, PoolUser, Sweeper, with_keeper};
-use deadpool::timer::{Timer, TimerClock};
-use deadpool::{Runtime, Status};
+use deadpool::managed::{Hook, PoolBuilder, PoolConfig, strict_from_text};
+use deadpool::threads::{Handed, Plain, Sweeper, with_keeper};
+use deadpool::timer::Timer;
 use server::Server;
 use std::alloc::{AllocError, Global};
 use std::io;
 use std::sync::Arc;
-use std::time::{Clock, Duration};
+use std::time::Duration;
+
+/// The settings of the pool, as a service has them in a file of its own.
+const SETTINGS: &str = r#"{"max_size":4,"min_idle":1,"max_waiting":4}"#;
 
 /// How many threads ask for a connection.
 pub const ASKING: usize = 10;
@@ -25,11 +30,22 @@ pub const ASKING: usize = 10;
 /// How many of them are served.
 pub const SERVED: usize = 8;
 
-/// How many connections there are at most.
+/// How many connections there are at most, by the settings.
 pub const MOST: usize = 4;
 
-/// How many stay idle, however long nobody used them.
+/// How many stay idle, however long nobody used them, by the settings.
 pub const LEAST_IDLE: usize = 1;
+
+// The settings. If something is wrong with them, its place and why are told.
+fn settings<R: Eprint + AllocGlobal>(rt: &R) -> io::Result<PoolConfig> {
+    match strict_from_text(rt.alloc(), SETTINGS) {
+        Ok(settings) => Ok(settings),
+        Err(fault) => {
+            eprintln!(rt; "settings: {fault}")?;
+            Err(io::Error::other("these settings make no pool"))
+        }
+    }
+}
 
 // The threads that ask.
 fn servers(alloc: Global, board: &SharedBoard) -> Result<Vec<Handed<Server>>, AllocError> {
@@ -40,53 +56,26 @@ fn servers(alloc: Global, board: &SharedBoard) -> Result<Vec<Handed<Server>>, Al
     Ok(servers)
 }
 
-/// Says what the pool has counted, and how it stands, once all threads have ended.
-#[derive(Drop)]
-struct Counts;
-
-impl<R: Host + Clock> PoolUser<Plain<Connector>, Limited<R>, NoHook, TimerClock<R>, R> for Counts {
-    type Output = (Tally, Status);
-
-    fn run<L: Ledgers>(self, _rt: &R, pool: &ConnectionPool<R, L>) -> (Tally, Status) {
-        pool.tally()
-    }
-}
-
 fn main(rt: HostRuntime) -> io::Result<()> {
     let board = Board::new(rt.alloc())?;
     let connector = Connector(Arc::try_clone(&board)?);
     let timer = Timer::start(rt.alloc(), rt)?;
     let builder = PoolBuilder::new(rt.alloc(), Plain(connector), timer.clock()?)
-        .max_size(MOST)
+        .config(settings(&rt)?)
         .runtime(Runtime::Clock)
         .wait_timeout(Some(Duration::from_secs(30)));
-    let builder = builder
-        .min_idle(LEAST_IDLE)
-        .max_waiting(Some(SERVED - MOST));
     let limits = Limits::none().idle(Duration::from_millis(50)).uses(USES);
     let Ok(builder) = builder.pre_recycle(Hook::sync_fn(Retire::new(timer.clock()?, limits))) else {
         return Err(io::Error::other("no memory for a hook"));
     };
     let sweeper = Sweeper::new(timer.clock()?, limits, Duration::from_millis(10));
     let servers = servers(rt.alloc(), &board)?;
-    let (ended, _given_up, (tally, status)) = with_keeper(builder, rt, servers, sweeper, Counts)?;
+    let (ended, _given_up, told) = with_keeper(builder, rt, servers, sweeper, Handed(Counts))?;
     for end in ended {
         end??;
     }
     if board.failed.get() > 0 {
         return Err(io::Error::other("a connection served too often"));
     }
-    println!(rt;
-        "{} requests: {} served, {} turned away",
-        tally.gets, tally.served, tally.crowded
-    )?;
-    println!(rt;
-        "{} were late, and {} sent away at the closing",
-        tally.late, tally.closed
-    )?;
-    let open = board.opened.get().saturating_sub(board.closed.get());
-    println!(rt;
-        "after it: {} connections in the pool, {open} open",
-        status.size
-    )
+    told?.print(&rt, &board)
 }

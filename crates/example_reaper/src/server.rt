@@ -2,15 +2,18 @@
 use crate::board::SharedBoard;
 use crate::connections::{ConnectionPool, Connector, Limited};
 use crate::{ASKING, LEAST_IDLE, MOST, SERVED};
-use deadpool::managed::{Ledgers, NoHook, PoolError};
+use deadpool::managed::{Ledgers, NoHook, Object, PoolError};
 use deadpool::threads::{Blocking, BlockingUser, Host, Plain};
 use deadpool::timer::TimerClock;
 use std::io;
 use std::sync::Wait;
-use std::time::Clock;
+use std::time::{Clock, Duration};
 
 // How many requests each thread serves.
 const REQUESTS: u32 = 25;
+
+// How many seconds a request may have waited for its connection.
+const PATIENCE: u64 = 60;
 
 /// Serves requests, each with a connection of its own.
 #[derive(Drop)]
@@ -49,6 +52,9 @@ impl Server {
             let Ok(mut connection) = blocking.get(rt, pool) else {
                 return Err(io::Error::other("a request was refused"));
             };
+            if Object::waited(&connection) > Duration::from_secs(PATIENCE) {
+                return Err(io::Error::other("a request waited too long"));
+            }
             connection.requests = connection.requests.saturating_add(1);
         }
         if self.0.done.add() == SERVED - 1 {
