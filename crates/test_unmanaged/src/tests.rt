@@ -14,6 +14,7 @@ mod lent_callers;
 mod lines;
 mod made;
 mod many;
+mod noted;
 mod party;
 mod player;
 mod polls;

@@ -1,6 +1,7 @@
 //! Steps over a shared pool on one thread, with one task a get.
 mod calls;
 mod deadlines;
+mod drains;
 mod handles;
 mod hooks;
 mod limits;
