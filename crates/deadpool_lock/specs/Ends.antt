@@ -1,7 +1,9 @@
 -- Those that wait until nothing is left in a pool that has closed, and how a drain ends.
-use Rattle.std.specs.Prelude.{◌++◌, ℕ, List, codes, Option, Result, Ok, Err}
+use Rattle.std.specs.Prelude.{true, ◌++◌, ℕ, List, codes, Option, None, Result, Ok, Err}
+use Rattle.std.specs.Option.{option_map_or}
 use Rattle.futures.specs.declared.task.waker.Waker.{Waker}
-use Rattle.deadpool_gate.specs.Gate.{Line}
+use Rattle.deadpool_gate.specs.Gate.{Line, due_ticket}
+use Rattle.deadpool_lock.specs.Places.{waker_at}
 use Rattle.deadpool_lock.specs.declared.ended.DrainError.{DrainError}
 use Rattle.deadpool_lock.specs.declared.ended.DrainError.TheVariants.{Timeout, OutOfMemory}
 use Rattle.deadpool_parts.specs.Texts.{status_text}
@@ -12,6 +14,10 @@ pub record EndsState : Type 0 where
   pub line : Line
   -- each in the place of its ticket's number
   pub wakers : List (Option Waker)
+
+-- the waker of the first that waits and was not told, once the end has come
+abbrev pub end_waker : EndsState → Option Waker
+end_waker ends = option_map_or (λ t. waker_at t ends.wakers) (due_ticket true ends.line.waiters) None
 
 -- the status that a drain ends with
 abbrev pub status_in : Result Status DrainError → Status

@@ -1,6 +1,7 @@
 //! Those that wait until nothing is left in a pool that has closed.
-ghost use Rattle.std.specs.Prelude.{◌≡◌, ◌==◌, [], None, Some, IfSome, IsSome, OnErr, OnOk};
-ghost use Rattle.deadpool_gate.specs.Gate.{waiting_count};
+ghost use Rattle.std.specs.Prelude.{◌≡◌, ◌==◌, true, [], None, Some, IfSome, IsSome, OnErr, OnOk};
+ghost use Rattle.deadpool_gate.specs.Gate.{due_ticket, tell_next, waiting_count, without_waiter};
+ghost use Rattle.deadpool_lock.specs.Ends.{end_waker};
 
 use crate::Wakers;
 use deadpool_gate::gate::{Entry, Gate, Ticket};
@@ -80,7 +81,11 @@ impl Ends {
     }
 
     /// The end has come: the first that waits is told, by the waker that is given out, and waits no longer.
-    pub fn take_wake(&mut self) -> Option<Waker> {
+    pub fn take_wake(&mut self) -> Option<Waker>
+        ensures waker { result ≡ end_waker self.old }
+        ensures left { IfSome (due_ticket true self.old.line.waiters) (λ t. self.new.line.waiters
+            ≡ without_waiter t (tell_next true self.old.line.waiters)) }
+    {
         self.gate.close();
         let at = self.gate.take_wake()?;
         self.gate.withdraw(at);

@@ -1,5 +1,6 @@
 -- What is done under the lock of a pool, with the wakers of those in its queue.
 use Rattle.std.specs.Prelude.{◌≡◌, ◌⊎◌, ◌&&◌, ◌==◌, not, ℕ, Bool, true, false, List, Option, Some, None, if◌then◌else◌}
+use Rattle.futures.specs.declared.task.waker.Waker.{Waker}
 use Rattle.deadpool_gate.specs.Gate.{waiting_count}
 use Rattle.deadpool_desk.specs.Closing.{is_drained}
 use Rattle.deadpool_desk.specs.DeskState.{DeskState, would_queue}
@@ -11,7 +12,7 @@ use Rattle.deadpool_desk.specs.declared.step.Step.TheVariants.{Enter, Ask, Withd
 use Rattle.deadpool_journal.specs.Journaling.{Journaling}
 use Rattle.deadpool_journal.specs.Steps.{MakesNoted, NotifiesUnnoted}
 use Rattle.deadpool_journal.specs.declared.journal.Journal.{Journal}
-use Rattle.deadpool_lock.specs.Ends.{EndsState}
+use Rattle.deadpool_lock.specs.Ends.{EndsState, end_waker}
 use Rattle.deadpool_lock.specs.Places.{with_room, Follows}
 
 -- the ticket of a get that makes this step
@@ -30,6 +31,13 @@ abbrev pub may_wait : Step → Bool
 may_wait (Enter wait) = wait
 may_wait _ = false
 
+-- The waker of the get that is named is taken out. If none is named, one that waits for the end is told once that has
+-- come, and no get's waker is touched.
+abbrev pub Tells : Option ℕ → Bool → List (Option Waker) → EndsState → Option Waker → List (Option Waker) → Type 0
+Tells (Some number) is_due wakers ends waker wakers' = Follows (Some number) None wakers None waker wakers' None
+Tells None is_due wakers ends waker wakers' =
+    (waker ≡ (if is_due then end_waker ends else None)) × (wakers' ≡ wakers)
+
 module _ {T : Type 0} where
   -- a new get has to join the queue, if it may wait
   abbrev pub joins : Step → Journaling T → Bool
@@ -46,21 +54,16 @@ module _ {T : Type 0} where
       ⊎ ((joins step j ≡ true) × (reply ≡ OutOfMemory) × (hand ≡ was) × (j' ≡ j) × (wakers' ≡ wakers) × (waker' ≡ waker)
       × (spare ≡ None))
 
-  -- The get that is to be told next is named, and its waker is taken out.
-  abbrev pub TellsLocked : {W : Type 0} → Journaling T → List (Option W) → Option W → Journaling T → List (Option W)
-      → Type 0
-  TellsLocked j wakers waker j' wakers' =
-      (named : Option ℕ) × (NotifiesUnnoted j named j' × Follows named None wakers None waker wakers' None)
-
   -- Somebody waits for the end of a pool, which has come.
   abbrev pub is_end_due : EndsState → DeskState (Slot T) → Bool
   is_end_due ends d = not (waiting_count ends.line.waiters == 0) && is_drained d
 
-  -- No get is to be told, and the pool is drained: one that waits for that may be. It is no step, and no get's waker
-  -- is touched.
-  abbrev pub TellsEnd : {W : Type 0} → Journaling T → List (Option W) → Journaling T → List (Option W) → Type 0
-  TellsEnd j wakers j' wakers' =
-      NotifiesUnnoted j None j' × (is_drained j.core.desk ≡ true) × (wakers' ≡ wakers)
+  -- The get that is to be told next is named, or one that waits for the end is told. Neither is a step.
+  abbrev pub TellsLocked : Journaling T → List (Option Waker) → EndsState → Option Waker → Journaling T
+      → List (Option Waker) → Type 0
+  TellsLocked j wakers ends waker j' wakers' =
+      (named : Option ℕ)
+      × (NotifiesUnnoted j named j' × Tells named (is_end_due ends j.core.desk) wakers ends waker wakers')
 
   -- what a copy of the journal has
   abbrev pub IsCopy : Journaling T → Journal → Type 0

@@ -20,7 +20,7 @@ ghost use Rattle.deadpool_journal.specs.declared.entry.Entry.TheVariants as entr
 ghost use Rattle.deadpool_shared.specs.Calling.{CallsOrRefuses};
 ghost use Rattle.deadpool_shared.specs.Counts.{AreIn, IsKnown, IsNewCaller, IsNewHolder};
 ghost use Rattle.deadpool_shared.specs.Counts.{counts, counts_of, counted, shifted};
-ghost use Rattle.deadpool_shared.specs.Locked.{IsCopy, MakesLocked, TellsEnd, TellsLocked, is_end_due};
+ghost use Rattle.deadpool_shared.specs.Locked.{IsCopy, MakesLocked, TellsLocked, is_end_due};
 
 mod draining;
 
@@ -255,6 +255,14 @@ impl<T: Drop, L: Ledgers> Locked<T, L> {
         let Locked { recorded, .. } = self;
         recorded.journal_by(caller)
     }
+
+    // Whether somebody waits for the end, which has come.
+    #[inline(always)]
+    fn is_end_due(&self) -> bool
+        ensures { result ≡ is_end_due self.now.ends self.now.recorded.pool.core.desk }
+    {
+        !self.ends.is_empty() && self.recorded.is_drained()
+    }
 }
 
 // Neither is a step.
@@ -263,25 +271,18 @@ impl<T: Drop, L: Ledgers> Wakes for Locked<T, L> {
         ensures { result ≡ (is_some (due_now self.now.recorded.pool.core)
             || is_end_due self.now.ends self.now.recorded.pool.core.desk) }
     {
-        self.recorded.is_wake_due() || (!self.ends.is_empty() && self.recorded.is_drained())
+        self.recorded.is_wake_due() || self.is_end_due()
     }
 
     fn take_wake(&mut self) -> Option<Waker>
-        ensures { TellsLocked self.old.recorded.pool self.old.wakers result
-            self.new.recorded.pool self.new.wakers
-            ⊎ TellsEnd self.old.recorded.pool self.old.wakers self.new.recorded.pool self.new.wakers }
+        ensures { TellsLocked self.old.recorded.pool self.old.wakers self.old.ends result
+            self.new.recorded.pool self.new.wakers }
     {
-        let Locked {
-            recorded,
-            wakers,
-            ends,
-            ..
-        } = self;
-        if let Some(ticket) = recorded.take_wake() {
-            return wakers.take(ticket);
+        if let Some(ticket) = self.recorded.take_wake() {
+            return self.wakers.take(ticket);
         }
-        if recorded.is_drained() {
-            return ends.take_wake();
+        if self.is_end_due() {
+            return self.ends.take_wake();
         }
         None
     }

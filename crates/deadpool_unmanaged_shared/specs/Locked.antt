@@ -4,7 +4,8 @@ use Rattle.std.specs.Prelude.{None, Result, Err}
 use Rattle.std.specs.Option.{option_map_or}
 use Rattle.futures.specs.declared.task.Poll.{Poll}
 use Rattle.futures.specs.declared.task.Poll.TheVariants.{Ready}
-use Rattle.deadpool_lock.specs.Ends.{EndsState}
+use Rattle.futures.specs.declared.task.waker.Waker.{Waker}
+use Rattle.deadpool_lock.specs.Ends.{EndsState, end_waker}
 use Rattle.deadpool_lock.specs.Places.{waker_at}
 use Rattle.deadpool_gate.specs.Gate.{waiting_count}
 use Rattle.deadpool_gate.specs.Waking.{still_unnotified}
@@ -62,10 +63,11 @@ module _ {T : Type 0} where
   abbrev pub is_end_due : EndsState → State T → Bool
   is_end_due ends d = not (waiting_count ends.line.waiters == 0) && is_drained d
 
-  -- the waker of the get that is to be told next, or of the add
-  abbrev pub next_waker : {W : Type 0} → State T → List (Option W) → List (Option W) → Option W
-  next_waker d of_gets of_adds =
-      option_map_or (λ t. waker_at t of_gets) (due_get d) (option_map_or (λ t. waker_at t of_adds) (due_add d) None)
+  -- the waker of the get that is to be told next, or of the add, or of who waits for the end
+  abbrev pub next_waker : State T → List (Option Waker) → List (Option Waker) → EndsState → Option Waker
+  next_waker d of_gets of_adds ends =
+      option_map_or (λ t. waker_at t of_gets) (due_get d)
+      (option_map_or (λ t. waker_at t of_adds) (due_add d) (if is_end_due ends d then end_waker ends else None))
 
   -- and it has been told
   abbrev pub told : State T → State T

@@ -1,5 +1,5 @@
 //! What the lock of a pool keeps.
-ghost use Rattle.std.specs.Prelude.{◌≡◌, ◌⊎◌, ◌||◌, true, false, not, [], Some, None, IfSome, IsSome};
+ghost use Rattle.std.specs.Prelude.{◌≡◌, ◌⊎◌, ◌||◌, not, [], Some, None, IfSome, IsSome};
 ghost use Rattle.deadpool_lock.specs.Places.{Follows, waker_at};
 ghost use Rattle.deadpool_unmanaged.specs.Adds as adds;
 ghost use Rattle.deadpool_unmanaged.specs.Closing.{is_drained};
@@ -251,6 +251,14 @@ impl<T: Drop, S: KeepsState<T>> Locked<T, S> {
     {
         self.state.is_closed()
     }
+
+    // Whether somebody waits for the end, which has come.
+    #[inline(always)]
+    fn is_end_due(&self) -> bool
+        ensures { result ≡ is_end_due self.now.ends (S.state_of self.now.state).pool }
+    {
+        !self.ends.is_empty() && self.state.is_drained()
+    }
 }
 
 impl<T: Drop, S: KeepsState<T>> Wakes for Locked<T, S> {
@@ -258,14 +266,12 @@ impl<T: Drop, S: KeepsState<T>> Wakes for Locked<T, S> {
         ensures { result ≡ (has_due (S.state_of self.now.state).pool
             || is_end_due self.now.ends (S.state_of self.now.state).pool) }
     {
-        self.state.is_wake_due() || (!self.ends.is_empty() && self.state.is_drained())
+        self.state.is_wake_due() || self.is_end_due()
     }
 
     fn take_wake(&mut self) -> Option<Waker>
-        ensures waker { (result
-            ≡ next_waker (S.state_of self.old.state).pool self.old.gets self.old.adds)
-            ⊎ ((has_due (S.state_of self.old.state).pool ≡ false)
-            × (is_drained (S.state_of self.old.state).pool ≡ true)) }
+        ensures waker { result ≡ next_waker (S.state_of self.old.state).pool
+            self.old.gets self.old.adds self.old.ends }
         ensures told { (S.state_of self.new.state).pool ≡ told (S.state_of self.old.state).pool }
     {
         if let Some(ticket) = self.state.take_get_wake() {
@@ -274,7 +280,7 @@ impl<T: Drop, S: KeepsState<T>> Wakes for Locked<T, S> {
         if let Some(ticket) = self.state.take_add_wake() {
             return self.adds.take(ticket);
         }
-        if self.state.is_drained() {
+        if self.is_end_due() {
             return self.ends.take_wake();
         }
         None

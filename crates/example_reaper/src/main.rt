@@ -64,7 +64,10 @@ fn main(rt: HostRuntime) -> io::Result<()> {
         .config(settings(&rt)?)
         .runtime(Runtime::Clock)
         .wait_timeout(Some(Duration::from_secs(30)));
-    let limits = Limits::none().idle(Duration::from_millis(50)).uses(USES);
+    let limits = Limits::none()
+        .lifetime(Duration::from_secs(3600))
+        .idle(Duration::from_millis(50))
+        .uses(USES);
     let Ok(builder) = builder.pre_recycle(Hook::sync_fn(Retire::new(timer.clock()?, limits))) else {
         return Err(io::Error::other("no memory for a hook"));
     };

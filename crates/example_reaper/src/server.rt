@@ -2,7 +2,7 @@
 use crate::board::SharedBoard;
 use crate::connections::{ConnectionPool, Connector, Limited};
 use crate::{ASKING, LEAST_IDLE, MOST, SERVED};
-use deadpool::managed::{Ledgers, NoHook, Object, PoolError};
+use deadpool::managed::{DrainError, Ledgers, NoHook, Object, PoolError};
 use deadpool::threads::{Blocking, BlockingUser, Host, Plain};
 use deadpool::timer::TimerClock;
 use std::io;
@@ -12,7 +12,7 @@ use std::time::{Clock, Duration};
 // How many requests each thread serves.
 const REQUESTS: u32 = 25;
 
-// How many seconds a request may have waited for its connection.
+// How many seconds a request may have waited for its connection, and the last thread waits for the end.
 const PATIENCE: u64 = 60;
 
 /// Serves requests, each with a connection of its own.
@@ -97,9 +97,12 @@ impl Server {
         self.0.rested.add();
         self.0
             .wait_until(rt, || pool.status().waiting == SERVED - 1 - MOST)?;
-        match blocking.drain(rt, pool) {
+        match blocking.drain_for(rt, pool, Duration::from_secs(PATIENCE)) {
             Ok(_status) => Ok(()),
-            Err(_) => Err(io::Error::other("no memory to wait for the end by")),
+            Err(DrainError::Timeout(_)) => Err(io::Error::other("a connection was not given back")),
+            Err(DrainError::OutOfMemory(_)) => {
+                Err(io::Error::other("no memory to wait for the end by"))
+            }
         }
     }
 
