@@ -1,0 +1,2 @@
+-- Lemmas on the way to an end.
+pub mod Ranks

@@ -1,0 +1,5 @@
+-- What the law stands on.
+mod AllMoves
+mod Parties
+mod Runs
+mod Waiting

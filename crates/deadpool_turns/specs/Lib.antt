@@ -1,0 +1,6 @@
+-- Who is granted a place, and when; and who holds which object.
+pub mod Ahead
+pub mod Holders
+pub mod OtherOrders
+pub mod Steps
+pub mod Turns

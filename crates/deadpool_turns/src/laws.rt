@@ -1,0 +1,56 @@
+//! What holds of each step of a pool and of each run of steps, as a journal and a history have them. The functions here
+//! do nothing: each states a law.
+ghost use Rattle.deadpool_turns.specs.Holders.{EachHasOneHolder, EachOpensNumberedOnce, EachRunNumbersOnce};
+ghost use Rattle.deadpool_turns.specs.OtherOrders.{EachNearsBy, barged_in, freed_for_last, put_behind};
+ghost use Rattle.deadpool_turns.specs.Turns.{EachIsGrantedInTurn, EachKeepsItsPlace, EachReachedIsOrderly};
+ghost use Rattle.deadpool_turns.specs.Turns.{EachStaysQueued, EachStepKeepsOrder, EachStepNears};
+
+/// Whatever step is made, those in the queue keep their order: some leave, and at most one joins, at the end. Then
+/// nobody waits while a place is free, and no ticket stands twice.
+pub fn grants_keep_the_order()
+    ensures { EachStepKeepsOrder }
+{}
+
+/// Who is in the queue leaves it only by a step that names its ticket. Until then it keeps the place that it was
+/// granted.
+pub fn no_waiter_is_lost()
+    ensures queue { EachStaysQueued }
+    ensures place { EachKeepsItsPlace }
+{}
+
+/// No step puts one that waits back, and each place that is let go of brings it one nearer: while the pool is open, by
+/// a step that sets no smaller limit, and by which it does not give up itself.
+pub fn nobody_is_passed_over()
+    ensures { EachStepNears }
+{}
+
+/// Who waits is granted a place by the time as many were let go of as are above the limit, one for each that waits
+/// ahead of it, and one: while the pool stays open, no smaller limit is set, and it does not give up itself.
+pub fn waiter_is_granted_in_turn()
+    ensures { EachIsGrantedInTurn }
+{}
+
+/// Another order is refused: that one that waits is nearer after each step is false of a machine that grants places to
+/// those that came last, that serves a new get while others wait, or whose resize puts the first that waits last.
+pub fn other_orders_are_refused()
+    ensures last { EachNearsBy 1 freed_for_last → ⊥ }
+    ensures barge { EachNearsBy 0 barged_in → ⊥ }
+    ensures resize { EachNearsBy 0 put_behind → ⊥ }
+{}
+
+/// In each state that a history reaches nobody waits while a place is free, and no ticket stands twice.
+pub fn each_history_is_orderly()
+    ensures { EachReachedIsOrderly }
+{}
+
+/// No number stands twice among the objects that are idle or held, in a new pool and after each run in which each gives
+/// away only what it holds.
+pub fn numbers_stand_once()
+    ensures opened { EachOpensNumberedOnce }
+    ensures run { EachRunNumbersOnce }
+{}
+
+/// There no two hold one object, and none that is held is idle.
+pub fn one_number_has_one_holder()
+    ensures { EachHasOneHolder }
+{}

@@ -1,0 +1,4 @@
+-- What the laws stand on.
+mod Entries
+mod InTurn
+mod Steps
