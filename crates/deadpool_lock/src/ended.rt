@@ -3,13 +3,16 @@
 use deadpool_parts::Status;
 use std::fmt;
 
-/// Why a drain ended while something was left in its pool, which is closed. It says how the pool stood then.
+/// Why a drain ended before the end of its pool, which is closed. It says how the pool stood then.
 #[derive(Clone, Copy, Debug, PartialEq, Eq)]
 pub enum DrainError {
-    /// The time to wait was over.
+    /// Something was left in the pool, and the time to wait was over.
     Timeout(Status),
-    /// There was no memory to wait by.
+    /// Something was left in the pool, and there was no memory to wait by.
     OutOfMemory(Status),
+    /// Nothing was left in the pool, but what had left it was not detached and dropped yet, and there was no time or no
+    /// memory to wait for that.
+    Departing(Status),
 }
 
 impl fmt::Display for DrainError {
@@ -25,6 +28,9 @@ impl fmt::Display for DrainError {
             }
             DrainError::OutOfMemory(status) => {
                 write!(f, "Out of memory while draining the pool: {status}")
+            }
+            DrainError::Departing(status) => {
+                write!(f, "An object is still being given up: {status}")
             }
         }
     }

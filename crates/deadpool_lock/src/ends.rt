@@ -1,27 +1,41 @@
-//! Those that wait until nothing is left in a pool that has closed.
-ghost use Rattle.std.specs.Prelude.{◌≡◌, ◌==◌, true, [], None, Some, IfSome, IsSome, OnErr, OnOk};
-ghost use Rattle.deadpool_gate.specs.Gate.{due_ticket, tell_next, waiting_count, without_waiter};
-ghost use Rattle.deadpool_lock.specs.Ends.{end_waker};
+//! Those that wait until nothing is left in a pool that has closed, and what has left it and is still to be dropped.
+ghost use Rattle.std.specs.Prelude.{◌≡◌, ◌==◌, ◌<◌, ◌⊎◌, true, false, is_some, length, if◌then◌else◌};
+ghost use Rattle.std.specs.Prelude.{[], None, IfOk, IfSome, IsSomeAnd, OnErr, OnOk};
+ghost use Rattle.deadpool_gate.specs.Gate.{Joins, due_ticket, find_waiter, tell_next, waiting_count, without_waiter};
+ghost use Rattle.deadpool_lock.specs.Ends.{Departs, Stands, WaitsOn};
+ghost use Rattle.deadpool_lock.specs.Ends.{after_asking, end_waker, has_come, listed, one_less, waits_under, without};
+ghost use Rattle.deadpool_lock.specs.Places.{Follows, with_room, waker_at};
 
 use crate::Wakers;
-use deadpool_gate::gate::{Entry, Gate, Ticket};
+use deadpool_gate::gate::{Ask, Entry, Gate, Ticket, Withdrawn};
 use futures::task::Waker;
 use std::alloc::{AllocError, Global};
 use std::marker::Model;
+use std::mem;
 
-/// The tasks that wait for the end of a pool, in order of arrival, each with its waker. One that is told leaves.
+/// Stands for what one holder has let go of, and has not detached and dropped yet. It takes no bytes. It cannot be
+/// dropped: `Ends::has_departed` alone takes it, so that no holder leaves out to say that it is done.
+pub struct Departure(());
+
+/// The tasks that wait for the end of a pool, in order of arrival, each with its waker, and how many holders have let
+/// go of something that they still have to drop. One that is told leaves. A ticket under which nobody is listed is
+/// nobody's.
 #[derive(Drop)]
 pub struct Ends {
     gate: Gate,
     wakers: Wakers,
+    departing: u64,
 }
 
 impl Model for Ends {
-    ghost use Rattle.deadpool_lock.specs.Ends.{EndsState};
+    ghost use Rattle.std.specs.Prelude.{length};
+    ghost use Rattle.deadpool_lock.specs.Ends.{EndsState, HavePlaces};
 
     ghost Value = { EndsState };
 
-    ghost view = { λ e. record { line = e.gate; wakers = e.wakers } };
+    ghost view = { λ e. record { line = e.gate; wakers = e.wakers; departing = e.departing } };
+
+    ghost invariant = { λ e. HavePlaces e.gate.waiters (length e.wakers) };
 }
 
 impl Ends {
@@ -29,10 +43,12 @@ impl Ends {
     pub fn new(alloc: Global) -> Self
         ensures waiters { result.line.waiters ≡ [] }
         ensures wakers { result.wakers ≡ [] }
+        ensures departing { result.departing ≡ 0 }
     {
         Ends {
             gate: Gate::new(alloc),
             wakers: Wakers::new(alloc),
+            departing: 0,
         }
     }
 
@@ -43,27 +59,87 @@ impl Ends {
         self.gate.waiting() == 0
     }
 
-    /// A task waits on, or from now on if it has no ticket yet, and its waker is kept in exchange for the one that was.
-    /// `AllocError` says that there was no memory for one task more, and nothing has changed.
+    /// Whether the end has come of a pool that is drained, or is not: nobody has anything of it to drop either.
+    pub fn has_come(&self, is_drained: bool) -> bool
+        ensures { result ≡ has_come is_drained self.now }
+    {
+        is_drained && self.departing == 0
+    }
+
+    /// A holder lets go of something. It counts until it says that it has dropped that, and once, whatever it lets go
+    /// of.
+    pub fn depart(&mut self, departure: &mut Option<Departure>)
+        ensures { Departs true self.old departure.old self.new departure.new }
+    {
+        match mem::replace(departure, Some(Departure(()))) {
+            Some(Departure(())) => {}
+            None => self.departing = self.departing.saturating_add(1),
+        }
+    }
+
+    /// What a holder has let go of is detached and dropped.
+    pub fn has_departed(&mut self, departure: Departure)
+        ensures { self.new ≡ record self.old { departing = one_less self.old.departing } }
+    {
+        let Departure(()) = departure;
+        if self.departing != u64::MAX {
+            self.departing = self.departing.saturating_sub(1);
+        }
+    }
+
+    /// A task waits on, or from now on if it does not wait under its ticket, and its waker is kept in exchange for the
+    /// one that was. `AllocError` says that there was no memory for one task more: it does not wait.
     pub fn wait(
         &mut self,
         ticket: &mut Option<Ticket>,
         waker: &mut Option<Waker>,
-    ) -> Result<Option<Waker>, AllocError>
-        ensures listed { OnOk result (IsSome ticket.new) }
-        ensures same { IfSome ticket.old (λ at. ticket.new ≡ Some at) }
-        ensures refused { OnErr result ((ticket.old ≡ None) × (ticket.new ≡ None)) }
+    ) -> Result<(), AllocError>
+        ensures stands { OnOk result (IsSomeAnd ticket.new (λ at. Stands at waker.old self.new)) }
+        ensures waits { OnOk result (IsSomeAnd ticket.new (λ at.
+            WaitsOn (waits_under ticket.old self.old.line) ticket.old self.old waker.old at self.new)) }
+        ensures exchanged { OnOk result (IsSomeAnd ticket.new (λ at.
+            waker.new ≡ waker_at at self.old.wakers)) }
+        ensures refused { OnErr result ((waits_under ticket.old self.old.line ≡ false)
+            × (ticket.new ≡ None) × (waker.new ≡ waker.old)
+            × (self.new.line.waiters ≡ after_asking ticket.old self.old.line)) }
+        ensures departing { self.new.departing ≡ self.old.departing }
     {
-        let at = match *ticket {
+        let at = match self.still_waits(ticket.take()) {
             Some(at) => at,
             None => self.join()?,
         };
         *ticket = Some(at);
-        Ok(self.wakers.follow(None, Some(at), waker))
+        self.wakers.exchange(at, waker);
+        Ok(())
+    }
+
+    // The ticket under which a task waits, if it does. Otherwise it is in the line no longer.
+    fn still_waits(&mut self, ticket: Option<Ticket>) -> Option<Ticket>
+        ensures ticket { result ≡ (if waits_under ticket self.old.line then ticket else None) }
+        ensures line { self.new.line.waiters ≡ after_asking ticket self.old.line }
+        ensures waits { waits_under ticket self.old.line ≡ true
+            → self.new.line.waiters ≡ self.old.line.waiters }
+        ensures listed { IfSome result (λ at. is_some (find_waiter at self.new.line.waiters) ≡ true) }
+        ensures place { IfSome result (λ at. at < length self.new.wakers) }
+        ensures wakers { self.new.wakers ≡ self.old.wakers }
+        ensures departing { self.new.departing ≡ self.old.departing }
+    {
+        let at = ticket?;
+        match self.gate.ask(at) {
+            Ask::Waiting => Some(at),
+            _ => None,
+        }
     }
 
     // One task more waits, with a place for its waker.
-    fn join(&mut self) -> Result<Ticket, AllocError> {
+    fn join(&mut self) -> Result<Ticket, AllocError>
+        ensures joins { IfOk result (λ at.
+            Joins self.old.line.waiters (Entry.Waiting at) self.new.line.waiters) }
+        ensures places { IfOk result (λ at. self.new.wakers ≡ with_room at self.old.wakers) }
+        ensures place { IfOk result (λ at. at < length self.new.wakers) }
+        ensures refused { OnErr result (self.new.line.waiters ≡ self.old.line.waiters) }
+        ensures departing { self.new.departing ≡ self.old.departing }
+    {
         self.wakers.make_room(self.gate.next_number())?;
         match self.gate.enter(0, true) {
             Entry::Waiting(ticket) => Ok(ticket),
@@ -73,11 +149,17 @@ impl Ends {
 
     /// A task waits no longer, if it did. Its waker is given out.
     pub fn leave(&mut self, ticket: &mut Option<Ticket>) -> Option<Waker>
-        ensures { ticket.new ≡ None }
+        ensures ticket { ticket.new ≡ None }
+        ensures line { self.new.line.waiters ≡ without ticket.old self.old.line.waiters }
+        ensures wakers { Follows (listed ticket.old self.old.line) None
+            self.old.wakers None result self.new.wakers None }
+        ensures departing { self.new.departing ≡ self.old.departing }
     {
         let at = ticket.take()?;
-        self.gate.withdraw(at);
-        self.wakers.take(at)
+        match self.gate.withdraw(at) {
+            Withdrawn::Unknown => None,
+            _ => self.wakers.take(at),
+        }
     }
 
     /// The end has come: the first that waits is told, by the waker that is given out, and waits no longer.
@@ -85,6 +167,11 @@ impl Ends {
         ensures waker { result ≡ end_waker self.old }
         ensures left { IfSome (due_ticket true self.old.line.waiters) (λ t. self.new.line.waiters
             ≡ without_waiter t (tell_next true self.old.line.waiters)) }
+        ensures line { self.new.line.waiters ≡ without (due_ticket true self.old.line.waiters)
+            (tell_next true self.old.line.waiters) }
+        ensures wakers { Follows (due_ticket true self.old.line.waiters) None
+            self.old.wakers None result self.new.wakers None }
+        ensures departing { self.new.departing ≡ self.old.departing }
     {
         self.gate.close();
         let at = self.gate.take_wake()?;

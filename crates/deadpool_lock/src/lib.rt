@@ -11,7 +11,7 @@ mod request;
 mod wakers;
 
 pub use ended::DrainError;
-pub use ends::Ends;
+pub use ends::{Departure, Ends};
 pub use handle::{Counted, Handle, Home};
 pub use lock::{Step, StepLock, Wakes};
 pub use registration::{Registration, wake_at};

@@ -6,13 +6,15 @@ use Rattle.deadpool_desk.specs.Closing.{is_drained}
 use Rattle.deadpool_desk.specs.DeskState.{DeskState, would_queue}
 use Rattle.deadpool_desk.specs.declared.slot.Slot.{Slot}
 use Rattle.deadpool_desk.specs.declared.step.Reply.{Reply}
-use Rattle.deadpool_desk.specs.declared.step.Reply.TheVariants.{Waiting, OutOfMemory}
+use Rattle.deadpool_desk.specs.declared.step.Held.TheVariants as held
+use Rattle.deadpool_desk.specs.declared.step.Reply.TheVariants.{Waiting, OutOfMemory, Kept, Taken}
 use Rattle.deadpool_desk.specs.declared.step.Step.{Step}
-use Rattle.deadpool_desk.specs.declared.step.Step.TheVariants.{Enter, Ask, Withdraw}
+use Rattle.deadpool_desk.specs.declared.step.Step.TheVariants.{Enter, Ask, Withdraw, Failed, Refused, Back, Take}
+use Rattle.deadpool_desk.specs.declared.step.Step.TheVariants.{Cancel}
 use Rattle.deadpool_journal.specs.Journaling.{Journaling}
 use Rattle.deadpool_journal.specs.Steps.{MakesNoted, NotifiesUnnoted}
 use Rattle.deadpool_journal.specs.declared.journal.Journal.{Journal}
-use Rattle.deadpool_lock.specs.Ends.{EndsState, end_waker}
+use Rattle.deadpool_lock.specs.Ends.{EndsState, TellsFirst, has_come}
 use Rattle.deadpool_lock.specs.Places.{with_room, Follows}
 
 -- the ticket of a get that makes this step
@@ -31,12 +33,25 @@ abbrev pub may_wait : Step → Bool
 may_wait (Enter wait) = wait
 may_wait _ = false
 
+-- whether the holder that made this step still has to detach or to drop what it has let go of
+abbrev pub lets_go : Step → Reply → Bool
+lets_go Back Kept = false
+lets_go Back _ = true
+lets_go Take (Taken detach) = detach
+lets_go Failed _ = true
+lets_go Refused _ = true
+lets_go (Cancel held.Place) _ = false
+lets_go (Cancel _) _ = true
+lets_go _ _ = false
+
 -- The waker of the get that is named is taken out. If none is named, one that waits for the end is told once that has
 -- come, and no get's waker is touched.
-abbrev pub Tells : Option ℕ → Bool → List (Option Waker) → EndsState → Option Waker → List (Option Waker) → Type 0
-Tells (Some number) is_due wakers ends waker wakers' = Follows (Some number) None wakers None waker wakers' None
-Tells None is_due wakers ends waker wakers' =
-    (waker ≡ (if is_due then end_waker ends else None)) × (wakers' ≡ wakers)
+abbrev pub Tells : Option ℕ → Bool → List (Option Waker) → EndsState → Option Waker → List (Option Waker) → EndsState
+    → Type 0
+Tells (Some number) is_due wakers ends waker wakers' ends' =
+    Follows (Some number) None wakers None waker wakers' None × (ends' ≡ ends)
+Tells None true wakers ends waker wakers' ends' = TellsFirst ends waker ends' × (wakers' ≡ wakers)
+Tells None false wakers ends waker wakers' ends' = (waker ≡ None) × (wakers' ≡ wakers) × (ends' ≡ ends)
 
 module _ {T : Type 0} where
   -- a new get has to join the queue, if it may wait
@@ -56,14 +71,14 @@ module _ {T : Type 0} where
 
   -- Somebody waits for the end of a pool, which has come.
   abbrev pub is_end_due : EndsState → DeskState (Slot T) → Bool
-  is_end_due ends d = not (waiting_count ends.line.waiters == 0) && is_drained d
+  is_end_due ends d = not (waiting_count ends.line.waiters == 0) && has_come (is_drained d) ends
 
   -- The get that is to be told next is named, or one that waits for the end is told. Neither is a step.
   abbrev pub TellsLocked : Journaling T → List (Option Waker) → EndsState → Option Waker → Journaling T
-      → List (Option Waker) → Type 0
-  TellsLocked j wakers ends waker j' wakers' =
+      → List (Option Waker) → EndsState → Type 0
+  TellsLocked j wakers ends waker j' wakers' ends' =
       (named : Option ℕ)
-      × (NotifiesUnnoted j named j' × Tells named (is_end_due ends j.core.desk) wakers ends waker wakers')
+      × (NotifiesUnnoted j named j' × Tells named (is_end_due ends j.core.desk) wakers ends waker wakers' ends')
 
   -- what a copy of the journal has
   abbrev pub IsCopy : Journaling T → Journal → Type 0

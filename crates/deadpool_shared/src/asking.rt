@@ -134,12 +134,14 @@ where
         cx: &mut Context<'_>,
     ) -> Poll<Result<W, PoolError<M::Error>>> {
         let timeouts = self.timeouts.timeouts(&shared.timeouts);
-        let mut seat = Seat::new(shared, self.shares.take(), registration);
+        let mut departure = None;
+        let mut seat = Seat::new(shared, self.shares.take(), registration, &mut departure);
         let now = shared.clock.now();
         let came = self
             .progress
             .run(timeouts, &mut seat, &shared.environment, now, cx);
         Shares::put(&mut self.shares, seat.into_shares());
+        shared.has_departed(departure);
         match came {
             Came::More | Came::Pending => {
                 self.waiting.see(now, is_queued(&self.progress));
@@ -174,10 +176,12 @@ where
             alarm: _,
             of: _,
         } = self;
-        let mut registration = Registration::new();
-        let mut seat = Seat::new(shared, shares, &mut registration);
+        let (mut registration, mut departure) = (Registration::new(), None);
+        let mut seat = Seat::new(shared, shares, &mut registration, &mut departure);
         progress.cancel(&mut seat, &shared.environment);
         seat.leave();
+        drop(progress);
+        shared.has_departed(departure);
     }
 
     fn refuse(&mut self) -> Result<W, PoolError<M::Error>> {

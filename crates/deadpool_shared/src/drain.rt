@@ -22,7 +22,8 @@ use std::sync::Wait;
 use std::time::Duration;
 
 /// A drain, as a future: its first poll closes the pool, and it ends with the pool's status once nothing is left in it,
-/// no object and no get that holds a place or has a creation under way. Then the pool stays empty.
+/// no object and no get that holds a place or has a creation under way, and what has left is detached and dropped. Then
+/// the pool stays empty.
 ///
 /// It borrows a handle and is none itself. Dropping it waits no longer; the pool stays closed. After its end it stays
 /// pending.
@@ -234,10 +235,11 @@ impl<M: Manager, F: SyncHook<M>, A: AsyncHook<M>, C: Clock, R: Wait + Drop, L: L
     W,
 > {
     /// Closes the pool, at the first poll, and waits until nothing is left in it: all objects are back and were given
-    /// up, and no get prepares one or has one created. It ends with the status of that moment, or with `OutOfMemory` if
-    /// there was no memory to wait by, and never with `Timeout`.
+    /// up, each detached and dropped, and no get prepares one or has one created. It ends with the status of that
+    /// moment, or with `OutOfMemory` or `Departing` if there was no memory to wait by, and never with `Timeout`.
     ///
-    /// An object that its own task keeps never comes back, nor does a get that nobody polls.
+    /// An object that its own task keeps never comes back, nor does a get that nobody polls. A `detach` or a drop of an
+    /// object that waits for a drain waits for itself.
     pub fn drain(&self) -> Drain<'_, M, F, A, C, R, L>
         ensures { result ≡ record {
           pool = self.now;
@@ -250,7 +252,8 @@ impl<M: Manager, F: SyncHook<M>, A: AsyncHook<M>, C: Clock, R: Wait + Drop, L: L
     }
 
     /// `drain`, which waits no longer than this from its first poll on, by the pool's clock. Then it ends with
-    /// `Timeout`, which has the status of that moment. The pool stays closed.
+    /// `Timeout`, or with `Departing` if only what has left is still to be dropped, and the status of that moment. The
+    /// pool stays closed.
     pub fn drain_for(&self, limit: Duration) -> Drain<'_, M, F, A, C, R, L>
         ensures { result ≡ record {
           pool = self.now;
@@ -262,7 +265,8 @@ impl<M: Manager, F: SyncHook<M>, A: AsyncHook<M>, C: Clock, R: Wait + Drop, L: L
         Drain::new(self.handle(), Some(limit))
     }
 
-    /// Closes the pool, and does not wait: `Timeout` says that something is left in it, with the status.
+    /// Closes the pool, and does not wait: `Timeout` says that something is left in it, with the status, and
+    /// `Departing` that what has left is still to be dropped.
     pub fn try_drain(&self) -> Result<Status, DrainError>
         ensures { EndsEmpty true result }
     {

@@ -20,17 +20,18 @@ ghost use Rattle.deadpool_journal.specs.declared.entry.Entry.TheVariants as entr
 ghost use Rattle.deadpool_shared.specs.Calling.{CallsOrRefuses};
 ghost use Rattle.deadpool_shared.specs.Counts.{AreIn, IsKnown, IsNewCaller, IsNewHolder};
 ghost use Rattle.deadpool_shared.specs.Counts.{counts, counts_of, counted, shifted};
-ghost use Rattle.deadpool_shared.specs.Locked.{IsCopy, MakesLocked, TellsLocked, is_end_due};
+ghost use Rattle.deadpool_lock.specs.Ends.{Departs};
+ghost use Rattle.deadpool_shared.specs.Locked.{IsCopy, MakesLocked, TellsLocked, is_end_due, lets_go};
 
 mod draining;
 
 use crate::ledgers::{Blanks, History, Ledgers};
 use crate::shares::{Books, Shares};
-use crate::steps::{left_by, may_wait, needed, ticket_after, ticket_of};
+use crate::steps::{left_by, lets_go, may_wait, needed, ticket_after, ticket_of};
 use deadpool_chronicle::{Beginning, Caller};
 use deadpool_history::{Line, Recorded};
 use deadpool_journal::{Journal, Journaled, Tally};
-use deadpool_lock::{Ends, Wakers, Wakes};
+use deadpool_lock::{Departure, Ends, Wakers, Wakes};
 use deadpool_managed::{
     Desk, OwnerDesk, OwnerReply, OwnerStep, Reply, RetainResult, Retainer, Slot, Status, Step,
 };
@@ -68,6 +69,7 @@ impl<T: Drop, L: Ledgers> Locked<T, L> {
         ensures opening { result.1.log ≡ result.0.recorded.log }
         ensures left { result.0.books.left ≡ u64.MAX }
         ensures wakers { result.0.wakers ≡ [] }
+        ensures departing { result.0.ends.departing ≡ 0 }
     {
         let (ledgers, history) = blanks.into_parts();
         let (author, mut first) = history.open::<Line, History<L>>();
@@ -133,7 +135,7 @@ impl<T: Drop, L: Ledgers> Locked<T, L> {
 
     /// Makes a step of a get or an object, whose shares are those of what it holds, and gives the reply. A get that
     /// would be queued, whose waker finds no memory, makes no step. If it is queued its waker is kept; the one that was
-    /// kept and is not any more is given out.
+    /// kept and is not any more is given out. What the step lets go of counts as departing from then on.
     #[inline(always)]
     pub fn make(
         &mut self,
@@ -141,6 +143,7 @@ impl<T: Drop, L: Ledgers> Locked<T, L> {
         step: &Step,
         hand: &mut Option<Slot<T>>,
         waker: &mut Option<Waker>,
+        departure: &mut Option<Departure>,
     ) -> (Reply, Option<Waker>)
         requires brings { Brings step.now hand.old }
         requires shares { shares.old.has ≡ counts_of (needed step.now) }
@@ -153,11 +156,14 @@ impl<T: Drop, L: Ledgers> Locked<T, L> {
             self.new.recorded.pool self.new.wakers waker.new result.1 }
         ensures call { CallsOrRefuses step.now (number_in (option_or hand.old hand.new)) result.0
             shares.old.caller shares.new.caller }
+        ensures departs { Departs (lets_go step.now result.0)
+            self.old.ends departure.old self.new.ends departure.new }
     {
         let Locked {
             recorded,
             books,
             wakers,
+            ends,
             ..
         } = self;
         if may_wait(step)
@@ -169,6 +175,7 @@ impl<T: Drop, L: Ledgers> Locked<T, L> {
         books.audit(shares);
         let reply = make_counted(recorded, &mut shares.caller, step, hand);
         books.shift(shares, needed(step), left_by(step, &reply));
+        depart(ends, departure, lets_go(step, &reply));
         let spare = wakers.follow(ticket_of(step), ticket_after(&reply), waker);
         (reply, spare)
     }
@@ -184,6 +191,7 @@ impl<T: Drop, L: Ledgers> Locked<T, L> {
             self.new.recorded.pool }
         ensures fits { IsOwnerReplyTo step.now result }
         ensures wakers { self.new.wakers ≡ self.old.wakers }
+        ensures ends { self.new.ends ≡ self.old.ends }
         ensures call { HasCalled (λ e. e ≡ entry.Owner step.now result) caller.old caller.new }
     {
         let Locked { recorded, .. } = self;
@@ -202,6 +210,7 @@ impl<T: Drop, L: Ledgers> Locked<T, L> {
         ensures retained { RetainsNoted R.Retainer
             self.old.recorded.pool retainer.old result self.new.recorded.pool retainer.new }
         ensures wakers { self.new.wakers ≡ self.old.wakers }
+        ensures ends { self.new.ends ≡ self.old.ends }
         ensures call { HasCalled (IsRetain result) caller.old caller.new }
         ensures idle { LeavesIdle result caller.new.seen }
     {
@@ -261,7 +270,7 @@ impl<T: Drop, L: Ledgers> Locked<T, L> {
     fn is_end_due(&self) -> bool
         ensures { result ≡ is_end_due self.now.ends self.now.recorded.pool.core.desk }
     {
-        !self.ends.is_empty() && self.recorded.is_drained()
+        !self.ends.is_empty() && self.ends.has_come(self.recorded.is_drained())
     }
 }
 
@@ -276,7 +285,7 @@ impl<T: Drop, L: Ledgers> Wakes for Locked<T, L> {
 
     fn take_wake(&mut self) -> Option<Waker>
         ensures { TellsLocked self.old.recorded.pool self.old.wakers self.old.ends result
-            self.new.recorded.pool self.new.wakers }
+            self.new.recorded.pool self.new.wakers self.new.ends }
     {
         if let Some(ticket) = self.recorded.take_wake() {
             return self.wakers.take(ticket);
@@ -285,6 +294,16 @@ impl<T: Drop, L: Ledgers> Wakes for Locked<T, L> {
             return self.ends.take_wake();
         }
         None
+    }
+}
+
+// A holder lets go of something, or of nothing.
+#[inline(always)]
+fn depart(ends: &mut Ends, departure: &mut Option<Departure>, lets_go: bool)
+    ensures { Departs lets_go ends.old departure.old ends.new departure.new }
+{
+    if lets_go {
+        ends.depart(departure);
     }
 }
 

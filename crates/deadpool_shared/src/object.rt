@@ -104,8 +104,13 @@ impl<M: Manager, F: SyncHook<M>, A: AsyncHook<M>, C: Clock, R: Wait + Drop, L: L
             waited: _,
         } = this;
         let Checkout { home, shares } = out;
-        let mut registration = Registration::new();
-        let mut seat = Seat::new(home.shared(), Some(shares), &mut registration);
+        let (mut registration, mut departure) = (Registration::new(), None);
+        let mut seat = Seat::new(
+            home.shared(),
+            Some(shares),
+            &mut registration,
+            &mut departure,
+        );
         let mut value = slot.value.value;
         let mut hand = None;
         let reply = seat.make(&Step::Take, &mut hand);
@@ -115,6 +120,7 @@ impl<M: Manager, F: SyncHook<M>, A: AsyncHook<M>, C: Clock, R: Wait + Drop, L: L
         if let Reply::Taken { detach: true } = reply {
             home.shared().environment.manager.detach(&mut value);
         }
+        home.shared().has_departed(departure);
         (value, caller)
     }
 
@@ -131,21 +137,28 @@ impl<M: Manager, F: SyncHook<M>, A: AsyncHook<M>, C: Clock, R: Wait + Drop, L: L
             waited: _,
         } = this;
         let Checkout { home, shares } = out;
-        let mut registration = Registration::new();
-        let mut seat = Seat::new(home.shared(), Some(shares), &mut registration);
+        let (mut registration, mut departure) = (Registration::new(), None);
+        let mut seat = Seat::new(
+            home.shared(),
+            Some(shares),
+            &mut registration,
+            &mut departure,
+        );
         let mut hand = Some(slot);
         let reply = seat.make(&Step::Back, &mut hand);
         let Some(caller) = seat.leave() else {
             unreachable!();
         };
         if reply == Reply::Detach {
-            if let Some(mut slot) = hand {
+            if let Some(slot) = &mut hand {
                 home.shared()
                     .environment
                     .manager
                     .detach(&mut slot.value.value);
             }
         }
+        drop(hand);
+        home.shared().has_departed(departure);
         caller
     }
 

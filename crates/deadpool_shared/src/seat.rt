@@ -11,13 +11,14 @@ use crate::shared::Shared;
 use crate::shares::Shares;
 use deadpool_chronicle::Caller;
 use deadpool_history::Line;
-use deadpool_lock::Registration;
+use deadpool_lock::{Departure, Registration};
 use deadpool_managed::{AsyncHook, Clock, Desk, Kept, Manager, Reply, Slot, Step, SyncHook};
 use std::marker::Model;
 use std::sync::Wait;
 
 /// The lock of a pool, which is lent it, with the shares of one get or object, and what the get hears by. Each step is
 /// one section of the lock. After it, with the lock given back, the wakers are called of the gets that it made due.
+/// What a step lets go of is departing until the holder has detached and dropped it, and says so.
 ///
 /// A get without shares is handed out some as it enters. Contracts see a seat as its shares, if it has some. A step
 /// that lowers a count asks that the shares have what it lowers, and is then never answered `Unknown`. A seat cannot
@@ -35,6 +36,7 @@ pub struct Seat<
     // None before a get enters that was handed out none.
     shares: Option<Shares<L>>,
     registration: &'a mut Registration,
+    departure: &'a mut Option<Departure>,
 }
 
 impl<'a, M: Manager, F: SyncHook<M>, A: AsyncHook<M>, C: Clock, R: Wait + Drop, L: Ledgers> Model
@@ -60,9 +62,13 @@ impl<'a, M: Manager, F: SyncHook<M>, A: AsyncHook<M>, C: Clock, R: Wait + Drop, 
         let mut section = self.shared.lock.begin();
         supply(section.kept(), &mut self.shares);
         let (reply, spare) = match &mut self.shares {
-            Some(shares) => section
-                .kept()
-                .make(shares, step, hand, self.registration.waker()),
+            Some(shares) => section.kept().make(
+                shares,
+                step,
+                hand,
+                self.registration.waker(),
+                self.departure,
+            ),
             // (it holds nothing)
             None => match step {
                 Step::Enter { .. } => (Reply::Exhausted, None),
@@ -90,6 +96,7 @@ impl<'a, M: Manager, F: SyncHook<M>, A: AsyncHook<M>, C: Clock, R: Wait + Drop, 
         shared: &'a Shared<M, F, A, C, R, L>,
         shares: Option<Shares<L>>,
         registration: &'a mut Registration,
+        departure: &'a mut Option<Departure>,
     ) -> Self
         ensures { result ≡ shares }
     {
@@ -97,6 +104,7 @@ impl<'a, M: Manager, F: SyncHook<M>, A: AsyncHook<M>, C: Clock, R: Wait + Drop, 
             shared,
             shares,
             registration,
+            departure,
         }
     }
 
@@ -116,6 +124,7 @@ impl<'a, M: Manager, F: SyncHook<M>, A: AsyncHook<M>, C: Clock, R: Wait + Drop, 
             shared: _,
             shares,
             registration: _,
+            departure: _,
         } = self;
         shares
     }

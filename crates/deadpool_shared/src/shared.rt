@@ -17,7 +17,7 @@ use crate::locked::Locked;
 use deadpool_chronicle::{Beginning, Caller};
 use deadpool_history::Line;
 use deadpool_journal::{Journal, Tally};
-use deadpool_lock::{Counted, StepLock};
+use deadpool_lock::{Counted, Departure, StepLock};
 use deadpool_managed::{
     AsyncHook, Clock, Environment, Kept, Manager, OwnerReply, OwnerStep, RetainResult, Retainer,
     Status, SyncHook, Timeouts,
@@ -122,6 +122,23 @@ impl<M: Manager, F: SyncHook<M>, A: AsyncHook<M>, C: Clock, R: Wait + Drop, L: L
         let reply = locked.kept().make_for_owner(&mut caller, step);
         self.lock.end(locked);
         reply
+    }
+
+    /// What a step has let go of, if it was anything, is detached and dropped. Those that wait for the end are told if
+    /// it has come by that. It is no step.
+    #[inline(always)]
+    pub fn has_departed(&self, departure: Option<Departure>) {
+        if let Some(departure) = departure {
+            self.note_departed(departure);
+        }
+    }
+
+    #[cold]
+    #[inline(never)]
+    fn note_departed(&self, departure: Departure) {
+        let mut section = self.lock.begin();
+        section.kept().has_departed(departure);
+        self.lock.end(section);
     }
 
     /// How the pool stands, which the journal notes. It makes nobody due.

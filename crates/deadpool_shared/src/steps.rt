@@ -1,7 +1,7 @@
-//! What a step asks of its holder and leaves it, and by which ticket its waker is kept.
+//! What a step asks of its holder and leaves it, what it lets go of, and by which ticket its waker is kept.
 ghost use Rattle.std.specs.Prelude.{◌≡◌};
 ghost use Rattle.deadpool_desk.specs.Replies.{IsReplyTo, left_by, needed};
-ghost use Rattle.deadpool_shared.specs.Locked.{may_wait, ticket_after, ticket_of};
+ghost use Rattle.deadpool_shared.specs.Locked.{lets_go, may_wait, ticket_after, ticket_of};
 
 use deadpool_managed::gate::Ticket;
 use deadpool_managed::{Held, Reply, Step};
@@ -34,6 +34,18 @@ pub fn ticket_after(reply: &Reply) -> Option<Ticket>
     match reply {
         Reply::Waiting(ticket) => Some(*ticket),
         _ => None,
+    }
+}
+
+// Whether its holder still has to detach or to drop what it has let go of.
+pub fn lets_go(step: &Step, reply: &Reply) -> bool
+    ensures { result ≡ lets_go step.now reply.now }
+{
+    match step {
+        Step::Back => *reply != Reply::Kept,
+        Step::Take => matches!(reply, Reply::Taken { detach: true }),
+        Step::Failed | Step::Refused | Step::Cancel(Held::Creation | Held::Object) => true,
+        _ => false,
     }
 }
 

@@ -70,6 +70,7 @@ where
 {
     match pool.try_drain() {
         Ok(status) => Ok(status),
+        Err(DrainError::Departing(status)) => Err(DrainError::Departing(status)),
         Err(DrainError::Timeout(status) | DrainError::OutOfMemory(status)) => {
             Err(DrainError::OutOfMemory(status))
         }

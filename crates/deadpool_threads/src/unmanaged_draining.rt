@@ -48,6 +48,7 @@ fn without_memory<T: Drop, C: Clock, R: Wait + Drop>(
 {
     match pool.try_drain() {
         Ok(status) => Ok(status),
+        Err(DrainError::Departing(status)) => Err(DrainError::Departing(status)),
         Err(DrainError::Timeout(status) | DrainError::OutOfMemory(status)) => {
             Err(DrainError::OutOfMemory(status))
         }

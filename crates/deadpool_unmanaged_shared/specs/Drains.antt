@@ -1,10 +1,10 @@
 -- A drain, as contracts see it, how it ends, and which calls it makes for its caller.
-use Rattle.std.specs.Prelude.{◌≡◌, ◌⊎◌, Bool, true, false, not, is_some, Option, Some, None, Result, Ok, Err}
+use Rattle.std.specs.Prelude.{◌≡◌, ◌⊎◌, ◌<◌, ℕ, Bool, true, false, not, is_some, Option, Some, None, Result, Ok, Err}
 use Rattle.futures.specs.declared.task.Poll.{Poll}
 use Rattle.futures.specs.declared.task.Poll.TheVariants.{Ready, Pending}
 use Rattle.deadpool_lock.specs.Ends.{status_in}
 use Rattle.deadpool_lock.specs.declared.ended.DrainError.{DrainError}
-use Rattle.deadpool_lock.specs.declared.ended.DrainError.TheVariants.{Timeout, OutOfMemory}
+use Rattle.deadpool_lock.specs.declared.ended.DrainError.TheVariants.{Timeout, OutOfMemory, Departing}
 use Rattle.deadpool_parts.specs.declared.status.Status.{Status}
 use Rattle.deadpool_unmanaged.specs.Closing.{HasSome, IsEmpty}
 use Rattle.deadpool_unmanaged_journal.specs.declared.entry.Entry.{Entry}
@@ -23,17 +23,22 @@ abbrev pub draining : {C : Type 0} → Bool → Drain C
 draining is_limited = record { is_limited = is_limited; caller = None }
 
 -- It ends well where no object is left. Otherwise one is, and its time is over, if it is limited, or there was no
--- memory to wait by.
+-- memory to wait by; or none is, and one that has left is still to be dropped.
 abbrev pub EndsEmpty : Bool → Result Status DrainError → Type 0
 EndsEmpty is_limited (Ok status) = IsEmpty status
 EndsEmpty is_limited (Err (Timeout status)) = HasSome status × (is_limited ≡ true)
 EndsEmpty is_limited (Err (OutOfMemory status)) = HasSome status
+EndsEmpty is_limited (Err (Departing status)) = IsEmpty status
 
--- the same, where the pool is drained or not, and the time is over or not
-abbrev pub EndsAt : Bool → Bool → Result Status DrainError → Type 0
-EndsAt is_drained is_late (Ok status) = IsEmpty status × (is_drained ≡ true)
-EndsAt is_drained is_late (Err (Timeout status)) = HasSome status × (is_drained ≡ false) × (is_late ≡ true)
-EndsAt is_drained is_late (Err (OutOfMemory status)) = HasSome status × (is_drained ≡ false) × (is_late ≡ false)
+-- the same, where the pool is drained or not, so many still drop what has left it, and the time is over or not
+abbrev pub EndsAt : Bool → ℕ → Bool → Result Status DrainError → Type 0
+EndsAt is_drained departing is_late (Ok status) = IsEmpty status × (is_drained ≡ true) × (departing ≡ 0)
+EndsAt is_drained departing is_late (Err (Timeout status)) =
+    HasSome status × (is_drained ≡ false) × (is_late ≡ true)
+EndsAt is_drained departing is_late (Err (OutOfMemory status)) =
+    HasSome status × (is_drained ≡ false) × (is_late ≡ false)
+EndsAt is_drained departing is_late (Err (Departing status)) =
+    IsEmpty status × (is_drained ≡ true) × (0 < departing)
 
 module _ {T C : Type 0} (calls : Entry T → C → C → Type 0) where
   -- The pool is closed by a call of this caller's, which a later poll need not make if it was closed already.

@@ -5,7 +5,7 @@ use Rattle.std.specs.Option.{option_map_or}
 use Rattle.futures.specs.declared.task.Poll.{Poll}
 use Rattle.futures.specs.declared.task.Poll.TheVariants.{Ready}
 use Rattle.futures.specs.declared.task.waker.Waker.{Waker}
-use Rattle.deadpool_lock.specs.Ends.{EndsState, end_waker}
+use Rattle.deadpool_lock.specs.Ends.{EndsState, TellsFirst, end_waker, has_come}
 use Rattle.deadpool_lock.specs.Places.{waker_at}
 use Rattle.deadpool_gate.specs.Gate.{waiting_count}
 use Rattle.deadpool_gate.specs.Waking.{still_unnotified}
@@ -26,6 +26,11 @@ use Rattle.deadpool_unmanaged.specs.declared.get.GetStage.{GetStage}
 use Rattle.deadpool_unmanaged.specs.declared.get.GetStage.TheVariants as getting
 use Rattle.deadpool_unmanaged.specs.declared.step.Reply.{Reply}
 use Rattle.deadpool_unmanaged.specs.declared.step.Step.TheVariants.{GetEnter, AddEnter}
+
+-- One that waits for the end leaves as it is told, if nobody else is due. Otherwise nobody does.
+abbrev pub TellsIfDue : Bool → Bool → EndsState → Option Waker → EndsState → Type 0
+TellsIfDue false true ends waker ends' = TellsFirst ends waker ends'
+TellsIfDue _ _ ends waker ends' = ends' ≡ ends
 
 module _ {T : Type 0} where
   -- One poll of a get, as its state is polled. Or it would join the queue, there is no memory for its waker, and it
@@ -61,7 +66,7 @@ module _ {T : Type 0} where
 
   -- somebody waits for the end of a pool, which has come
   abbrev pub is_end_due : EndsState → State T → Bool
-  is_end_due ends d = not (waiting_count ends.line.waiters == 0) && is_drained d
+  is_end_due ends d = not (waiting_count ends.line.waiters == 0) && has_come (is_drained d) ends
 
   -- the waker of the get that is to be told next, or of the add, or of who waits for the end
   abbrev pub next_waker : State T → List (Option Waker) → List (Option Waker) → EndsState → Option Waker

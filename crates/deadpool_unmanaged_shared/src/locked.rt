@@ -1,5 +1,5 @@
 //! What the lock of a pool keeps.
-ghost use Rattle.std.specs.Prelude.{◌≡◌, ◌⊎◌, ◌||◌, not, [], Some, None, IfSome, IsSome};
+ghost use Rattle.std.specs.Prelude.{◌≡◌, ◌⊎◌, ◌||◌, not, is_some, [], Some, None, IfSome, IsSome};
 ghost use Rattle.deadpool_lock.specs.Places.{Follows, waker_at};
 ghost use Rattle.deadpool_unmanaged.specs.Adds as adds;
 ghost use Rattle.deadpool_unmanaged.specs.Closing.{is_drained};
@@ -14,11 +14,12 @@ ghost use Rattle.deadpool_unmanaged_journal.specs.declared.entry.Entry.TheVarian
 ghost use Rattle.deadpool_unmanaged_shared.specs.Calling.{CallsOrRefusesAdd, CallsOrRefusesGet, IsSupplied};
 ghost use Rattle.deadpool_unmanaged_shared.specs.Calling.{CallsTryAdd, CallsTryGet};
 ghost use Rattle.deadpool_unmanaged_shared.specs.Locked.{PollsGet, PollsAdd, TriesGet, TriesAdd};
-ghost use Rattle.deadpool_unmanaged_shared.specs.Locked.{is_end_due, next_waker, told};
+ghost use Rattle.deadpool_lock.specs.Ends.{Departs};
+ghost use Rattle.deadpool_unmanaged_shared.specs.Locked.{TellsIfDue, is_end_due, next_waker, told};
 
 mod draining;
 
-use deadpool_lock::{Ends, Wakers, Wakes};
+use deadpool_lock::{Departure, Ends, Wakers, Wakes};
 use deadpool_unmanaged::{AddState, GetState, Moment, PoolError, Reply, Runtime, Step};
 use deadpool_unmanaged_history::KeepsState;
 use deadpool_unmanaged_journal::{OwnerReply, OwnerStep};
@@ -212,15 +213,25 @@ impl<T: Drop, S: KeepsState<T>> Locked<T, S> {
         }
     }
 
-    /// The object in the hand comes back. It stays there if the pool has no use for it.
-    pub fn back(&mut self, caller: &mut S::Caller, hand: &mut Option<T>) -> Reply
+    /// The object in the hand comes back. It stays there if the pool has no use for it, and counts as departing from
+    /// then on.
+    pub fn back(
+        &mut self,
+        caller: &mut S::Caller,
+        hand: &mut Option<T>,
+        departure: &mut Option<Departure>,
+    ) -> Reply
         requires { IsSome hand.old }
         ensures back { Does (S.state_of self.old.state).pool Back hand.old result
             (S.state_of self.new.state).pool }
         ensures hand { Leaves result hand.old hand.new }
         ensures call { S.calls (entry.Made Back hand.old result) caller.old caller.new }
+        ensures departs { Departs (is_some hand.new) self.old.ends departure.old self.new.ends departure.new }
     {
-        self.state.make(caller, &Step::Back, hand)
+        let Locked { state, ends, .. } = self;
+        let reply = state.make(caller, &Step::Back, hand);
+        depart(ends, departure, hand.is_some());
+        reply
     }
 
     /// An object that is out leaves for good.
@@ -241,6 +252,7 @@ impl<T: Drop, S: KeepsState<T>> Locked<T, S> {
         ensures gets { self.new.gets ≡ self.old.gets }
         ensures adds { self.new.adds ≡ self.old.adds }
         ensures call { S.calls (entry.Owner step.now result) caller.old caller.new }
+        ensures ends { self.new.ends ≡ self.old.ends }
     {
         self.state.make_for_owner(caller, step)
     }
@@ -257,7 +269,17 @@ impl<T: Drop, S: KeepsState<T>> Locked<T, S> {
     fn is_end_due(&self) -> bool
         ensures { result ≡ is_end_due self.now.ends (S.state_of self.now.state).pool }
     {
-        !self.ends.is_empty() && self.state.is_drained()
+        !self.ends.is_empty() && self.ends.has_come(self.state.is_drained())
+    }
+}
+
+// An object is let go of, or none is.
+#[inline(always)]
+fn depart(ends: &mut Ends, departure: &mut Option<Departure>, lets_go: bool)
+    ensures { Departs lets_go ends.old departure.old ends.new departure.new }
+{
+    if lets_go {
+        ends.depart(departure);
     }
 }
 
@@ -273,6 +295,9 @@ impl<T: Drop, S: KeepsState<T>> Wakes for Locked<T, S> {
         ensures waker { result ≡ next_waker (S.state_of self.old.state).pool
             self.old.gets self.old.adds self.old.ends }
         ensures told { (S.state_of self.new.state).pool ≡ told (S.state_of self.old.state).pool }
+        ensures ends { TellsIfDue (has_due (S.state_of self.old.state).pool)
+            (is_end_due self.old.ends (S.state_of self.old.state).pool)
+            self.old.ends result self.new.ends }
     {
         if let Some(ticket) = self.state.take_get_wake() {
             return self.gets.take(ticket);

@@ -40,8 +40,8 @@ pub type Add<T, C, R, S = Core<T>> = Owned<Adding<T, C, R, S>>;
 pub type AddRef<'a, T, C, R, S = Core<T>> = Borrowed<'a, Adding<T, C, R, S>>;
 
 /// A drain as a future that borrows a handle of its pool, and is none itself: its first poll closes the pool, and it
-/// ends with the pool's status once no object is left, idle or out. Then the pool stays empty. Dropping it waits no
-/// longer; the pool stays closed. After its end it stays pending.
+/// ends with the pool's status once no object is left, idle or out, and none that came back is still to be dropped.
+/// Then the pool stays empty. Dropping it waits no longer; the pool stays closed. After its end it stays pending.
 pub type Drain<'a, T, C, R, S = Core<T>> = Borrowed<'a, Draining<T, C, R, S>>;
 
 /// A handle of a pool whose objects are those that its users add. The last handle that is dropped takes the idle
@@ -272,8 +272,9 @@ impl<T: Drop, C: Clock, R: Wait + Drop, S: KeepsState<T>> Pool<T, C, R, S> {
         };
     }
 
-    /// Closes the pool, as `close`, at the first poll, and waits until all objects are back or were taken. It ends with
-    /// the status of that moment, or with `OutOfMemory` if there was no memory to wait by, and never with `Timeout`.
+    /// Closes the pool, as `close`, at the first poll, and waits until all objects are dropped or were taken. It ends
+    /// with the status of that moment, or with `OutOfMemory` or `Departing` if there was no memory to wait by, and
+    /// never with `Timeout`.
     ///
     /// An object that its own task keeps never comes back.
     pub fn drain(&self) -> Drain<'_, T, C, R, S>
@@ -283,14 +284,16 @@ impl<T: Drop, C: Clock, R: Wait + Drop, S: KeepsState<T>> Pool<T, C, R, S> {
     }
 
     /// `drain`, which waits no longer than this from its first poll on, by the pool's clock. Then it ends with
-    /// `Timeout`, which has the status of that moment. The pool stays closed.
+    /// `Timeout`, or with `Departing` if only an object that has left is still to be dropped, and the status of that
+    /// moment. The pool stays closed.
     pub fn drain_for(&self, limit: Duration) -> Drain<'_, T, C, R, S>
         ensures { Asks self.now tt (draining true) result }
     {
         Borrowed::new(&self.inner, Ok(()), Draining::new(Some(limit)))
     }
 
-    /// Closes the pool, as `close`, and does not wait: `Timeout` says that an object is left, with the status.
+    /// Closes the pool, as `close`, and does not wait: `Timeout` says that an object is left, with the status, and
+    /// `Departing` that one which has left is still to be dropped.
     pub fn try_drain(&self) -> Result<Status, DrainError>
         ensures { EndsEmpty true result }
     {

@@ -10,7 +10,7 @@ ghost use Rattle.deadpool_unmanaged_shared.specs.Drains.{CallsOfDrain, EndsEmpty
 ghost use Rattle.futures.specs.declared.task.Poll.TheVariants.{Ready};
 
 use crate::locked::Locked;
-use deadpool_lock::{Counted, DrainError, StepLock};
+use deadpool_lock::{Counted, Departure, DrainError, StepLock};
 use deadpool_unmanaged::{Clock, PoolConfig, PoolError, Runtime, Status};
 use deadpool_unmanaged_history::KeepsState;
 use deadpool_unmanaged_journal::{OwnerReply, OwnerStep};
@@ -103,11 +103,23 @@ impl<T: Drop, C: Clock, R: Wait + Drop, S: KeepsState<T>> Shared<T, C, R, S> {
     pub fn back(&self, caller: &mut S::Caller, value: T)
         ensures { CallsBack S.calls value caller.old caller.new }
     {
-        let mut hand = Some(value);
+        let (mut hand, mut departure) = (Some(value), None);
         let mut step = self.lock.begin();
-        step.kept().back(caller, &mut hand);
+        step.kept().back(caller, &mut hand, &mut departure);
         self.lock.end(step);
         drop(hand);
+        if let Some(departure) = departure {
+            self.has_departed(departure);
+        }
+    }
+
+    // An object that has left is dropped. Those that wait for the end are told if it has come by that.
+    #[cold]
+    #[inline(never)]
+    fn has_departed(&self, departure: Departure) {
+        let mut step = self.lock.begin();
+        step.kept().has_departed(departure);
+        self.lock.end(step);
     }
 
     /// An object leaves for good.

@@ -1,5 +1,5 @@
 //! What a drain does under the lock of its pool.
-ghost use Rattle.std.specs.Prelude.{◌≡◌, false, None, IsSome};
+ghost use Rattle.std.specs.Prelude.{◌≡◌, false, None, IsSomeAnd};
 ghost use Rattle.futures.specs.Poll.{IfReady, OnPending};
 ghost use Rattle.deadpool_desk.specs.Closing.{ShowsLeft, is_drained};
 ghost use Rattle.deadpool_desk.specs.declared.owner_step.OwnerReply.TheVariants as reply;
@@ -7,7 +7,8 @@ ghost use Rattle.deadpool_desk.specs.declared.owner_step.OwnerStep.TheVariants a
 ghost use Rattle.deadpool_history.specs.History.{HasCalled};
 ghost use Rattle.deadpool_journal.specs.declared.entry.Entry.TheVariants as entry;
 ghost use Rattle.deadpool_shared.specs.Counts.{counted};
-ghost use Rattle.deadpool_lock.specs.Ends.{status_in};
+ghost use Rattle.deadpool_lock.specs.Ends.{Stands, has_come, listed, one_less, status_in, without};
+ghost use Rattle.deadpool_lock.specs.Places.{Follows};
 ghost use Rattle.deadpool_shared.specs.Drains.{CallsOfDrain, EndsAt, HasClosed};
 
 use super::Locked;
@@ -15,15 +16,15 @@ use crate::ledgers::{History, Ledgers};
 use deadpool_chronicle::Caller;
 use deadpool_desk::laws;
 use deadpool_history::{Line, Recorded};
-use deadpool_lock::DrainError;
+use deadpool_lock::{Departure, DrainError, Ends};
 use deadpool_managed::gate::Ticket;
 use deadpool_managed::{OwnerReply, OwnerStep, Status};
 use futures::task::{Poll, Waker};
 
 impl<T: Drop, L: Ledgers> Locked<T, L> {
-    /// Closes the pool, at the first poll of a drain in any case, and ends the drain with the pool's status if nothing
-    /// is left in it, or if the drain is late. Otherwise its task waits, under its ticket, until nothing is left; if
-    /// there is no memory for that, the drain ends too. The waker that is kept no longer is given out.
+    /// Closes the pool, at the first poll of a drain in any case, and ends the drain with the pool's status if its end
+    /// has come, or if the drain is late. Otherwise its task waits, under its ticket, until the end; if there is no
+    /// memory for that, the drain ends too. The waker that is kept no longer is given out.
     pub fn drain(
         &mut self,
         caller: &mut Caller<Line, History<L>>,
@@ -33,9 +34,12 @@ impl<T: Drop, L: Ledgers> Locked<T, L> {
         waker: &mut Option<Waker>,
     ) -> (Poll<Result<Status, DrainError>>, Option<Waker>)
         ensures closed { self.new.recorded.pool.core.desk.is_open ≡ false }
-        ensures ends { IfReady result.0 (EndsAt (is_drained self.new.recorded.pool.core.desk) is_late) }
-        ensures waits { OnPending result.0 ((is_drained self.new.recorded.pool.core.desk ≡ false)
-            × (is_late ≡ false) × IsSome ticket.new) }
+        ensures ends { IfReady result.0 (EndsAt (is_drained self.new.recorded.pool.core.desk)
+            self.new.ends.departing is_late) }
+        ensures waits { OnPending result.0
+            ((has_come (is_drained self.new.recorded.pool.core.desk) self.new.ends ≡ false)
+            × (is_late ≡ false) × IsSomeAnd ticket.new (λ at. Stands at waker.old self.new.ends)) }
+        ensures departing { self.new.ends.departing ≡ self.old.ends.departing }
         ensures left { IfReady result.0 (λ _. ticket.new ≡ None) }
         ensures calls { CallsOfDrain is_first result.0 caller.old caller.new }
         ensures wakers { self.new.wakers ≡ self.old.wakers }
@@ -43,14 +47,12 @@ impl<T: Drop, L: Ledgers> Locked<T, L> {
         let Locked { recorded, ends, .. } = self;
         close(recorded, caller, is_first);
         let is_drained = recorded.is_drained();
-        if !is_drained && !is_late {
-            if let Ok(spare) = ends.wait(ticket, waker) {
-                return (Poll::Pending, spare);
-            }
+        if !ends.has_come(is_drained) && !is_late && ends.wait(ticket, waker).is_ok() {
+            return (Poll::Pending, None);
         }
         let spare = ends.leave(ticket);
         let status = status(recorded, caller);
-        (Poll::Ready(end(status, is_drained, is_late)), spare)
+        (Poll::Ready(end(status, is_drained, is_late, ends)), spare)
     }
 
     /// A drain waits no longer. Its waker is given out. It is no step.
@@ -58,8 +60,22 @@ impl<T: Drop, L: Ledgers> Locked<T, L> {
         ensures recorded { self.new.recorded ≡ self.old.recorded }
         ensures wakers { self.new.wakers ≡ self.old.wakers }
         ensures left { ticket.new ≡ None }
+        ensures line { self.new.ends.line.waiters ≡ without ticket.old self.old.ends.line.waiters }
+        ensures places { Follows (listed ticket.old self.old.ends.line) None
+            self.old.ends.wakers None result self.new.ends.wakers None }
+        ensures departing { self.new.ends.departing ≡ self.old.ends.departing }
     {
         self.ends.leave(ticket)
+    }
+
+    /// What a step has let go of is detached and dropped. It is no step.
+    pub fn has_departed(&mut self, departure: Departure)
+        ensures recorded { self.new.recorded ≡ self.old.recorded }
+        ensures wakers { self.new.wakers ≡ self.old.wakers }
+        ensures ends { self.new.ends
+            ≡ record self.old.ends { departing = one_less self.old.ends.departing } }
+    {
+        self.ends.has_departed(departure);
     }
 }
 
@@ -99,13 +115,15 @@ fn status<T: Drop, L: Ledgers>(
 }
 
 // The end of a drain, with the status of its pool.
-fn end(status: Status, is_drained: bool, is_late: bool) -> Result<Status, DrainError>
+fn end(status: Status, is_drained: bool, is_late: bool, ends: &Ends) -> Result<Status, DrainError>
     requires { ShowsLeft is_drained status }
-    ensures ends { EndsAt is_drained is_late result }
+    ensures ends { EndsAt is_drained ends.now.departing is_late result }
     ensures status { status_in result ≡ status }
 {
-    if is_drained {
+    if ends.has_come(is_drained) {
         Ok(status)
+    } else if is_drained {
+        Err(DrainError::Departing(status))
     } else if is_late {
         Err(DrainError::Timeout(status))
     } else {

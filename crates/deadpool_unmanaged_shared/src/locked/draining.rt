@@ -1,6 +1,7 @@
 //! What a drain does under the lock of its pool.
-ghost use Rattle.std.specs.Prelude.{◌≡◌, ◌⊎◌, false, None, IsSome};
-ghost use Rattle.deadpool_lock.specs.Ends.{status_in};
+ghost use Rattle.std.specs.Prelude.{◌≡◌, ◌⊎◌, false, None, IsSomeAnd};
+ghost use Rattle.deadpool_lock.specs.Ends.{Stands, has_come, listed, one_less, status_in, without};
+ghost use Rattle.deadpool_lock.specs.Places.{Follows};
 ghost use Rattle.deadpool_unmanaged.specs.Closing.{ShowsLeft, is_drained};
 ghost use Rattle.deadpool_unmanaged.specs.StateSteps.{closed_pool};
 ghost use Rattle.deadpool_unmanaged_journal.specs.declared.entry.Entry.TheVariants as entry;
@@ -10,7 +11,7 @@ ghost use Rattle.deadpool_unmanaged_shared.specs.Drains.{CallsOfDrain, EndsAt, H
 ghost use Rattle.futures.specs.Poll.{IfReady, OnPending};
 
 use super::Locked;
-use deadpool_lock::DrainError;
+use deadpool_lock::{Departure, DrainError, Ends};
 use deadpool_unmanaged::gate::Ticket;
 use deadpool_unmanaged::{Status, laws};
 use deadpool_unmanaged_history::KeepsState;
@@ -18,9 +19,9 @@ use deadpool_unmanaged_journal::{OwnerReply, OwnerStep};
 use futures::task::{Poll, Waker};
 
 impl<T: Drop, S: KeepsState<T>> Locked<T, S> {
-    /// Closes the pool, at the first poll of a drain in any case, and ends the drain with the pool's status if no
-    /// object is left, or if the drain is late. Otherwise its task waits, under its ticket, until none is left; if
-    /// there is no memory for that, the drain ends too. The waker that is kept no longer is given out.
+    /// Closes the pool, at the first poll of a drain in any case, and ends the drain with the pool's status if its end
+    /// has come, or if the drain is late. Otherwise its task waits, under its ticket, until the end; if there is no
+    /// memory for that, the drain ends too. The waker that is kept no longer is given out.
     pub fn drain(
         &mut self,
         caller: &mut S::Caller,
@@ -32,11 +33,12 @@ impl<T: Drop, S: KeepsState<T>> Locked<T, S> {
         ensures closed { (S.state_of self.new.state).pool.is_open ≡ false }
         ensures pool { ((S.state_of self.new.state).pool ≡ closed_pool (S.state_of self.old.state).pool)
             ⊎ ((S.state_of self.new.state).pool ≡ (S.state_of self.old.state).pool) }
-        ensures ends { IfReady result.0
-            (EndsAt (is_drained (S.state_of self.new.state).pool) is_late) }
+        ensures ends { IfReady result.0 (EndsAt (is_drained (S.state_of self.new.state).pool)
+            self.new.ends.departing is_late) }
         ensures waits { OnPending result.0
-            ((is_drained (S.state_of self.new.state).pool ≡ false)
-            × (is_late ≡ false) × IsSome ticket.new) }
+            ((has_come (is_drained (S.state_of self.new.state).pool) self.new.ends ≡ false)
+            × (is_late ≡ false) × IsSomeAnd ticket.new (λ at. Stands at waker.old self.new.ends)) }
+        ensures departing { self.new.ends.departing ≡ self.old.ends.departing }
         ensures left { IfReady result.0 (λ _. ticket.new ≡ None) }
         ensures calls { CallsOfDrain S.calls is_first result.0 caller.old caller.new }
         ensures gets { self.new.gets ≡ self.old.gets }
@@ -45,14 +47,12 @@ impl<T: Drop, S: KeepsState<T>> Locked<T, S> {
         let Locked { state, ends, .. } = self;
         close::<T, S>(state, caller, is_first);
         let is_drained = state.is_drained();
-        if !is_drained && !is_late {
-            if let Ok(spare) = ends.wait(ticket, waker) {
-                return (Poll::Pending, spare);
-            }
+        if !ends.has_come(is_drained) && !is_late && ends.wait(ticket, waker).is_ok() {
+            return (Poll::Pending, None);
         }
         let spare = ends.leave(ticket);
         let status = status::<T, S>(state, caller);
-        (Poll::Ready(end(status, is_drained, is_late)), spare)
+        (Poll::Ready(end(status, is_drained, is_late, ends)), spare)
     }
 
     /// A drain waits no longer. Its waker is given out. It is no step.
@@ -61,8 +61,23 @@ impl<T: Drop, S: KeepsState<T>> Locked<T, S> {
         ensures gets { self.new.gets ≡ self.old.gets }
         ensures adds { self.new.adds ≡ self.old.adds }
         ensures left { ticket.new ≡ None }
+        ensures line { self.new.ends.line.waiters ≡ without ticket.old self.old.ends.line.waiters }
+        ensures places { Follows (listed ticket.old self.old.ends.line) None
+            self.old.ends.wakers None result self.new.ends.wakers None }
+        ensures departing { self.new.ends.departing ≡ self.old.ends.departing }
     {
         self.ends.leave(ticket)
+    }
+
+    /// An object that has left is dropped. It is no step.
+    pub fn has_departed(&mut self, departure: Departure)
+        ensures same { S.state_of self.new.state ≡ S.state_of self.old.state }
+        ensures gets { self.new.gets ≡ self.old.gets }
+        ensures adds { self.new.adds ≡ self.old.adds }
+        ensures ends { self.new.ends
+            ≡ record self.old.ends { departing = one_less self.old.ends.departing } }
+    {
+        self.ends.has_departed(departure);
     }
 }
 
@@ -95,13 +110,15 @@ fn status<T: Drop, S: KeepsState<T>>(state: &mut S, caller: &mut S::Caller) -> S
 }
 
 // The end of a drain, with the status of its pool.
-fn end(status: Status, is_drained: bool, is_late: bool) -> Result<Status, DrainError>
+fn end(status: Status, is_drained: bool, is_late: bool, ends: &Ends) -> Result<Status, DrainError>
     requires { ShowsLeft is_drained status }
-    ensures ends { EndsAt is_drained is_late result }
+    ensures ends { EndsAt is_drained ends.now.departing is_late result }
     ensures status { status_in result ≡ status }
 {
-    if is_drained {
+    if ends.has_come(is_drained) {
         Ok(status)
+    } else if is_drained {
+        Err(DrainError::Departing(status))
     } else if is_late {
         Err(DrainError::Timeout(status))
     } else {

@@ -1,0 +1,2 @@
+-- Lemmas on those that wait for the end of a pool.
+pub mod Lines
