@@ -147,24 +147,26 @@ static void tell(void) {
     printf("%zu entries, and the journal %s\n", count, deadpool_managed_is_full(&pool) ? "is full" : "has room");
 }
 
-/* Makes a step of the owner, which is to be done, and gives how many keys of idle objects that go were written. */
-static size_t make_for_owner(uint64_t step, size_t number, uint64_t *keys, const char *call) {
-    return want(DEADPOOL_REPLY_DONE, deadpool_managed_make_for_owner(&pool, step, number, keys, LIMIT), call).number;
+/* Makes a step of the owner, which is to be done, and gives how many idle objects go. The keys of the first `room` are written. */
+static size_t make_for_owner(uint64_t step, size_t number, uint64_t *keys, size_t room, const char *call) {
+    return want(DEADPOOL_REPLY_DONE, deadpool_managed_make_for_owner(&pool, step, number, keys, room), call).number;
 }
 
 static void resize(size_t limit) {
     uint64_t keys[LIMIT];
-    drop_all(keys, make_for_owner(DEADPOOL_STEP_RESIZE, limit, keys, "resize"));
+    drop_all(keys, make_for_owner(DEADPOOL_STEP_RESIZE, limit, keys, LIMIT, "resize"));
     show("it is resized");
 }
 
-/* Closes the pool and drops its last handle. */
+/* Closes the pool and drops its last handle. The keys are read beforehand, so the close is given no room for them. */
 static void close_all(void) {
-    uint64_t keys[LIMIT];
-    drop_all(keys, make_for_owner(DEADPOOL_STEP_CLOSE, 0, keys, "close"));
+    size_t idle = 0;
+    for (deadpool_reply it; (it = deadpool_managed_key(&pool, idle)).kind == DEADPOOL_REPLY_DONE; idle++)
+        drop(it.key);
+    check(make_for_owner(DEADPOOL_STEP_CLOSE, 0, NULL, 0, "close") == idle, "what was idle goes");
     want(DEADPOOL_REPLY_CLOSED, enter(true), "a get at a closed pool");
     show("it is closed");
-    check(make_for_owner(DEADPOOL_STEP_DROP_HANDLE, 0, keys, "drop_handle") == 0, "nothing was idle any more");
+    check(make_for_owner(DEADPOOL_STEP_DROP_HANDLE, 0, NULL, 0, "drop_handle") == 0, "nothing was idle any more");
 }
 
 int main(void) {
@@ -187,6 +189,6 @@ int main(void) {
     close_all();
     bring_back(second);
     tell();
-    deadpool_managed_free(pool);
+    deadpool_managed_end(&pool);
     return 0;
 }

@@ -7,7 +7,8 @@
  * `deadpool_managed_new` and `deadpool_unmanaged_new` make a pool in a block whose pointer is null; each
  * other call wants a block in which a pool was made.
  *
- * NAME_len is how many values lie at NAME. No pointer that is passed is null. */
+ * NAME_len is how many values lie at NAME, which may be null if there are none. No other pointer that is
+ * passed is null. */
 #ifndef DEADPOOL_H
 #define DEADPOOL_H
 
@@ -30,7 +31,7 @@ typedef struct deadpool_managed_pool {
 typedef struct deadpool_reply {
     /* One of the constants `DEADPOOL_REPLY_..`. */
     uint64_t kind;
-    /* The number of an object or of a ticket, or how many keys were written. */
+    /* The number of an object or of a ticket, or how many idle objects went. */
     size_t number;
     /* The key of an object. */
     uint64_t key;
@@ -97,6 +98,36 @@ typedef struct deadpool_reply {
 /* As many gets wait as may, or as many adds. With it comes the key that an add brought. */
 #define DEADPOOL_REPLY_CROWDED UINT64_C(18)
 
+/* A get, a return or a take on its way. The caller reads what is next, and passes it back unchanged. One
+ * of zeros has nothing to do. */
+typedef struct deadpool_order {
+    /* What is next: one of the constants from `DEADPOOL_COMMAND_END` to `DEADPOOL_COMMAND_GIVE`. */
+    uint64_t command;
+    /* How far it is. */
+    uint64_t state;
+    /* Of `DEADPOOL_COMMAND_WAIT` the ticket, of a hook its place in its list. */
+    size_t number;
+    /* Of `DEADPOOL_COMMAND_GIVE` whether the object was recycled. */
+    bool is_set;
+    /* Of `DEADPOOL_COMMAND_END` why: one of the constants from `DEADPOOL_CAUSE_DONE` to
+     * `DEADPOOL_CAUSE_DROPPED`. */
+    uint64_t cause;
+    /* Whether its get may take only so many more idle objects in this poll. */
+    bool is_limited;
+    /* How many these are. */
+    size_t left;
+} deadpool_order;
+
+/* How many hooks see an object. It is the same for all calls of an order. */
+typedef struct deadpool_hooks {
+    /* Before it is recycled. */
+    size_t pre_recycle;
+    /* Once it was recycled. */
+    size_t post_recycle;
+    /* As it is new. */
+    size_t post_create;
+} deadpool_hooks;
+
 /* How a pool stands. Each is a number of objects or, for `waiting`, of gets. */
 typedef struct deadpool_standing {
     /* How many objects there may be. */
@@ -129,6 +160,81 @@ typedef struct deadpool_unmanaged_pool {
     /* Where its state lies, or null. */
     void *at;
 } deadpool_unmanaged_pool;
+
+/* The object is out, is back, or was taken. */
+#define DEADPOOL_CAUSE_DONE UINT64_C(0)
+
+/* The pool is closed, or does not know what the get holds. */
+#define DEADPOOL_CAUSE_CLOSED UINT64_C(1)
+
+/* No place came in time. */
+#define DEADPOOL_CAUSE_NO_PLACE UINT64_C(2)
+
+/* As many wait as may. */
+#define DEADPOOL_CAUSE_CROWDED UINT64_C(3)
+
+/* There was no memory for the entry in the queue, for what is to wake the get, or for a new object. */
+#define DEADPOOL_CAUSE_OUT_OF_MEMORY UINT64_C(4)
+
+/* No object number is left. */
+#define DEADPOOL_CAUSE_NUMBERS_EXHAUSTED UINT64_C(5)
+
+/* Nothing is there that could tell the time. */
+#define DEADPOOL_CAUSE_NO_RUNTIME UINT64_C(6)
+
+/* The creation took too long. */
+#define DEADPOOL_CAUSE_LATE UINT64_C(7)
+
+/* No object was made. */
+#define DEADPOOL_CAUSE_FAILED UINT64_C(8)
+
+/* A hook has refused the new object. */
+#define DEADPOOL_CAUSE_REFUSED UINT64_C(9)
+
+/* It was given up. */
+#define DEADPOOL_CAUSE_DROPPED UINT64_C(10)
+
+/* Nothing is left to do, and nothing is held. `cause` says why. */
+#define DEADPOOL_COMMAND_END UINT64_C(0)
+
+/* Make a step by `deadpool_managed_advance`, then wake whoever is due. */
+#define DEADPOOL_COMMAND_ADVANCE UINT64_C(1)
+
+/* The same, with the `number` and `key` of the object that comes back. */
+#define DEADPOOL_COMMAND_BACK UINT64_C(2)
+
+/* Wait until the ticket `number` is due, or for too long, then tell `deadpool_order_polled` which. */
+#define DEADPOOL_COMMAND_WAIT UINT64_C(3)
+
+/* Let others have their turn, then tell `deadpool_order_polled`. */
+#define DEADPOOL_COMMAND_PAUSE UINT64_C(4)
+
+/* Make an object, then tell `deadpool_order_ready` or `deadpool_order_failed`. */
+#define DEADPOOL_COMMAND_CREATE UINT64_C(5)
+
+/* The hook `number` of those before a recycling sees the object, and the same is told. */
+#define DEADPOOL_COMMAND_PRE_RECYCLE UINT64_C(6)
+
+/* The object is recycled, and the same is told. */
+#define DEADPOOL_COMMAND_RECYCLE UINT64_C(7)
+
+/* The hook `number` of those after a recycling sees it, and the same is told. */
+#define DEADPOOL_COMMAND_POST_RECYCLE UINT64_C(8)
+
+/* The hook `number` of those of a new object sees it, and the same is told. */
+#define DEADPOOL_COMMAND_POST_CREATE UINT64_C(9)
+
+/* Tell `deadpool_order_begins`, then detach the object. */
+#define DEADPOOL_COMMAND_DETACH UINT64_C(10)
+
+/* Tell `deadpool_order_begins`, then drop the object, if there is one. */
+#define DEADPOOL_COMMAND_RELEASE UINT64_C(11)
+
+/* Tell `deadpool_order_begins`, then tell those that wait for the pool's end, if it has come. */
+#define DEADPOOL_COMMAND_TELL UINT64_C(12)
+
+/* Tell `deadpool_order_gives`: the object is the caller's. `is_set` says whether it was recycled. */
+#define DEADPOOL_COMMAND_GIVE UINT64_C(13)
 
 /* No step: there is no entry at this position. */
 #define DEADPOOL_STEP_NO_ENTRY UINT64_C(0)
@@ -261,6 +367,13 @@ void deadpool_managed_free(deadpool_managed_pool pool);
 deadpool_reply deadpool_managed_make(deadpool_managed_pool *pool, uint64_t step, bool is_set, size_t number,
     uint64_t key);
 
+/* Makes the step of an order whose command is `DEADPOOL_COMMAND_ADVANCE` or `DEADPOOL_COMMAND_BACK`, and
+ * tells the order its reply, so that no step is made that its order does not know. `number` and `key` are
+ * those of an object that comes back. With the reply comes the object that the get is given, or that is
+ * given back. At another command nothing changes: `DEADPOOL_REPLY_UNKNOWN`. */
+deadpool_reply deadpool_managed_advance(deadpool_managed_pool *pool, deadpool_order *order,
+    deadpool_hooks hooks, size_t number, uint64_t key);
+
 /* How the pool stands. */
 deadpool_standing deadpool_managed_status(deadpool_managed_pool *pool);
 
@@ -269,14 +382,15 @@ deadpool_standing deadpool_managed_status(deadpool_managed_pool *pool);
 deadpool_reply deadpool_managed_take_wake(deadpool_managed_pool *pool);
 
 /* The steps of a managed pool's owner, and what is read without a step. A step that gives idle objects up
- * writes their keys, in the order in which they stood, to the front of `keys`, as far as it reaches. Room
- * for as many keys as are idle is enough. */
+ * writes their keys, in the order in which they stood, to the front of `keys`, as far as it reaches, and
+ * tells how many these are. Room for as many keys as are idle is enough; of those that find none nothing
+ * more is told. */
 
 /* Makes a step of the pool's owner: `step` is `DEADPOOL_STEP_RESIZE`, `DEADPOOL_STEP_CLOSE`,
  * `DEADPOOL_STEP_CLONE_HANDLE`, `DEADPOOL_STEP_DROP_HANDLE` or `DEADPOOL_STEP_UPGRADE`. Each of them says
  * what `number` is to it, which replies it has, and which idle objects go: with `DEADPOOL_REPLY_DONE`
- * comes how many of their keys were written. Another `step` is none: the reply is
- * `DEADPOOL_REPLY_UNKNOWN`, and nothing has changed. */
+ * comes how many went, more than `keys` has room for if some of their keys were not written. Another
+ * `step` is none: the reply is `DEADPOOL_REPLY_UNKNOWN`, and nothing has changed. */
 deadpool_reply deadpool_managed_make_for_owner(deadpool_managed_pool *pool, uint64_t step, size_t number,
     uint64_t *keys, size_t keys_len);
 
@@ -305,9 +419,53 @@ deadpool_noted_step deadpool_managed_entry(deadpool_managed_pool *pool, size_t a
  * none. It is no step. */
 deadpool_reply deadpool_managed_removal(deadpool_managed_pool *pool, size_t at, size_t index);
 
+/* The order of what a get does, and a return and a take of an object. An order says what is next, in
+ * `command`. The caller does that, and tells what has come of it by the call that the command names. A
+ * call that does not fit where the order is says `false`, and changes nothing. An order is one get's, or
+ * one object's, and is told by one thread at a time. It has no memory of its own, and needs no lock. */
+
+/* That of a new get, which may wait for its place or not. */
+deadpool_order deadpool_order_get(bool may_wait);
+
+/* That of an object which comes back. */
+deadpool_order deadpool_order_return(void);
+
+/* That of an object which is taken out of the pool, for good. */
+deadpool_order deadpool_order_take(void);
+
+/* Behind `DEADPOOL_COMMAND_WAIT` or `DEADPOOL_COMMAND_PAUSE`: its turn has come, or it has waited for too
+ * long. */
+bool deadpool_order_polled(deadpool_order *order, bool has_waited_long_enough);
+
+/* Behind `DEADPOOL_COMMAND_WAIT`: there is no memory for what would wake it. It leaves the queue. */
+bool deadpool_order_unheard(deadpool_order *order);
+
+/* The task ends its poll within a call, and begins another one later: that one has an allowance of its
+ * own. Whoever has no polls, but a thread that waits, needs none of it. */
+void deadpool_order_pauses(deadpool_order *order);
+
+/* Behind `DEADPOOL_COMMAND_CREATE`, `DEADPOOL_COMMAND_RECYCLE` or a hook: it has ended well. */
+bool deadpool_order_ready(deadpool_order *order, deadpool_hooks hooks);
+
+/* Behind `DEADPOOL_COMMAND_CREATE`, `DEADPOOL_COMMAND_RECYCLE` or a hook: it has not, or took too long. Of
+ * a creation `cause` is why its get ends: `DEADPOOL_CAUSE_OUT_OF_MEMORY`, `DEADPOOL_CAUSE_NO_RUNTIME`,
+ * `DEADPOOL_CAUSE_LATE` or `DEADPOOL_CAUSE_FAILED`. */
+bool deadpool_order_failed(deadpool_order *order, uint64_t cause);
+
+/* Before what `DEADPOOL_COMMAND_DETACH`, `DEADPOOL_COMMAND_RELEASE` or `DEADPOOL_COMMAND_TELL` asks for is
+ * done. */
+bool deadpool_order_begins(deadpool_order *order);
+
+/* At `DEADPOOL_COMMAND_GIVE`: the object is out, or its taker's. */
+bool deadpool_order_gives(deadpool_order *order);
+
+/* It is given up, wherever it is. Until its end at most four commands are left, which give back what it
+ * holds. */
+void deadpool_order_dropped(deadpool_order *order);
+
 /* The steps of an unmanaged pool. A step that gives idle objects up writes their keys, in the order in
- * which they stood, to the front of `keys`, as far as it reaches. Room for as many keys as are idle is
- * enough. */
+ * which they stood, to the front of `keys`, as far as it reaches, and tells how many these are. Room for
+ * as many keys as are idle is enough; of those that find none nothing more is told. */
 
 /* Makes an open pool of so many objects at most, with one handle: `false` if memory is wanting.
  * `max_waiting` is how many gets may wait, and how many adds, by the greatest number any. The block has to
@@ -324,16 +482,18 @@ void deadpool_unmanaged_free(deadpool_unmanaged_pool pool);
 deadpool_reply deadpool_unmanaged_make(deadpool_unmanaged_pool *pool, uint64_t step, bool is_set,
     size_t number, uint64_t key);
 
-/* The pool closes for good, and all that is idle goes. Gives how many keys were written. */
+/* The pool closes for good, and all that is idle goes. Gives how many went, more than `keys` has room for
+ * if some of their keys were not written. */
 size_t deadpool_unmanaged_close(deadpool_unmanaged_pool *pool, uint64_t *keys, size_t keys_len);
 
 /* There is one handle more: `DEADPOOL_REPLY_DONE`, `DEADPOOL_REPLY_NO_HANDLE`. */
 deadpool_reply deadpool_unmanaged_clone_handle(deadpool_unmanaged_pool *pool);
 
 /* There is one handle less: `DEADPOOL_REPLY_DONE`, `DEADPOOL_REPLY_NO_HANDLE`. The last one takes all that
- * is idle with it, and `written` is how many keys of that were written. */
+ * is idle with it, and `gone` is how many went, more than `keys` has room for if some of their keys were
+ * not written. */
 deadpool_reply deadpool_unmanaged_drop_handle(deadpool_unmanaged_pool *pool, uint64_t *keys, size_t keys_len,
-    size_t *written);
+    size_t *gone);
 
 /* There is one handle more, for an owner that has none, if one is left. */
 bool deadpool_unmanaged_upgrade(deadpool_unmanaged_pool *pool);
@@ -351,6 +511,20 @@ deadpool_standing deadpool_unmanaged_status(deadpool_unmanaged_pool *pool);
 
 /* Whether the pool has closed. */
 bool deadpool_unmanaged_is_closed(deadpool_unmanaged_pool *pool);
+
+/* Ends the managed pool of a block, if one was made there and has not ended, and leaves the block empty. */
+static inline void deadpool_managed_end(deadpool_managed_pool *pool) {
+    if (pool->at != NULL)
+        deadpool_managed_free(*pool);
+    pool->at = NULL;
+}
+
+/* Ends the unmanaged pool of a block, if one was made there and has not ended, and leaves the block empty. */
+static inline void deadpool_unmanaged_end(deadpool_unmanaged_pool *pool) {
+    if (pool->at != NULL)
+        deadpool_unmanaged_free(*pool);
+    pool->at = NULL;
+}
 
 #ifdef __cplusplus
 }

@@ -5,6 +5,7 @@ use Rattle.deadpool_desk.specs.DeskSteps.{surplus}
 use Rattle.deadpool_desk.specs.declared.owner_step.OwnerStep.{OwnerStep}
 use Rattle.deadpool_desk.specs.declared.owner_step.OwnerStep.TheVariants as owner
 use Rattle.deadpool_desk.specs.declared.slot.Slot.{Slot}
+use Rattle.deadpool_gate.specs.Numbers.{largest_usize}
 use Rattle.deadpool_unmanaged.specs.State.{State}
 use Rattle.deadpool_c.specs.Replies.{plain, keyed}
 use Rattle.deadpool_c.specs.declared.reply.Reply.{Reply}
@@ -13,6 +14,10 @@ use Rattle.deadpool_c.specs.declared.reply.TheConstants.{DONE, UNKNOWN}
 -- how many of these keys find room
 abbrev pub written_count : List ℕ → List ℕ → ℕ
 written_count given old = min (length given) (length old)
+
+-- how many these keys are, as far as a number can tell
+abbrev pub told_count : List ℕ → ℕ
+told_count given = min (length given) largest_usize
 
 -- As many of these keys as find room stand at the front, in order, and what is behind them is as it was.
 pub record Writes (given : List ℕ) (old : List ℕ) (new : List ℕ) : Type 0 where

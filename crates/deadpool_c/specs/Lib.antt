@@ -6,6 +6,8 @@ pub mod ManagedSteps
 pub mod ManagedReplies
 pub mod UnmanagedSteps
 pub mod UnmanagedReplies
+-- An order as plain numbers, and how it goes on.
+pub mod Orders
 -- The keys that a step gives up; a retain by a choice that was made beforehand.
 pub mod Keys
 pub mod Choices

@@ -59,7 +59,7 @@ MakesRaw j (Some step) number key raw j' =
     × (raw ≡ raw_in_hand reply hand)
 MakesRaw j None number key raw j' = (raw ≡ plain UNKNOWN) × (j' ≡ j)
 
--- the reply to a step of the owner, with how many keys were written
+-- the reply to a step of the owner, with how many idle objects went
 abbrev pub raw_for_owner : OwnerReply → ℕ → Reply
 raw_for_owner (owner_reply.Stands status) count = numbered DONE count
 raw_for_owner owner_reply.Done count = numbered DONE count

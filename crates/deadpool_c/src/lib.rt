@@ -6,7 +6,9 @@
 //! pool was made.
 #![tactic(auto)]
 
+mod cause;
 mod choice;
+mod command;
 mod entry;
 mod keys;
 pub mod managed;
@@ -16,6 +18,9 @@ mod managed_owner_steps;
 mod managed_reply;
 mod managed_state;
 mod managed_steps;
+mod order;
+mod order_kinds;
+pub mod orders;
 mod reply;
 mod step;
 pub mod unmanaged;
@@ -27,5 +32,6 @@ mod unmanaged_steps;
 
 pub use entry::NotedStep;
 pub use managed_block::ManagedPool;
+pub use order::{Hooks, Order};
 pub use reply::{Reply, Standing};
 pub use unmanaged_block::UnmanagedPool;

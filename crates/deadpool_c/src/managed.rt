@@ -5,9 +5,11 @@ ghost use Rattle.deadpool_desk.specs.DeskState.{bounded, new_core};
 ghost use Rattle.deadpool_journal.specs.LogState.{no_entries};
 ghost use Rattle.deadpool_c.specs.ManagedReplies.{MakesRaw, StandsRaw, TellsRaw, mode_of};
 ghost use Rattle.deadpool_c.specs.ManagedSteps.{step_of};
+ghost use Rattle.deadpool_c.specs.Orders.{AdvancesRaw};
 
 use crate::managed_block::ManagedPool;
-use crate::managed_steps::{self, Asked, Opening};
+use crate::managed_steps::{self, Advancing, Asked, Opening};
+use crate::order::{Hooks, Order};
 use crate::reply::{Reply, Standing};
 use core::mem::replace_with;
 use std::alloc::Global;
@@ -56,9 +58,9 @@ pub extern "C" fn deadpool_managed_free(pool: ManagedPool)
     drop(pool.into_state());
 }
 
-/// Makes a step of a get or an object: `step` is one of the constants from `ENTER` to `TAKE`. Each of them says what
-/// `is_set`, `number` and `key` are to it, and which replies it has; what it does not name is not looked at. Another
-/// `step` is none: the reply is `UNKNOWN`, and nothing has changed.
+/// Makes a step of a get or an object: `step` is one of the constants from `ENTER` to `step::TAKE`. Each of them says
+/// what `is_set`, `number` and `key` are to it, and which replies it has; what it does not name is not looked at.
+/// Another `step` is none: the reply is `UNKNOWN`, and nothing has changed.
 #[unsafe(no_mangle)]
 pub extern "C" fn deadpool_managed_make(
     pool: &mut ManagedPool,
@@ -79,6 +81,33 @@ pub extern "C" fn deadpool_managed_make(
         key,
     };
     replace_with(pool, asked, managed_steps::make)
+}
+
+/// Makes the step of an order whose command is `ADVANCE` or `command::BACK`, and tells the order its reply, so that no
+/// step is made that its order does not know. `number` and `key` are those of an object that comes back. With the
+/// reply comes the object that the get is given, or that is given back. At another command nothing changes: `UNKNOWN`.
+#[unsafe(no_mangle)]
+pub extern "C" fn deadpool_managed_advance(
+    pool: &mut ManagedPool,
+    order: &mut Order,
+    hooks: Hooks,
+    number: usize,
+    key: u64,
+) -> Reply
+    requires { InBlock pool.old.at }
+    ensures step { AdvancesRaw pool.old.state.pool order.old hooks number key
+        result pool.new.state.pool order.new }
+    ensures made { InBlock pool.new.at }
+{
+    let asked = Advancing {
+        order: *order,
+        hooks,
+        number,
+        key,
+    };
+    let (reply, next) = replace_with(pool, asked, managed_steps::advance);
+    *order = next;
+    reply
 }
 
 /// How the pool stands.

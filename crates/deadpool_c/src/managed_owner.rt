@@ -1,11 +1,12 @@
 //! The steps of a managed pool's owner, and what is read without a step. A step that gives idle objects up writes
-//! their keys, in the order in which they stood, to the front of `keys`, as far as it reaches. Room for as many keys
-//! as are idle is enough.
-ghost use Rattle.std.specs.Prelude.{◌≡◌, not, slice_get, take, Some};
+//! their keys, in the order in which they stood, to the front of `keys`, as far as it reaches, and tells how many
+//! these are. Room for as many keys as are idle is enough; of those that find none nothing more is told.
+ghost use Rattle.std.specs.Prelude.{◌≡◌, ◌≤◌, length, not, slice_get, take, Some};
 ghost use denote.RawPtr.{InBlock};
 ghost use Rattle.deadpool_c.specs.Choices.{RetainsRaw};
 ghost use Rattle.deadpool_c.specs.Entries.{noted_at, removed_at};
-ghost use Rattle.deadpool_c.specs.Keys.{Writes, written_count, idle_keys, given_up_keys, key_reply};
+ghost use Rattle.deadpool_c.specs.Keys.{Writes, written_count, told_count, idle_keys, given_up_keys};
+ghost use Rattle.deadpool_c.specs.Keys.{key_reply};
 ghost use Rattle.deadpool_c.specs.ManagedReplies.{MakesForOwnerRaw};
 ghost use Rattle.deadpool_c.specs.ManagedSteps.{owner_step_of};
 
@@ -51,35 +52,57 @@ fn write_all_keys(pool: &mut ManagedPool, keys: &mut [u64]) -> usize
     write_keys(pool, room, keys)
 }
 
-// Writes the keys of the idle objects that go with a step, and says how many it has written.
+// How many objects are idle, as far as a number can tell, if so many are known to be.
+fn count_idle(pool: &mut ManagedPool, known: usize) -> usize
+    requires made { InBlock pool.old.at }
+    requires known { known ≤ length (idle_keys pool.old.state.pool.core.desk) }
+    ensures count { result ≡ told_count (idle_keys pool.old.state.pool.core.desk) }
+    ensures same { pool.new.state ≡ pool.old.state }
+    ensures made { InBlock pool.new.at }
+{
+    for at in known..usize::MAX {
+        let Some(_key) = replace_with(pool, at, key_at) else {
+            return at;
+        };
+    }
+    usize::MAX
+}
+
+// Writes the keys of the idle objects that go with a step, and says how many go.
 fn write_given_up(pool: &mut ManagedPool, step: &OwnerStep, keys: &mut [u64]) -> usize
     requires { InBlock pool.old.at }
     ensures written { Writes
         (given_up_keys (Some step.now) pool.old.state.pool.core.desk) keys.old keys.new }
     ensures count { result
-        ≡ written_count (given_up_keys (Some step.now) pool.old.state.pool.core.desk) keys.old }
+        ≡ told_count (given_up_keys (Some step.now) pool.old.state.pool.core.desk) }
     ensures same { pool.new.state ≡ pool.old.state }
     ensures made { InBlock pool.new.at }
 {
     match step {
         OwnerStep::Resize { limit } => {
             let surplus = replace_with(pool, *limit, managed_owner_steps::surplus);
-            write_keys(pool, surplus, keys)
+            write_keys(pool, surplus, keys);
+            surplus
         }
-        OwnerStep::Close => write_all_keys(pool, keys),
+        OwnerStep::Close => {
+            let written = write_all_keys(pool, keys);
+            count_idle(pool, written)
+        }
         OwnerStep::DropHandle => {
             if !replace_with(pool, (), managed_owner_steps::is_last_handle) {
                 return 0;
             }
-            write_all_keys(pool, keys)
+            let written = write_all_keys(pool, keys);
+            count_idle(pool, written)
         }
         OwnerStep::Status | OwnerStep::CloneHandle | OwnerStep::Upgrade => 0,
     }
 }
 
 /// Makes a step of the pool's owner: `step` is `RESIZE`, `CLOSE`, `CLONE_HANDLE`, `DROP_HANDLE` or `UPGRADE`. Each of
-/// them says what `number` is to it, which replies it has, and which idle objects go: with `DONE` comes how many of
-/// their keys were written. Another `step` is none: the reply is `UNKNOWN`, and nothing has changed.
+/// them says what `number` is to it, which replies it has, and which idle objects go: with `DONE` comes how many went,
+/// more than `keys` has room for if some of their keys were not written. Another `step` is none: the reply is
+/// `UNKNOWN`, and nothing has changed.
 #[unsafe(no_mangle)]
 pub extern "C" fn deadpool_managed_make_for_owner(
     pool: &mut ManagedPool,
@@ -90,7 +113,7 @@ pub extern "C" fn deadpool_managed_make_for_owner(
     requires { InBlock pool.old.at }
     ensures step { let asked = owner_step_of step number
         in MakesForOwnerRaw pool.old.state.pool asked
-        (written_count (given_up_keys asked pool.old.state.pool.core.desk) keys.old)
+        (told_count (given_up_keys asked pool.old.state.pool.core.desk))
         result pool.new.state.pool }
     ensures keys { Writes (given_up_keys (owner_step_of step number) pool.old.state.pool.core.desk)
         keys.old keys.new }

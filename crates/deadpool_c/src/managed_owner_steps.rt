@@ -18,7 +18,7 @@ use crate::reply::{self, Reply};
 use deadpool_desk::{OwnerDesk, OwnerStep, RetainResult};
 use std::alloc::AllocError;
 
-/// A step, after so many keys were written.
+/// A step with which so many idle objects go.
 pub fn make(pool: ManagedPool, asked: (OwnerStep, usize)) -> (ManagedPool, Reply)
     requires { InBlock pool.at }
     ensures step { MakesForOwnerRaw

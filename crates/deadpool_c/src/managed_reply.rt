@@ -49,7 +49,7 @@ pub fn in_hand(reply: &DeskReply, hand: &Option<Slot<u64>>) -> Reply
     }
 }
 
-/// The reply to a step of the owner, with how many keys were written.
+/// The reply to a step of the owner, with which so many idle objects go.
 pub fn for_owner(reply: &OwnerReply, count: usize) -> Reply
     ensures { result ≡ raw_for_owner reply.now count }
 {

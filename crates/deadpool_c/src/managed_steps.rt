@@ -7,9 +7,12 @@ ghost use Rattle.deadpool_desk.specs.Replies.{Brings};
 ghost use Rattle.deadpool_journal.specs.LogState.{no_entries};
 ghost use Rattle.deadpool_c.specs.ManagedReplies.{MakesRaw, StandsRaw, TellsRaw, mode_of};
 ghost use Rattle.deadpool_c.specs.ManagedSteps.{brought, step_of};
+ghost use Rattle.deadpool_c.specs.Orders.{AdvancesRaw};
 
 use crate::managed_block::ManagedPool;
 use crate::managed_state::ManagedState;
+use crate::order::{Hooks, Order};
+use crate::order_kinds::is_making;
 use crate::reply::{self, Reply, Standing, UNKNOWN, plain};
 use crate::{managed_reply, step};
 use deadpool_desk::{Desk, OwnerDesk, OwnerReply, OwnerStep, QueueMode, Slot, Step};
@@ -35,6 +38,15 @@ pub struct Asked {
     /// One of the constants of `step.rt`, which says there what the others are to it.
     pub step: u64,
     pub is_set: bool,
+    pub number: usize,
+    pub key: u64,
+}
+
+/// A step of an order as the caller asks for it.
+pub struct Advancing {
+    pub order: Order,
+    pub hooks: Hooks,
+    /// The object that comes back.
     pub number: usize,
     pub key: u64,
 }
@@ -97,6 +109,33 @@ pub fn make(pool: ManagedPool, asked: Asked) -> (ManagedPool, Reply)
     (
         ManagedPool::of(state),
         managed_reply::in_hand(&reply, &hand),
+    )
+}
+
+pub fn advance(pool: ManagedPool, asked: Advancing) -> (ManagedPool, (Reply, Order))
+    requires { InBlock pool.at }
+    ensures step { AdvancesRaw pool.state.pool asked.order asked.hooks asked.number asked.key
+        result.1.0 result.0.state.pool result.1.1 }
+    ensures made { InBlock result.0.at }
+{
+    let Advancing {
+        order,
+        hooks,
+        number,
+        key,
+    } = asked;
+    let mut whole = order.whole();
+    if !is_making(whole.state()) {
+        return (pool, (plain(UNKNOWN), order));
+    }
+    let step = whole.step();
+    let mut hand = brought(&step, number, key);
+    let mut state = pool.into_state();
+    let reply = state.pool.make(&step, &mut hand);
+    whole.replied(&hooks.counts(), &step, reply);
+    (
+        ManagedPool::of(state),
+        (managed_reply::in_hand(&reply, &hand), Order::of(&whole)),
     )
 }
 

@@ -11,7 +11,7 @@ use deadpool_parts::{HandleReply, Status};
 pub struct Reply {
     /// One of the constants of this module.
     pub kind: u64,
-    /// The number of an object or of a ticket, or how many keys were written.
+    /// The number of an object or of a ticket, or how many idle objects went.
     pub number: usize,
     /// The key of an object.
     pub key: u64,

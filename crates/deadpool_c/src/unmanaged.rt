@@ -1,10 +1,11 @@
 //! The steps of an unmanaged pool. A step that gives idle objects up writes their keys, in the order in which they
-//! stood, to the front of `keys`, as far as it reaches. Room for as many keys as are idle is enough.
-ghost use Rattle.std.specs.Prelude.{◌≡◌, true, [], not, Some};
+//! stood, to the front of `keys`, as far as it reaches, and tells how many these are. Room for as many keys as are idle
+//! is enough; of those that find none nothing more is told.
+ghost use Rattle.std.specs.Prelude.{◌≡◌, ◌≤◌, true, [], length, not, Some};
 ghost use denote.RawPtr.{InBlock};
 ghost use Rattle.deadpool_unmanaged.specs.State.{bounded, opened, status_of};
 ghost use Rattle.deadpool_unmanaged.specs.StateSteps.{Upgrades, closed_pool};
-ghost use Rattle.deadpool_c.specs.Keys.{Writes, written_count, last_unmanaged_keys};
+ghost use Rattle.deadpool_c.specs.Keys.{Writes, written_count, told_count, last_unmanaged_keys};
 ghost use Rattle.deadpool_c.specs.Replies.{raw_standing};
 ghost use Rattle.deadpool_c.specs.UnmanagedReplies.{MakesRaw, ClonesRaw, DropsHandleRaw, TakesGetWakeRaw};
 ghost use Rattle.deadpool_c.specs.UnmanagedReplies.{TakesAddWakeRaw};
@@ -66,6 +67,22 @@ fn write_keys(pool: &mut UnmanagedPool, keys: &mut [u64]) -> usize
     room
 }
 
+// How many objects are idle, as far as a number can tell, if so many are known to be.
+fn count_idle(pool: &mut UnmanagedPool, known: usize) -> usize
+    requires made { InBlock pool.old.at }
+    requires known { known ≤ length pool.old.state.pool.pool.idle }
+    ensures count { result ≡ told_count pool.old.state.pool.pool.idle }
+    ensures same { pool.new.state ≡ pool.old.state }
+    ensures made { InBlock pool.new.at }
+{
+    for at in known..usize::MAX {
+        let Some(_key) = replace_with(pool, at, key_at) else {
+            return at;
+        };
+    }
+    usize::MAX
+}
+
 /// Makes a step of a get, an add or an object: `step` is one of the eight constants from `GET_ENTER` on. Each of them
 /// says what `is_set`, `number` and `key` are to it, and which replies it has; what it does not name is not looked at.
 /// Another `step` is none: the reply is `UNKNOWN`, and nothing has changed.
@@ -91,16 +108,18 @@ pub extern "C" fn deadpool_unmanaged_make(
     replace_with(pool, asked, unmanaged_steps::make)
 }
 
-/// The pool closes for good, and all that is idle goes. Gives how many keys were written.
+/// The pool closes for good, and all that is idle goes. Gives how many went, more than `keys` has room for if some of
+/// their keys were not written.
 #[unsafe(no_mangle)]
 pub extern "C" fn deadpool_unmanaged_close(pool: &mut UnmanagedPool, keys: &mut [u64]) -> usize
     requires { InBlock pool.old.at }
     ensures step { pool.new.state.pool.pool ≡ closed_pool pool.old.state.pool.pool }
     ensures keys { Writes pool.old.state.pool.pool.idle keys.old keys.new }
-    ensures count { result ≡ written_count pool.old.state.pool.pool.idle keys.old }
+    ensures count { result ≡ told_count pool.old.state.pool.pool.idle }
     ensures made { InBlock pool.new.at }
 {
-    let count = write_keys(pool, keys);
+    let written = write_keys(pool, keys);
+    let count = count_idle(pool, written);
     replace_with(pool, (), unmanaged_steps::close);
     count
 }
@@ -115,23 +134,23 @@ pub extern "C" fn deadpool_unmanaged_clone_handle(pool: &mut UnmanagedPool) -> R
     replace_with(pool, (), unmanaged_steps::clone_handle)
 }
 
-/// There is one handle less: `DONE`, `NO_HANDLE`. The last one takes all that is idle with it, and `written` is how
-/// many keys of that were written.
+/// There is one handle less: `DONE`, `NO_HANDLE`. The last one takes all that is idle with it, and `gone` is how many
+/// went, more than `keys` has room for if some of their keys were not written.
 #[unsafe(no_mangle)]
 pub extern "C" fn deadpool_unmanaged_drop_handle(
     pool: &mut UnmanagedPool,
     keys: &mut [u64],
-    written: &mut usize,
+    gone: &mut usize,
 ) -> Reply
     requires { InBlock pool.old.at }
     ensures step { DropsHandleRaw pool.old.state.pool.pool result pool.new.state.pool.pool }
     ensures keys { Writes (last_unmanaged_keys pool.old.state.pool.pool) keys.old keys.new }
-    ensures count { written.new
-        ≡ written_count (last_unmanaged_keys pool.old.state.pool.pool) keys.old }
+    ensures count { gone.new ≡ told_count (last_unmanaged_keys pool.old.state.pool.pool) }
     ensures made { InBlock pool.new.at }
 {
-    *written = if replace_with(pool, (), unmanaged_steps::is_last_handle) {
-        write_keys(pool, keys)
+    *gone = if replace_with(pool, (), unmanaged_steps::is_last_handle) {
+        let written = write_keys(pool, keys);
+        count_idle(pool, written)
     } else {
         0
     };
