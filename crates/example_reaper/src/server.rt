@@ -103,6 +103,9 @@ impl Server {
             Err(DrainError::OutOfMemory(_)) => {
                 Err(io::Error::other("no memory to wait for the end by"))
             }
+            Err(DrainError::Departing(_)) => Err(io::Error::other(
+                "a connection was not closed yet",
+            )),
         }
     }
 

@@ -1,4 +1,4 @@
-//! Tests of pools at their worst.
+//! Tests of pools that find no memory.
 #![tactic(auto)]
 
 #[cfg(test)]

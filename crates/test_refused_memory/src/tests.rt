@@ -1,3 +1,15 @@
-//! Pools whose managers and hooks do their worst, and pools and configurations that find no memory.
-mod hostile;
-mod scarce;
+//! Pools and configurations that find no memory.
+mod alarms;
+mod calls;
+mod configurations;
+mod managed_player;
+mod player;
+mod program;
+mod reader;
+mod scripts;
+mod shared_pools;
+mod told;
+mod tracked;
+mod trials;
+mod unmanaged_player;
+mod unmanaged_shared_pools;

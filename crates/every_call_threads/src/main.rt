@@ -1,0 +1,19 @@
+//! Calls what poolrun, the examples and the bench leave uncalled of what threads share pools by.
+//!
+//! Its proof says of each that it can be called: a caller meets what it requires, at a type of its own.
+#![tactic(auto)]
+
+mod keeper;
+mod numbers;
+mod timer;
+mod unmanaged;
+mod user;
+
+use std::io;
+
+fn main(rt: HostRuntime) -> io::Result<()> {
+    user::calls(rt)?;
+    keeper::calls(rt)?;
+    unmanaged::calls(rt)?;
+    timer::calls(rt)
+}

@@ -1,0 +1,1 @@
+-- This program needs no lemma of its own.
