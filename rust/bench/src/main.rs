@@ -1,10 +1,11 @@
 //! Times works of both pools, beside those of any other pool that is put in, turn by turn in one run.
 //!
 //! `cargo run --release -p bench -- PART ROUNDS`, where PART is `alone`, `threads`, `yield`, `tasks`, `crowd`, `cancel` or `all`.
-//! README.md says how another pool is put in.
+//! README.md says how another pool is put in. `-- count WORK TIMES` does one work of this crate's pools so often, and writes nothing.
 #![forbid(unsafe_code)]
 
 mod cancels;
+mod counts;
 mod fair;
 mod pools;
 mod rows;
@@ -15,6 +16,11 @@ mod works;
 fn main() {
     let mut words = std::env::args().skip(1);
     let part = words.next().unwrap_or("alone".into());
+    if part == "count" {
+        let (work, times) = (words.next().unwrap_or_default(), words.next().and_then(|word| word.parse().ok()));
+        assert!(counts::run(&work, times.unwrap_or(1)), "there is no work {work:?}");
+        return;
+    }
     let rounds = words.next().and_then(|word| word.parse().ok()).unwrap_or(25);
     println!("| nanoseconds a turn, of {rounds} rounds | pool | least | median | ratio of the leasts |");
     println!("|---|---|---|---|---|");

@@ -3,6 +3,7 @@ use crate::runtime::Runtime;
 use std::any::Any;
 use std::fmt;
 use std::future::poll_fn;
+use std::io;
 use std::panic::{AssertUnwindSafe, catch_unwind};
 use std::sync::{Arc, Mutex, MutexGuard, PoisonError};
 use std::task::{Poll, Waker};
@@ -38,7 +39,16 @@ impl Runtime {
     ///
     /// # Errors
     ///
-    /// If it panics.
+    /// If it panics, or if no thread starts for it: then this is said by a text in place of the panic.
+    ///
+    /// # Cancel safety
+    ///
+    /// If the future is dropped the closure runs on to its end, and what it gives is dropped there. If it was never polled, the closure
+    /// is dropped and does not run.
+    ///
+    /// # Panics
+    ///
+    /// `Runtime::Tokio1` with its feature does if it is called outside of tokio.
     pub async fn spawn_blocking<F, R>(&self, f: F) -> Result<R, SpawnBlockingError>
     where
         F: FnOnce() -> R + Send + 'static,
@@ -46,7 +56,7 @@ impl Runtime {
     {
         let end = Arc::new(Mutex::new(End { result: None, waker: None }));
         let set = end.clone();
-        self.spawn_blocking_background(move || {
+        let started = self.start(move || {
             let result = catch_unwind(AssertUnwindSafe(f));
             let waker = {
                 let mut end = locked(&set);
@@ -55,6 +65,7 @@ impl Runtime {
             };
             waker.into_iter().for_each(Waker::wake);
         });
+        started.map_err(|error| SpawnBlockingError::Panic(Box::new(format!("no thread starts: {error}"))))?;
         let result = poll_fn(move |cx| {
             let mut end = locked(&end);
             let result = end.result.take();
@@ -66,14 +77,23 @@ impl Runtime {
         result.await.map_err(SpawnBlockingError::Panic)
     }
 
-    /// The same, without its result.
+    /// The same, without its result. Where no thread starts the closure is dropped.
+    ///
+    /// # Panics
+    ///
+    /// As [`Runtime::spawn_blocking`].
     pub fn spawn_blocking_background<F: FnOnce() + Send + 'static>(&self, f: F) {
+        let _ = self.start(f);
+    }
+
+    fn start<F: FnOnce() + Send + 'static>(&self, f: F) -> io::Result<()> {
         match self {
             #[cfg(feature = "rt_tokio_1")]
             Runtime::Tokio1 => drop(tokio::task::spawn_blocking(f)),
             #[cfg(feature = "rt_async-std_1")]
             Runtime::AsyncStd1 => drop(async_std::task::spawn_blocking(f)),
-            _ => drop(thread::spawn(f)),
+            _ => drop(thread::Builder::new().spawn(f)?),
         }
+        Ok(())
     }
 }

@@ -1,12 +1,14 @@
 //! What the lock, the queue and the handles ask of a core, under one name for both pools.
 //!
 //! The steps of gets, objects and adds are no part of it: each pool makes those of its own core.
-use crate::cores::desk::{OwnerDesk, Slot};
+use crate::cores::desk::{OwnerDesk, QueueMode, Slot};
 use crate::cores::gate::gate::Ticket;
 use crate::cores::parts::Status;
 use crate::cores::unmanaged_journal::Nameless;
 use crate::cores::{desk, journal, unmanaged_journal};
 use crate::parcel::Parcel;
+use crate::rattle::Global;
+use std::alloc::{Layout, handle_alloc_error};
 
 /// The core of a managed pool.
 pub(crate) type Managed<T> = journal::Journaled<T>;
@@ -18,6 +20,8 @@ pub(crate) trait Desk {
     /// What its parcels hold.
     type Value;
 
+    /// That of a closed pool with nothing in it. The program ends if no memory is found.
+    fn closed() -> Self;
     /// Whether a get or an add is due to be woken.
     fn is_due(&self) -> bool;
     /// The next get that is due.
@@ -41,14 +45,20 @@ pub(crate) trait Desk {
 }
 
 /// Has a core be a desk: where the steps of its owner are from, which calls name those that are due, where the parcel of an idle
-/// object is, and what is asked for it and for the handles.
+/// object is, what is asked for it and for the handles, and how one is made.
 macro_rules! desk_of {
     (
         $core:ident, steps of $steps:ident, $next_get:ident $(and $next_add:ident)?, $parcel:ident in $idle:pat,
-        $desk:ident: $state:expr
+        $desk:ident: $state:expr, new $empty:expr
     ) => {
         impl<V> Desk for $core<Parcel<V>> {
             type Value = V;
+
+            fn closed() -> Self {
+                let mut desk: Self = $empty.unwrap_or_else(|_| handle_alloc_error(Layout::new::<Self>()));
+                desk.shut();
+                desk
+            }
 
             #[inline]
             fn is_due(&self) -> bool {
@@ -104,8 +114,11 @@ macro_rules! desk_of {
         }
     };
 }
-desk_of!(Managed, steps of desk, take_wake, value in Slot { value, .. }, desk: desk);
+desk_of!(
+    Managed, steps of desk, take_wake, value in Slot { value, .. },
+    desk: desk, new Self::new(Global, 0, QueueMode::Fifo, 0, 0)
+);
 desk_of!(
     Unmanaged, steps of unmanaged_journal, take_get_wake and take_add_wake, parcel in parcel,
-    desk: desk.core
+    desk: desk.core, new Self::new(Global, 0, 0)
 );

@@ -3,7 +3,7 @@ use crate::desk::Desk;
 use crate::errors::OutOfMemory;
 use crate::shared::{Shared, State};
 use crate::timed::Alarm;
-use crate::waiting::Wakers;
+use crate::wakers::Wakers;
 use crate::{Runtime, Status};
 use std::future::{Future, poll_fn};
 use std::sync::{Arc, Weak};
@@ -14,7 +14,7 @@ use std::time::Duration;
 struct Watch<C, D: Desk> {
     pool: Weak<Shared<C, D>>,
     wakers: fn(&mut State<D>) -> &mut Wakers,
-    has_come: fn(&Shared<C, D>, &D) -> bool,
+    has_come: fn(&Shared<C, D>, &State<D>) -> bool,
     /// Where its waker is kept, once there is one.
     place: Option<usize>,
 }
@@ -23,19 +23,19 @@ impl<C, D: Desk> Watch<C, D> {
     /// Whether it has come, or the pool has gone. If not the waker is kept, or called at once if no memory is found for it.
     fn has_come(&mut self, cx: &Context<'_>) -> bool {
         let Some(pool) = self.pool.upgrade() else { return true };
-        let mut guard = pool.look();
-        let state = &mut *guard;
-        if (self.has_come)(&pool, &state.desk) {
-            return true;
-        }
-        let wakers = (self.wakers)(state);
-        let place = *self.place.get_or_insert_with(|| wakers.free_place());
-        let kept = wakers.keep(place, cx.waker());
+        let kept = pool.look(|state| {
+            if (self.has_come)(&pool, state) {
+                return None;
+            }
+            let wakers = (self.wakers)(state);
+            let place = *self.place.get_or_insert_with(|| wakers.free_place());
+            Some(state.lent(|state| (self.wakers)(state).keep(place, cx.waker())))
+        });
         // (wakers are dropped and called without the lock)
-        drop(guard);
         match kept {
-            Ok(replaced) => drop(replaced),
-            Err(OutOfMemory) => {
+            None => return true,
+            Some(Ok(replaced)) => drop(replaced),
+            Some(Err(OutOfMemory)) => {
                 self.place = None;
                 cx.waker().wake_by_ref();
             }
@@ -47,8 +47,7 @@ impl<C, D: Desk> Watch<C, D> {
 impl<C, D: Desk> Drop for Watch<C, D> {
     fn drop(&mut self) {
         if let (Some(pool), Some(place)) = (self.pool.upgrade(), self.place) {
-            let waker = (self.wakers)(&mut pool.look()).take(place);
-            drop(waker);
+            drop(pool.look(|state| (self.wakers)(state).take(place)));
         }
     }
 }
@@ -78,7 +77,7 @@ pub(crate) fn drained<C, D: Desk>(
     mut alarm: Alarm,
 ) -> impl Future<Output = Result<(), Status>> {
     pool.close();
-    let has_come = |_: &Shared<C, D>, desk: &D| desk.is_drained();
+    let has_come = |_: &Shared<C, D>, state: &State<D>| state.is_drained();
     let mut watch = Watch { pool: Arc::downgrade(pool), wakers: |state| &mut state.drains, has_come, place: None };
     poll_fn(move |cx| {
         if watch.has_come(cx) {
@@ -88,8 +87,7 @@ pub(crate) fn drained<C, D: Desk>(
             return Poll::Pending;
         }
         let Some(pool) = watch.pool.upgrade() else { return Poll::Ready(Ok(())) };
-        let desk = &mut pool.look().desk;
-        Poll::Ready(if desk.is_drained() { Ok(()) } else { Err(desk.status()) })
+        Poll::Ready(pool.look(|state| if state.is_drained() { Ok(()) } else { Err(state.desk.status()) }))
     })
 }
 

@@ -3,20 +3,20 @@ use std::borrow::Cow;
 use std::error::Error;
 use std::fmt;
 
-/// Gives an error its texts, and says which of its kinds have a cause.
+/// Gives an error its texts, and says which of its kinds have a cause, and which are there with a feature alone.
 macro_rules! error_texts {
-    ($error:ident $(<$of:ident $(: $life:lifetime)?>)? { $($kind:pat => $text:literal $(from $cause:ident)?,)* }) => {
+    ($error:ident $(<$of:ident $(: $life:lifetime)?>)? { $($(#[$when:meta])? $kind:pat => $text:literal $(from $cause:ident)?,)* }) => {
         impl $(<$of: std::fmt::Display>)? std::fmt::Display for $error $(<$of>)? {
             fn fmt(&self, f: &mut std::fmt::Formatter<'_>) -> std::fmt::Result {
                 match self {
-                    $($kind => write!(f, $text),)*
+                    $($(#[$when])? $kind => write!(f, $text),)*
                 }
             }
         }
 
         impl $(<$of: std::error::Error $(+ $life)?>)? std::error::Error for $error $(<$of>)? {
             fn source(&self) -> Option<&(dyn std::error::Error + 'static)> {
-                #[allow(unreachable_patterns)]
+                #[allow(unreachable_patterns, reason = "the last arm is for kinds without a cause, and an error may have none")]
                 match self {
                     $($($kind => Some($cause),)?)*
                     _ => None,

@@ -1,6 +1,8 @@
 //! Objects in boxes, which travel in the cores.
 use std::cell::Cell;
+use std::mem::forget;
 use std::ops::{Deref, DerefMut};
+use std::thread::panicking;
 
 /// A value in a box of its own, for which memory was found.
 pub(crate) struct Boxed<V>(Box<[V; 1]>);
@@ -61,7 +63,11 @@ impl<V> Parcel<V> {
 }
 
 impl<V> Drop for Parcel<V> {
+    /// What a panic leaves in it within a step is forgotten, as that is under the lock.
     fn drop(&mut self) {
-        debug_assert!(self.take().is_none(), "a parcel is empty when it is dropped");
+        match self.take() {
+            Some(value) if panicking() => forget(value),
+            left => debug_assert!(left.is_none(), "a parcel is empty when it is dropped"),
+        }
     }
 }

@@ -26,7 +26,9 @@ pub trait Timers: Send + Sync + UnwindSafe + RefUnwindSafe {
 #[derive(Clone, Copy)]
 #[non_exhaustive]
 pub enum Runtime {
-    /// A thread of this crate's own, which is started at the first timeout. It serves under every executor.
+    /// A thread of this crate's own, which is started at the first timeout. It serves under every executor. Where it cannot start a
+    /// call with a timeout ends as one without a runtime, and a sleep asks in each poll whether it is over. A process that was forked
+    /// off has no such thread, so no timeout fires there once one has been used before the fork.
     Thread,
     /// Timers that are plugged in.
     Timers(&'static dyn Timers),
@@ -53,7 +55,7 @@ impl PartialEq for Runtime {
 
 impl Eq for Runtime {}
 
-#[allow(non_upper_case_globals)]
+#[allow(non_upper_case_globals, reason = "they stand for kinds, which have such names")]
 impl Runtime {
     /// The name of tokio's timers. Without the feature `rt_tokio_1` it is the thread, which wakes tokio's tasks as well.
     #[cfg(not(feature = "rt_tokio_1"))]
@@ -63,7 +65,25 @@ impl Runtime {
     #[cfg(not(feature = "rt_async-std_1"))]
     pub const AsyncStd1: Runtime = Runtime::Thread;
 
+    /// Whether it has timers: not if its thread cannot start.
+    #[inline]
+    pub(crate) fn has_timers(&self) -> bool {
+        match self {
+            Runtime::Timers(_) => true,
+            #[cfg(feature = "rt_tokio_1")]
+            Runtime::Tokio1 => true,
+            #[cfg(feature = "rt_async-std_1")]
+            Runtime::AsyncStd1 => true,
+            _ => is_served(),
+        }
+    }
+
     /// A future that is ready after so long.
+    ///
+    /// # Panics
+    ///
+    /// `Runtime::Tokio1` with its feature does if it is called outside of tokio.
+    #[must_use = "it sleeps while it is awaited"]
     pub fn sleep(&self, duration: Duration) -> Sleep {
         match self {
             Runtime::Timers(timers) => timers.sleep(duration),
@@ -80,6 +100,14 @@ impl Runtime {
     }
 
     /// What a future gives, or none if it takes longer.
+    ///
+    /// # Cancel safety
+    ///
+    /// The future is dropped with this one.
+    ///
+    /// # Panics
+    ///
+    /// As [`Runtime::sleep`], and as the future.
     pub async fn timeout<F: Future>(&self, duration: Duration, future: F) -> Option<F::Output> {
         in_time(timed::Alarm::Set(duration, *self), pin!(future)).await
     }
@@ -130,6 +158,17 @@ fn serve() {
     }
 }
 
+/// Whether the thread is there, or starts now.
+fn is_served() -> bool {
+    static STARTS: Mutex<()> = Mutex::new(());
+    if THREAD.get().is_some() {
+        return true;
+    }
+    let _one_at_a_time = STARTS.lock().unwrap_or_else(PoisonError::into_inner);
+    let start = || thread::Builder::new().name("deadpool timers".into()).spawn(serve);
+    THREAD.get().is_some() || start().is_ok_and(|thread| THREAD.set(thread).is_ok())
+}
+
 /// A sleep by the thread.
 struct Alarm {
     at: Instant,
@@ -143,10 +182,11 @@ impl Future for Alarm {
         if self.at <= Instant::now() {
             return Poll::Ready(());
         }
-        THREAD.get_or_init(|| {
-            let thread = thread::Builder::new().name("deadpool timers".into());
-            thread.spawn(serve).expect("a thread for timers starts")
-        });
+        if !is_served() {
+            // (it asks in each poll)
+            cx.waker().wake_by_ref();
+            return Poll::Pending;
+        }
         let number = *self.number.get_or_insert_with(|| ALARMS.fetch_add(1, Ordering::Relaxed));
         let waker = cx.waker().clone();
         let _replaced = wakers().insert((self.at, number), waker);

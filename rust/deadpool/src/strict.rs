@@ -4,16 +4,16 @@ use std::borrow::Cow;
 use std::fmt;
 use std::time::Duration;
 
-/// A configuration of either pool that is read strictly, from a format that says what its values are, as JSON and TOML do.
+/// A `PoolConfig` or the `Settings` of either pool, read strictly, from a format that says what its values are, as JSON and TOML do.
 ///
-/// It reads what the configuration itself reads, but refuses a key that no pool has, one that stands twice, and a list in
+/// It reads what these themselves read, but refuses a key that they do not have, one that stands twice, and a list in
 /// place of an object. The error names the key and why, as in `timeouts.wait: no duration`. The first fault is told: keys come first.
 ///
 /// ```
 /// # #[cfg(feature = "managed")]
-/// fn read<'de, D: serde::Deserializer<'de>>(format: D) -> Result<deadpool::managed::PoolConfig, D::Error> {
-///     let deadpool::Strict(config) = serde::Deserialize::deserialize(format)?;
-///     Ok(config)
+/// fn read<'de, D: serde::Deserializer<'de>>(format: D) -> Result<deadpool::managed::Settings, D::Error> {
+///     let deadpool::Strict(settings) = serde::Deserialize::deserialize(format)?;
+///     Ok(settings)
 /// }
 /// ```
 #[derive(Clone, Copy, Debug)]
@@ -49,16 +49,29 @@ pub trait Configuration: Sized {
 #[cfg(feature = "managed")]
 impl Configuration for crate::managed::PoolConfig {
     fn of(value: &Value) -> Result<Self, Fault> {
-        value.has_only(&["max_size", "timeouts", "queue_mode", "max_waiting"], "")?;
-        let timeouts = value.get("timeouts");
-        timeouts.map_or(Ok(()), |it| it.has_only(&["wait", "create", "recycle"], "timeouts."))?;
-        Ok(Self {
-            max_size: value.max_size()?,
-            timeouts: timeouts.map_or_else(|| Ok(crate::managed::Timeouts::new()), timeouts_of)?,
-            queue_mode: value.get("queue_mode").map_or_else(|| Ok(Default::default()), mode_of)?,
-            max_waiting: value.max_waiting()?,
-        })
+        value.has_only(&["max_size", "timeouts", "queue_mode"], "")?;
+        managed_of(value)
     }
+}
+
+#[cfg(feature = "managed")]
+impl Configuration for crate::managed::Settings {
+    fn of(value: &Value) -> Result<Self, Fault> {
+        value.has_only(&["max_size", "timeouts", "queue_mode", "max_waiting"], "")?;
+        Ok(Self { config: managed_of(value)?, max_waiting: value.max_waiting()? })
+    }
+}
+
+/// What stands at the keys of a configuration.
+#[cfg(feature = "managed")]
+fn managed_of(value: &Value) -> Result<crate::managed::PoolConfig, Fault> {
+    let timeouts = value.get("timeouts");
+    timeouts.map_or(Ok(()), |it| it.has_only(&["wait", "create", "recycle"], "timeouts."))?;
+    Ok(crate::managed::PoolConfig {
+        max_size: value.max_size()?,
+        timeouts: timeouts.map_or_else(|| Ok(crate::managed::Timeouts::new()), timeouts_of)?,
+        queue_mode: value.get("queue_mode").map_or_else(|| Ok(crate::managed::QueueMode::default()), mode_of)?,
+    })
 }
 
 #[cfg(feature = "managed")]
@@ -80,19 +93,32 @@ fn mode_of(value: &Value) -> Result<crate::managed::QueueMode, Fault> {
     }
 }
 
-/// There is no runtime in it, and no journal.
+/// There is no runtime in it.
 #[cfg(feature = "unmanaged")]
 impl Configuration for crate::unmanaged::PoolConfig {
     fn of(value: &Value) -> Result<Self, Fault> {
-        value.has_only(&["max_size", "timeout", "max_waiting"], "")?;
-        Ok(Self {
-            max_size: value.max_size()?,
-            timeout: value.duration("timeout", "")?,
-            max_waiting: value.max_waiting()?,
-            journal: 0,
-            runtime: None,
-        })
+        value.has_only(&["max_size", "timeout"], "")?;
+        unmanaged_of(value)
     }
+}
+
+/// There is no journal in them either.
+#[cfg(feature = "unmanaged")]
+impl Configuration for crate::unmanaged::Settings {
+    fn of(value: &Value) -> Result<Self, Fault> {
+        value.has_only(&["max_size", "timeout", "max_waiting"], "")?;
+        Ok(Self { config: unmanaged_of(value)?, max_waiting: value.max_waiting()?, journal: 0 })
+    }
+}
+
+/// What stands at the keys of a configuration.
+#[cfg(feature = "unmanaged")]
+fn unmanaged_of(value: &Value) -> Result<crate::unmanaged::PoolConfig, Fault> {
+    Ok(crate::unmanaged::PoolConfig {
+        max_size: value.max_size()?,
+        timeout: value.duration("timeout", "")?,
+        runtime: None,
+    })
 }
 
 fn fault(path: impl Into<String>, why: impl Into<Cow<'static, str>>) -> Fault {

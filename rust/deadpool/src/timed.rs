@@ -17,10 +17,19 @@ pub(crate) enum Alarm {
 }
 
 impl Alarm {
-    /// An alarm after so long, if there is a timeout. None if it needs a runtime and there is none.
+    /// An alarm after so long, if there is a timeout. None if it needs a runtime and there is none, or none whose thread starts.
     #[inline(always)]
     pub(crate) fn after(timeout: Option<Duration>, runtime: Option<Runtime>) -> Option<Self> {
-        timeout.map_or(Some(Alarm::Unset), |duration| Some(Alarm::Set(duration, runtime?)))
+        timeout.map_or(Some(Alarm::Unset), |duration| Some(Alarm::Set(duration, runtime.filter(Runtime::has_timers)?)))
+    }
+
+    /// Is set, unless it was.
+    #[inline]
+    pub(crate) fn begin(&mut self, timeout: Option<Duration>, runtime: Option<Runtime>) -> &mut Self {
+        if let Alarm::Unset = self {
+            *self = Alarm::after(timeout, runtime).unwrap_or_default();
+        }
+        self
     }
 
     /// Whether it is reached. A sleep is not polled any more once it is over.
@@ -36,22 +45,18 @@ impl Alarm {
     }
 }
 
+/// Whether a timeout lacks what can time it: there is no runtime, or none whose thread starts.
+#[inline]
+pub(crate) fn lacks_timers(timeout: Option<Duration>, runtime: Option<Runtime>) -> bool {
+    timeout.is_some() && !runtime.is_some_and(|it| it.has_timers())
+}
+
 /// What a future gives, or none if its time is over before that.
 pub(crate) fn in_time<F: Future>(mut alarm: Alarm, mut future: Pin<&mut F>) -> impl Future<Output = Option<F::Output>> {
     poll_fn(move |cx| match future.as_mut().poll(cx) {
         Poll::Ready(output) => Poll::Ready(Some(output)),
         Poll::Pending if alarm.is_over(cx) => Poll::Ready(None),
         Poll::Pending => Poll::Pending,
-    })
-}
-
-/// What a future gives, and whether it was ever pending: then another poll has begun since.
-pub(crate) fn noting_polls<F: Future>(mut future: Pin<&mut F>) -> impl Future<Output = (F::Output, bool)> {
-    let mut was_pending = false;
-    poll_fn(move |cx| {
-        let polled = future.as_mut().poll(cx).map(|output| (output, was_pending));
-        was_pending |= polled.is_pending();
-        polled
     })
 }
 

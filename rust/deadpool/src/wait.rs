@@ -29,6 +29,10 @@ impl Wake for Bell {
 /// let pool = deadpool::unmanaged::Pool::from(["a letter"]);
 /// assert_eq!(deadpool::wait(pool.remove()), Ok("a letter"));
 /// ```
+///
+/// # Panics
+///
+/// If the future does. On a thread of an executor it keeps the tasks of that thread from running.
 pub fn wait<F: IntoFuture>(future: F) -> F::Output {
     let mut future = pin!(future.into_future());
     let bell = Arc::new(Bell { has_rung: AtomicBool::new(false), thread: thread::current() });

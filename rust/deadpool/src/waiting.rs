@@ -1,41 +1,35 @@
-//! Those that wait in a queue: their wakers by ticket, and how one asks, waits and leaves.
+//! Those that wait in a queue: how one asks, waits and leaves.
 use crate::cores::gate::gate::Ticket;
 use crate::desk::Desk;
 use crate::errors::OutOfMemory;
 use crate::shared::{Shared, State};
 use crate::timed::Alarm;
+use crate::wakers::Wakers;
+use std::cell::Cell;
 use std::future::poll_fn;
-use std::task::{Poll, Waker};
+use std::task::Poll;
 
-/// The wakers of those that wait, by ticket, or by a place of their own.
-#[derive(Default)]
-pub(crate) struct Wakers(Vec<Option<Waker>>);
+/// How many that might have waited are answered on a thread by their first polls, in a row. The next one first ends its poll, so that
+/// a task which asks in a loop, and never has to wait, lets the others of its executor run.
+const AT_ONCE: u32 = 128;
 
-impl Wakers {
-    /// Keeps a waker, and gives back the one that it replaces.
-    pub(crate) fn keep(&mut self, at: usize, waker: &Waker) -> Result<Option<Waker>, OutOfMemory> {
-        let more = (at + 1).saturating_sub(self.0.len());
-        self.0.try_reserve(more).map_err(|_| OutOfMemory)?;
-        self.0.extend(std::iter::repeat_n(None, more));
-        match &mut self.0[at] {
-            Some(kept) if kept.will_wake(waker) => Ok(None),
-            place => Ok(place.replace(waker.clone())),
-        }
-    }
+thread_local! {
+    static LEFT: Cell<u32> = const { Cell::new(AT_ONCE) };
+}
 
-    pub(crate) fn take(&mut self, at: usize) -> Option<Waker> {
-        self.0.get_mut(at)?.take()
-    }
+/// Whether one that begins may ask in its first poll. If not, the next ones may again.
+#[inline]
+pub(crate) fn may_ask_at_once() -> bool {
+    LEFT.with(|left| {
+        let after = left.get().checked_sub(1);
+        left.set(after.unwrap_or(AT_ONCE));
+        after.is_some()
+    })
+}
 
-    /// A place that nobody has.
-    pub(crate) fn free_place(&self) -> usize {
-        self.0.iter().position(Option::is_none).unwrap_or(self.0.len())
-    }
-
-    /// Takes one of them.
-    pub(crate) fn pop(&mut self) -> Option<Waker> {
-        std::iter::from_fn(|| self.0.pop()).find_map(|waker| waker)
-    }
+/// One that asked in its first poll was not answered, so it does not count.
+pub(crate) fn has_to_wait() {
+    LEFT.set(LEFT.get() + 1);
 }
 
 /// What one is answered that asks.
@@ -55,6 +49,8 @@ pub(crate) struct Waiting<'a, C, D: Desk> {
     pub(crate) cancel: fn(&mut D, Ticket),
     /// Its ticket, while it waits.
     pub(crate) ticket: Option<Ticket>,
+    /// Whether it may wait, and was not polled yet.
+    pub(crate) may_yield: bool,
 }
 
 impl<C, D: Desk> Waiting<'_, C, D> {
@@ -67,13 +63,18 @@ impl<C, D: Desk> Waiting<'_, C, D> {
     ) -> impl Future<Output = R> {
         poll_fn(move |cx| {
             // (the future holds all of it: what is dropped with the future leaves the queue)
-            let Waiting { pool, wakers, ticket, .. } = &mut self;
+            let Waiting { pool, wakers, ticket, may_yield, .. } = &mut self;
+            let is_first = std::mem::take(may_yield);
+            if is_first && !may_ask_at_once() {
+                cx.waker().wake_by_ref();
+                return Poll::Pending;
+            }
             loop {
                 let asked = ticket.map(|ticket| (ticket, alarm.is_over(cx)));
                 let (polled, stale) = pool.step(|state| match step(&mut state.desk, asked) {
                     Turn::Waits(given) => {
                         *ticket = Some(given);
-                        match wakers(state).keep(given.number(), cx.waker()) {
+                        match state.lent(|state| wakers(state).keep(given.number(), cx.waker())) {
                             Ok(replaced) => (Poll::Pending, replaced),
                             Err(OutOfMemory) => (Poll::Ready(refused()), None),
                         }
@@ -84,8 +85,14 @@ impl<C, D: Desk> Waiting<'_, C, D> {
                     }
                 });
                 drop(stale);
+                if asked.is_some() || polled.is_ready() {
+                    return polled;
+                }
+                if is_first {
+                    has_to_wait();
+                }
                 // (a timer wakes its task once it was polled; one that is over already ends the wait)
-                if asked.is_some() || polled.is_ready() || !alarm.is_over(cx) {
+                if !alarm.is_over(cx) {
                     return polled;
                 }
             }

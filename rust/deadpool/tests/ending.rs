@@ -6,10 +6,10 @@ use deadpool::managed::{Hook, HookError, Manager, Metrics, Object, Pool, PoolErr
 use deadpool::{Runtime, Sleep, Status, Timers, unmanaged};
 use std::convert::Infallible;
 use std::future::Future;
-use std::pin::pin;
+use std::pin::{Pin, pin};
 use std::sync::atomic::{AtomicBool, Ordering::SeqCst};
 use std::sync::{Arc, Mutex, Weak};
-use std::task::{Context, Poll};
+use std::task::{Context, Poll, Waker};
 use std::thread;
 use std::time::Duration;
 
@@ -168,6 +168,32 @@ fn a_drain_that_gives_up_tells_how_the_pool_stands() {
     assert_eq!(block_on(items.drain_for(Duration::from_secs(3600))), Ok(()));
 }
 
+/// Sleeps that are over at once, and how long they were to be.
+struct AtOnce(Mutex<Vec<Duration>>);
+
+impl Timers for AtOnce {
+    fn sleep(&self, duration: Duration) -> Sleep {
+        self.0.lock().expect("nobody panics").push(duration);
+        Box::pin(std::future::ready(()))
+    }
+}
+
+#[test]
+fn the_time_of_a_drain_is_that_of_the_pools_timers() {
+    static AT_ONCE: AtOnce = AtOnce(Mutex::new(Vec::new()));
+    let [hour, day] = [3600, 86400].map(Duration::from_secs);
+    let runtime = Runtime::Timers(&AT_ONCE);
+    let pool: Pool<Numbers> = Pool::builder(Numbers::default()).max_size(1).runtime(runtime).build().expect("a pool");
+    let _held = get(&pool);
+    assert!(Task::new(pool.drain_for(hour)).ready().is_err());
+    let config = unmanaged::PoolConfig { runtime: Some(runtime), ..unmanaged::PoolConfig::new(1) };
+    let items = unmanaged::Pool::from_config(&config);
+    items.try_add(7).expect("there is room");
+    let _held = items.try_get().expect("an object");
+    assert!(Task::new(items.drain_for(day)).ready().is_err());
+    assert_eq!(*AT_ONCE.0.lock().expect("nobody panics"), [hour, day]);
+}
+
 /// A sleep that is over at once, and gives an object back before.
 struct Returns(Mutex<Option<unmanaged::Object<u8>>>);
 
@@ -225,20 +251,23 @@ fn each_drain_is_woken_once_and_none_that_was_dropped() {
     let held = get(&pool);
     let mut drains: Vec<_> = (0..4).map(|_| Task::new(pool.drain())).collect();
     drains.iter_mut().for_each(|drain| assert!(drain.poll().is_pending()));
-    drop(drains.remove(1));
-    let (waker, woken) = Count::waker();
-    let mut drain = pin!(pool.drain());
-    assert!(drain.as_mut().poll(&mut Context::from_waker(&waker)).is_pending());
+    let [(waker, woken), (other, of_other)] = [Count::waker(), Count::waker()];
+    let poll = |drain: Pin<&mut _>, waker: &Waker| Future::poll(drain, &mut Context::from_waker(waker));
+    let (mut drain, mut dropped) = (pin!(pool.drain()), Box::pin(pool.drain()));
+    assert!(poll(dropped.as_mut(), &other).is_pending());
+    drop(dropped);
+    assert_eq!(Arc::strong_count(&of_other), 2, "the waker of one that is dropped is not kept");
     // The waker of the last poll counts.
+    assert!(poll(drain.as_mut(), &other).is_pending() && poll(drain.as_mut(), &waker).is_pending());
     assert!(drains[0].poll().is_pending());
     drop(held);
-    assert_eq!(drains.iter().map(Task::woken).collect::<Vec<_>>(), [1, 1, 1]);
-    assert_eq!(woken.get(), 1);
+    assert_eq!(drains.iter().map(Task::woken).collect::<Vec<_>>(), [1; 4]);
+    assert_eq!((woken.get(), of_other.get()), (1, 0));
     for drain in drains {
         drain.ready();
     }
     drop(waker);
-    assert!(drain.as_mut().poll(&mut Context::from_waker(std::task::Waker::noop())).is_ready());
+    assert!(poll(drain.as_mut(), Waker::noop()).is_ready());
     assert_eq!(Arc::strong_count(&woken), 1, "no waker is kept");
 }
 
@@ -263,6 +292,48 @@ fn the_last_value_is_dropped_before_a_drain_is_woken() {
     assert!(drain.as_mut().poll(&mut Context::from_waker(&waker)).is_pending());
     drop(held);
     assert_eq!((told.lock().expect("nobody panics").as_slice(), woken.get()), (&[true][..], 1));
+}
+
+/// Makes values that are noted as they are detached and as they are dropped.
+struct Tells(Arc<Mutex<Vec<bool>>>, Arc<Count>);
+
+impl Manager for Tells {
+    type Type = Told;
+    type Error = Infallible;
+
+    async fn create(&self) -> Result<Told, Infallible> {
+        Ok(Told(Arc::downgrade(&self.0), Arc::downgrade(&self.1)))
+    }
+
+    async fn recycle(&self, _: &mut Told, _: &Metrics) -> RecycleResult<Infallible> {
+        common::pause().await;
+        Ok(())
+    }
+
+    fn detach(&self, _: &mut Told) {
+        self.0.lock().expect("nobody panics").push(self.1.get() == 0);
+    }
+}
+
+#[test]
+fn the_last_object_is_detached_and_dropped_before_a_drain_is_woken() {
+    // An object comes back, and a get is dropped that prepares it.
+    for prepares in [false, true] {
+        let (waker, woken) = Count::waker();
+        let pool: Pool<Tells> = Pool::builder(Tells(Arc::default(), woken)).max_size(1).build().expect("a pool");
+        let mut get = Task::new(pool.get());
+        let Poll::Ready(Ok(object)) = get.poll() else { panic!("a place is free") };
+        let (mut again, mut held) = (Task::new(pool.get()), Some(object));
+        if prepares {
+            held = None;
+            assert!(again.poll().is_pending());
+        }
+        let mut drain = pin!(pool.drain());
+        assert!(drain.as_mut().poll(&mut Context::from_waker(&waker)).is_pending());
+        drop((held, again));
+        let Tells(told, woken) = pool.manager();
+        assert_eq!((told.lock().expect("nobody panics").as_slice(), woken.get()), (&[true, true][..], 1));
+    }
 }
 
 #[test]

@@ -2,10 +2,12 @@
 mod common;
 
 use common::{Task, block_on};
-use deadpool::managed::{Hook, Manager, Metrics, Object, Pool, RecycleError, RecycleResult, Timeouts};
-use deadpool::unmanaged;
+use deadpool::managed::{Hook, Limits, Manager, Metrics, Object, Pool, RecycleError, RecycleResult, Timeouts};
+use deadpool::{Runtime, Sleep, Timers, unmanaged};
+use std::future::poll_fn;
 use std::sync::Arc;
 use std::sync::atomic::{AtomicBool, Ordering};
+use std::task::{Context, Poll, Waker};
 use std::time::Duration;
 
 /// What is alive holds a part of this.
@@ -133,6 +135,22 @@ fn a_managed_pool_is_dropped_with_its_last_holder() {
 }
 
 #[test]
+fn a_keeper_that_nobody_polls_keeps_no_pool() {
+    for entries in [0, 9] {
+        let alive = Alive::default();
+        let pool = pool_of(&alive, entries);
+        drop(get(&pool));
+        let hour = Duration::from_secs(3600);
+        let (mut begun, other) = (Task::new(pool.keeper(Limits::none(), hour)), pool.keeper(Limits::none(), hour));
+        assert!(begun.poll().is_pending());
+        drop(pool);
+        assert_eq!((Arc::strong_count(&alive), begun.woken()), (1, 1), "the pool has gone, and the keeper is told");
+        begun.ready();
+        Task::new(other).ready();
+    }
+}
+
+#[test]
 fn a_pool_that_has_closed_has_no_handle_once_the_last_is_dropped() {
     for entries in [0, 9] {
         let alive = Alive::default();
@@ -176,7 +194,8 @@ fn an_unmanaged_pool_is_dropped_with_its_last_holder() {
     ];
     for (journal, (name, way)) in [0, 9].into_iter().flat_map(|journal| ways.map(|way| (journal, way))) {
         let alive = Alive::default();
-        let pool = unmanaged::Pool::from_config(&unmanaged::PoolConfig { journal, ..unmanaged::PoolConfig::new(2) });
+        let settings = unmanaged::Settings { journal, ..unmanaged::PoolConfig::new(2).into() };
+        let pool = unmanaged::Pool::from_settings(&settings);
         assert!(pool.try_add(alive.clone()).is_ok() && pool.try_add(alive.clone()).is_ok());
         drop((take(&pool), pool.clone()));
         let outlives = way(&pool);
@@ -195,7 +214,7 @@ fn the_waker_of_a_get_that_is_over_is_dropped() {
     let out = [get(&pool), get(&pool)];
     for is_served in [false, true] {
         let mut waits = Box::pin(pool.get());
-        assert!(waits.as_mut().poll(&mut std::task::Context::from_waker(&waker)).is_pending());
+        assert!(waits.as_mut().poll(&mut Context::from_waker(&waker)).is_pending());
         assert_eq!(Arc::strong_count(&count), 3);
         if is_served {
             pool.resize(3);
@@ -205,4 +224,35 @@ fn the_waker_of_a_get_that_is_over_is_dropped() {
         assert_eq!(Arc::strong_count(&count), 2, "is served: {is_served}");
     }
     drop(out);
+}
+
+static IS_LATE: AtomicBool = AtomicBool::new(false);
+
+/// Timers whose time has passed once the test says so.
+struct ByHand;
+
+impl Timers for ByHand {
+    fn sleep(&self, _: Duration) -> Sleep {
+        Box::pin(poll_fn(|_| if IS_LATE.load(Ordering::SeqCst) { Poll::Ready(()) } else { Poll::Pending }))
+    }
+}
+
+#[test]
+fn the_waker_of_an_unmanaged_get_that_is_over_is_dropped() {
+    let mut config = unmanaged::PoolConfig::new(1);
+    (config.timeout, config.runtime) = (Some(Duration::from_secs(1)), Some(Runtime::Timers(&ByHand)));
+    let pool = unmanaged::Pool::<u8>::from_config(&config);
+    let (waker, count) = common::Count::waker();
+    for is_late in [false, true] {
+        let mut waits = Box::pin(pool.get());
+        assert!(waits.as_mut().poll(&mut Context::from_waker(&waker)).is_pending());
+        assert_eq!(Arc::strong_count(&count), 3);
+        IS_LATE.store(is_late, Ordering::SeqCst);
+        if is_late {
+            assert!(waits.as_mut().poll(&mut Context::from_waker(Waker::noop())).is_ready());
+        } else {
+            drop(waits);
+        }
+        assert_eq!(Arc::strong_count(&count), 2, "is late: {is_late}");
+    }
 }

@@ -150,4 +150,8 @@ fn errors_have_their_texts_and_causes() {
     assert_eq!(hook.to_string(), "`post_create` hook failed: broken\n");
     assert_eq!(hook.source().and_then(Error::source).expect("a source").to_string(), "broken");
     assert!(PoolError::<io::Error>::Closed.source().is_none());
+    // Under a pool's name an error has the text and the cause that it has without.
+    let named = builder(0).name("orders").build().expect("a pool").named(backend);
+    assert_eq!(named.to_string(), "pool orders: Error occurred while creating a new object: broken");
+    assert_eq!(named.source().expect("a source").to_string(), "broken");
 }

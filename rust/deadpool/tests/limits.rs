@@ -7,7 +7,7 @@ use deadpool::managed::{
 };
 use deadpool::{Runtime, Sleep, Timers, unmanaged};
 use std::convert::Infallible;
-use std::sync::atomic::{AtomicUsize, Ordering::SeqCst};
+use std::sync::Mutex;
 use std::task::Poll;
 use std::thread;
 use std::time::{Duration, Instant};
@@ -58,24 +58,30 @@ fn a_get_gives_up_what_is_past_its_limits() {
     assert_eq!([number(&pool), number(&pool)], [0, 1]);
 }
 
-/// Counts the sleeps, each of which ends when it is polled the second time.
-struct Sleeps(AtomicUsize);
+/// Notes how long the sleeps are to be, each of which ends when it is polled the second time.
+struct Sleeps(Mutex<Vec<Duration>>);
+
+impl Sleeps {
+    fn noted(&self) -> Vec<Duration> {
+        self.0.lock().expect("nobody panics").clone()
+    }
+}
 
 impl Timers for Sleeps {
-    fn sleep(&self, _: Duration) -> Sleep {
-        self.0.fetch_add(1, SeqCst);
+    fn sleep(&self, duration: Duration) -> Sleep {
+        self.0.lock().expect("nobody panics").push(duration);
         Box::pin(common::pause())
     }
 }
 
 #[test]
 fn a_keeper_gives_up_what_is_past_its_limits_each_period() {
-    static SLEEPS: Sleeps = Sleeps(AtomicUsize::new(0));
+    static SLEEPS: Sleeps = Sleeps(Mutex::new(Vec::new()));
     let pool: Pool<Numbers> = two().runtime(Runtime::Timers(&SLEEPS)).build().expect("a pool");
     assert_eq!([number(&pool), number(&pool)], [0, 0]);
     let mut keeper = Task::new(pool.keeper(Limits::none().uses(2), SECOND));
     assert!(keeper.poll().is_pending());
-    assert_eq!((counts(pool.status()), SLEEPS.0.load(SeqCst)), ([1, 1, 0], 1), "a period has begun");
+    assert_eq!((counts(pool.status()), SLEEPS.noted()), ([1, 1, 0], vec![SECOND]), "a period has begun");
     // The period ends, and the object was handed out twice.
     assert!(keeper.poll().is_pending());
     assert_eq!((counts(pool.status()), pool.manager().detached()), ([0, 0, 0], 1));
@@ -84,7 +90,7 @@ fn a_keeper_gives_up_what_is_past_its_limits_each_period() {
     for _ in 0..5 {
         assert!(keeper.poll().is_pending());
     }
-    assert_eq!((counts(pool.status()), SLEEPS.0.load(SeqCst)), ([1, 1, 0], 4), "this one is within its limits");
+    assert_eq!((counts(pool.status()), SLEEPS.noted()), ([1, 1, 0], vec![SECOND; 4]), "it is within its limits");
     let woken = keeper.woken();
     pool.close();
     assert_eq!((keeper.woken(), keeper.poll()), (woken + 1, Poll::Ready(())));
@@ -195,23 +201,4 @@ fn a_pool_tells_its_name_and_how_it_stands() {
     let items = unmanaged::Pool::from(["a letter"]);
     items.close();
     assert_eq!(format!("{items:?}"), "Pool { max_size: 1, size: 0, available: 0, waiting: 0, is_closed: true }");
-}
-
-#[test]
-fn a_wait_survives_a_park_of_what_it_calls() {
-    let (sender, receiver) = std::sync::mpsc::channel();
-    let parks = std::future::poll_fn(move |cx| match receiver.try_recv() {
-        Ok(value) => Poll::Ready(value),
-        Err(_) => {
-            let (sender, waker) = (sender.clone(), cx.waker().clone());
-            thread::spawn(move || {
-                sender.send(7).expect("it is received");
-                waker.wake();
-            });
-            // (this takes the wake of the thread's park, if it has come by then)
-            thread::park_timeout(Duration::from_millis(20));
-            Poll::Pending
-        }
-    });
-    assert!(is_answered(move || assert_eq!(deadpool::wait(parks), 7)));
 }

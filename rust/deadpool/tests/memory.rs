@@ -3,13 +3,15 @@ mod common;
 #[path = "common/refusing.rs"]
 mod refusing;
 
+use common::refusals::{NO_MEMORY, has_no_memory};
 use common::{Numbers, Task, counts};
-use deadpool::managed::{BuildError, Object, OutOfMemory, Pool, PoolError};
-use deadpool::unmanaged;
+use deadpool::managed::{Limits, Object, OutOfMemory, Pool};
+use deadpool::{Runtime, Sleep, Timers, unmanaged};
 use refusing::{at_each_allocation, left_in_use, refusing};
 use std::panic::{AssertUnwindSafe, catch_unwind};
 use std::pin::{Pin, pin};
 use std::task::{Context, Poll, Waker};
+use std::time::Duration;
 
 fn poll_once<T>(future: Pin<&mut impl Future<Output = T>>) -> Poll<T> {
     future.poll(&mut Context::from_waker(Waker::noop()))
@@ -22,9 +24,12 @@ fn pool(max_size: usize) -> Pool<Numbers> {
 #[test]
 fn a_pool_that_is_too_large_is_refused() {
     let builder = Pool::<Numbers>::builder(Numbers::default()).max_size(usize::MAX);
-    assert!(matches!(builder.build(), Err(BuildError::OutOfMemory)));
-    let config = unmanaged::PoolConfig::new(usize::MAX);
-    assert!(matches!(unmanaged::Pool::<u64>::try_from_config(&config), Err(unmanaged::PoolError::OutOfMemory)));
+    #[cfg(feature = "refusals")]
+    assert!(matches!(builder.build(), Err(deadpool::managed::BuildError::OutOfMemory)));
+    #[cfg(not(feature = "refusals"))]
+    assert!(catch_unwind(AssertUnwindSafe(|| builder.build())).is_err());
+    let settings = unmanaged::PoolConfig::new(usize::MAX).into();
+    assert!(matches!(unmanaged::Pool::<u64>::try_from_settings(&settings), Err(OutOfMemory)));
 }
 
 #[test]
@@ -46,7 +51,7 @@ fn a_get_that_finds_no_memory_for_its_object_leaves_its_place() {
         || pool(1),
         |pool, may_fail| match poll_once(pin!(pool.get())) {
             Poll::Ready(Ok(_)) => (),
-            Poll::Ready(Err(PoolError::OutOfMemory)) if may_fail => {
+            Poll::Ready(Err(refusal)) if may_fail && has_no_memory(&refusal) => {
                 assert_eq!(counts(pool.status()), [0, 0, 0]);
             }
             _ => panic!("the get ends"),
@@ -57,18 +62,23 @@ fn a_get_that_finds_no_memory_for_its_object_leaves_its_place() {
 
 #[test]
 fn a_get_that_finds_no_memory_to_wait_is_not_in_the_queue() {
+    let mut told = 0;
     let refused = at_each_allocation(
         || pool(0),
         |pool, may_fail| {
             let mut get = pin!(pool.get());
             match poll_once(get.as_mut()) {
                 Poll::Pending => assert_eq!(pool.status().waiting, 1),
-                Poll::Ready(Err(PoolError::OutOfMemory)) if may_fail => assert_eq!(pool.status().waiting, 0),
+                Poll::Ready(Err(refusal)) if may_fail && has_no_memory(&refusal) => {
+                    assert_eq!(pool.status().waiting, 0);
+                    told += 1;
+                }
                 Poll::Ready(_) => panic!("no place is free"),
             }
         },
     );
-    assert!(refused > 0);
+    // (one that stays pending without memory for its waker would never be woken)
+    assert!(refused > 0 && told == refused, "{told} of {refused} refusals are told");
 }
 
 #[test]
@@ -97,7 +107,7 @@ fn an_add_that_finds_no_memory_gives_its_value_back() {
         || unmanaged::Pool::new(1),
         |pool, may_fail| match pool.try_add(7) {
             Ok(()) => assert_eq!(counts(pool.status()), [1, 1, 0]),
-            Err((7, unmanaged::PoolError::OutOfMemory)) if may_fail => assert_eq!(counts(pool.status()), [0, 0, 0]),
+            Err((7, NO_MEMORY)) if may_fail => assert_eq!(counts(pool.status()), [0, 0, 0]),
             Err(_) => panic!("there is room"),
         },
     );
@@ -110,7 +120,7 @@ fn an_add_that_finds_no_memory_to_wait_is_not_in_the_queue() {
         || unmanaged::Pool::from([1]),
         |pool, may_fail| match poll_once(pin!(pool.add(2))) {
             Poll::Pending => (),
-            Poll::Ready(Err((2, unmanaged::PoolError::OutOfMemory))) if may_fail => (),
+            Poll::Ready(Err((2, NO_MEMORY))) if may_fail => (),
             other => panic!("there is no room: {other:?}"),
         },
     );
@@ -125,7 +135,7 @@ fn a_get_of_an_unmanaged_pool_that_finds_no_memory_to_wait_is_not_in_the_queue()
             let held = pool.try_get().expect("no get in the queue takes it first");
             match poll_once(pin!(pool.get())) {
                 Poll::Pending => (),
-                Poll::Ready(Err(unmanaged::PoolError::OutOfMemory)) if may_fail => (),
+                Poll::Ready(Err(NO_MEMORY)) if may_fail => (),
                 other => panic!("no object is free: {other:?}"),
             }
             assert_eq!(pool.status().waiting, 0);
@@ -170,7 +180,8 @@ fn use_managed(entries: usize) {
 }
 
 fn use_unmanaged(journal: usize) {
-    let pool = unmanaged::Pool::from_config(&unmanaged::PoolConfig { journal, ..unmanaged::PoolConfig::new(2) });
+    let settings = unmanaged::Settings { journal, ..unmanaged::PoolConfig::new(2).into() };
+    let pool = unmanaged::Pool::from_settings(&settings);
     assert!(pool.try_add(Box::new(1)).is_ok() && pool.try_add(Box::new(2)).is_ok());
     let [first, second] = [pool.try_get(), pool.try_get()].map(|object| object.expect("an object"));
     let mut waits: Vec<_> = (0..3).map(|_| Task::new(pool.get())).collect();
@@ -194,6 +205,26 @@ fn all_memory_is_given_back() {
     // (the first time a thread's own values are made, which stay)
     uses.iter().for_each(|use_pool| use_pool());
     assert_eq!(uses.map(left_in_use), [0; 4]);
+}
+
+/// Timers that are over at once, and take no memory.
+struct AtOnce;
+
+impl Timers for AtOnce {
+    fn sleep(&self, _: Duration) -> Sleep {
+        Box::pin(std::future::poll_fn(|_| Poll::Ready(())))
+    }
+}
+
+#[test]
+fn the_rounds_of_a_keeper_take_no_memory() {
+    let builder = Pool::builder(Numbers::default()).max_size(1).runtime(Runtime::Timers(&AtOnce));
+    let pool: Pool<Numbers> = builder.build().expect("a pool");
+    let mut keeper = Task::new(pool.keeper(Limits::none(), Duration::from_secs(1)));
+    let mut rounds = || (0..100).for_each(|_| assert!(keeper.poll().is_pending()));
+    rounds();
+    let ((), was_asked) = refusing(0, rounds);
+    assert!(!was_asked, "the wakers of keepers take more and more places");
 }
 
 #[test]

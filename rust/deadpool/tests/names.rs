@@ -5,8 +5,8 @@ mod common;
 use common::{Numbers, block_on};
 use deadpool::managed::{
     BuildError, CreatePoolError, Hook, HookError, HookFuture, HookResult, Journal, Limits, Metrics, Object, ObjectId,
-    Pool, PoolBuilder, PoolConfig, PoolError, QueueMode, RecycleError, RecycleResult, Report, RetainResult, Tally,
-    Timeouts, WeakPool,
+    Pool, PoolBuilder, PoolConfig, PoolError, QueueMode, RecycleError, RecycleResult, Report, RetainResult, Settings,
+    Tally, Timeouts, WeakPool,
 };
 use deadpool::{Runtime, Status, unmanaged};
 use std::convert::Infallible;
@@ -85,7 +85,7 @@ fn values_have_their_fields_and_traits() {
     is_equal::<Runtime>();
     is_plain::<unmanaged::PoolConfig>();
     let _: fn(usize) -> PoolConfig = PoolConfig::new;
-    let PoolConfig { max_size: _, timeouts, queue_mode: QueueMode::Fifo, .. } = PoolConfig::default() else {
+    let PoolConfig { max_size: _, timeouts, queue_mode: QueueMode::Fifo } = PoolConfig::default() else {
         panic!("the one that came back first is next")
     };
     let Timeouts { wait: None, create: None, recycle: None } = timeouts else { panic!("no timeout is set") };
@@ -164,8 +164,7 @@ fn an_unmanaged_pool_has_its_calls() {
     let _: fn(&Items) -> Status = Items::status;
     let _: fn(unmanaged::Object<u64>) -> u64 = unmanaged::Object::take;
     let _: fn(usize) -> unmanaged::PoolConfig = unmanaged::PoolConfig::new;
-    let unmanaged::PoolConfig { max_size: _, timeout: None, runtime: None, .. } = unmanaged::PoolConfig::default()
-    else {
+    let unmanaged::PoolConfig { max_size: _, timeout: None, runtime: None } = unmanaged::PoolConfig::default() else {
         panic!("nothing else is set")
     };
 }
@@ -175,6 +174,8 @@ fn what_is_this_crates_own_has_its_names() {
     type Items = unmanaged::Pool<u64>;
     let pool: Pool<Numbers> = Pool::builder(Numbers::default()).name("own").build().expect("a pool");
     gives::<Result<Object<Numbers>, PoolError<Infallible>>>(pool.try_get());
+    gives::<Result<Object<Numbers>, PoolError<Infallible>>>(pool.get_timeout(Duration::ZERO));
+    let _: fn(&Pool<Numbers>) -> Result<Object<Numbers>, PoolError<Infallible>> = Pool::get_blocking;
     gives::<()>(pool.drain());
     gives::<Result<(), Status>>(pool.drain_for(Duration::ZERO));
     fn is_free(_: impl Future<Output = ()> + Send + 'static) {}
@@ -186,9 +187,15 @@ fn what_is_this_crates_own_has_its_names() {
     let _: fn(PoolBuilder<Numbers>, usize) -> PoolBuilder<Numbers> = PoolBuilder::journal;
     let _: fn(&Pool<Numbers>) -> Journal = Pool::journal;
     let _: fn(&Items) -> unmanaged::Journal = Items::journal;
-    let unmanaged::PoolConfig { max_waiting: None, journal: 0, .. } = unmanaged::PoolConfig::new(1) else {
+    let _: fn(PoolBuilder<Numbers>, Settings) -> PoolBuilder<Numbers> = PoolBuilder::settings;
+    is_plain::<Settings>();
+    is_plain::<unmanaged::Settings>();
+    let Settings { config: _, max_waiting: None } = Settings::default() else { panic!("nothing is set") };
+    let unmanaged::Settings { config: _, max_waiting: None, journal: 0 } = unmanaged::Settings::default() else {
         panic!("nothing is set")
     };
+    let _: fn(&unmanaged::Settings) -> Items = Items::from_settings;
+    let _: fn(&unmanaged::Settings) -> Result<Items, unmanaged::OutOfMemory> = Items::try_from_settings;
     let _: fn(&Pool<Numbers>) -> Option<&str> = Pool::name;
     let _: fn(&Object<Numbers>) -> Duration = Object::waited;
     let _: for<'a> fn(&'a Pool<Numbers>) -> Report<'a> = Pool::tally;
@@ -199,7 +206,18 @@ fn what_is_this_crates_own_has_its_names() {
     let _: fn(Limits) -> Hook<Numbers> = Hook::from;
     let _: fn(&Limits, &Metrics, Instant) -> bool = Limits::allow;
     let _: fn(std::future::Ready<u8>) -> u8 = deadpool::wait;
-    assert!(matches!(PoolError::<Infallible>::Crowded.source(), None));
+}
+
+#[cfg(feature = "refusals")]
+#[test]
+fn refusals_of_this_crates_own_have_their_texts() {
+    let of_pool = [PoolError::<Infallible>::Crowded, PoolError::OutOfMemory, PoolError::NumbersExhausted];
+    assert!(of_pool.iter().all(|it| it.source().is_none()));
+    let texts = ["Too many gets wait for a slot", "Out of memory", "Object numbers are exhausted"];
+    assert_eq!(of_pool.map(|it| it.to_string()), texts);
+    let of_unmanaged = [unmanaged::PoolError::Crowded, unmanaged::PoolError::OutOfMemory];
+    assert_eq!(of_unmanaged.map(|it| it.to_string()), ["Too many wait already", "Out of memory"]);
+    assert!(BuildError::OutOfMemory.to_string().ends_with(": Out of memory"));
 }
 
 /// A crate of a backend, as those over deadpool are written.

@@ -4,11 +4,11 @@ mod common;
 use common::{Count, Task, block_on, is_answered};
 use deadpool::managed::{PoolConfig, Timeouts};
 use deadpool::{Runtime, Sleep, SpawnBlockingError, Timers, unmanaged};
-use std::future::{Future, pending, ready};
+use std::future::{Future, pending, poll_fn, ready};
 use std::panic::{RefUnwindSafe, UnwindSafe};
 use std::pin::pin;
 use std::sync::mpsc::channel;
-use std::task::{Context, Waker};
+use std::task::{Context, Poll, Waker};
 use std::thread;
 use std::time::Duration;
 
@@ -35,6 +35,13 @@ fn a_future_is_given_up_when_its_time_is_over() {
     assert!(Task::new(Runtime::Timers(&NEVER).timeout(SOON, pending::<u8>())).poll().is_pending());
     assert!(is_answered(|| assert_eq!(block_on(Runtime::Thread.timeout(SOON, pending::<u8>())), None)));
     assert_eq!(block_on(Runtime::Thread.timeout(HOUR, ready(1))), Some(1));
+    let mut polls = 0;
+    let counted = poll_fn(|_| {
+        polls += 1;
+        Poll::<u8>::Pending
+    });
+    assert_eq!(Task::new(at_once.timeout(SOON, counted)).ready(), None);
+    assert_eq!(polls, 1, "a future whose time is over is polled no more");
 }
 
 #[test]

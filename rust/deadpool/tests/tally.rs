@@ -206,6 +206,27 @@ fn the_books_balance_after_a_storm() {
 }
 
 #[test]
+fn a_tally_and_its_status_are_of_one_moment() {
+    let pool: Pool<Numbers> = pool_of(4).build().expect("a pool");
+    // (so often another thread has made steps between two looks)
+    let looks = || {
+        let (mut changes, mut last) = (0, 0);
+        while changes < 200 {
+            let taken = balanced(&pool).taken;
+            changes += usize::from(taken != last);
+            last = taken;
+            std::thread::yield_now();
+        }
+    };
+    std::thread::scope(|scope| {
+        let looking = scope.spawn(looks);
+        while !looking.is_finished() {
+            let _ = Object::take(get(&pool));
+        }
+    });
+}
+
+#[test]
 fn a_count_is_no_entry_of_a_journal_but_the_status_is() {
     let pool: Pool<Numbers> = pool_of(1).journal(9).build().expect("a pool");
     let entries = pool.journal().entries.len();

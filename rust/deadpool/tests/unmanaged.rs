@@ -139,6 +139,30 @@ fn an_object_that_is_taken_makes_room() {
     assert_eq!(*clone.try_get().expect("an object"), "second");
 }
 
+/// Numbers, twice as many as it says.
+struct More(std::ops::Range<usize>);
+
+impl Iterator for More {
+    type Item = usize;
+
+    fn next(&mut self) -> Option<usize> {
+        self.0.next()
+    }
+
+    fn size_hint(&self) -> (usize, Option<usize>) {
+        (self.0.len() / 2, Some(self.0.len() / 2))
+    }
+}
+
+impl ExactSizeIterator for More {}
+
+#[test]
+fn a_pool_has_no_more_objects_than_were_said() {
+    let pool = Pool::from(More(0..6));
+    assert_eq!((counts(pool.status()), pool.status().max_size), ([3, 3, 0], 3));
+    assert_eq!([2, 1, 0].map(|_| pool.try_remove().expect("an object")), [2, 1, 0]);
+}
+
 #[test]
 fn who_is_handed_an_object_has_its_own_value() {
     let pool = Pool::from((0..8).map(|value| value * 11).collect::<Vec<_>>());

@@ -6,16 +6,17 @@ mod cores;
 #[allow(unused_imports)]
 mod rattle;
 
+use common::refusals::CROWDED;
 use common::{Task, block_on};
 use cores::gate::gate::Ticket;
 use cores::unmanaged::Step;
 use cores::unmanaged_journal::{Journaled, Nameless, OwnerStep};
-use deadpool::unmanaged::{Object, Pool, PoolConfig, PoolError};
+use deadpool::unmanaged::{Object, OutOfMemory, Pool, PoolConfig, PoolError, Settings};
 use std::task::Poll;
 use std::thread;
 
 fn with_journal<T>(max_size: usize, journal: usize) -> Pool<T> {
-    Pool::from_config(&PoolConfig { journal, ..PoolConfig::new(max_size) })
+    Pool::from_settings(&Settings { journal, ..PoolConfig::new(max_size).into() })
 }
 
 /// A core of nothing, on which the steps of a journal are made again.
@@ -106,19 +107,20 @@ status 1 0 0 0";
 
 #[test]
 fn a_short_run_has_its_text() {
-    let pool = Pool::from_config(&PoolConfig { max_waiting: Some(1), journal: 99, ..PoolConfig::new(1) });
+    let settings = Settings { config: PoolConfig::new(1), max_waiting: Some(1), journal: 99 };
+    let pool = Pool::from_settings(&settings);
     assert_eq!(pool.journal().to_string(), "opened unmanaged 1 1");
     assert!(pool.try_get().is_err());
     assert!(pool.try_add('a').is_ok());
     let held = block_on(pool.get()).expect("an object");
     let mut waits = Task::new(pool.get());
     assert!(waits.poll().is_pending());
-    assert!(matches!(block_on(pool.get()), Err(PoolError::Crowded)));
+    assert!(matches!(block_on(pool.get()), Err(CROWDED)));
     assert!(pool.try_get().is_err());
     assert!(pool.try_add('b').is_err());
     let mut adds = Task::new(pool.add('b'));
     assert!(adds.poll().is_pending());
-    assert!(matches!(block_on(pool.add('c')), Err(('c', PoolError::Crowded))));
+    assert!(matches!(block_on(pool.add('c')), Err(('c', CROWDED))));
     drop(held);
     assert_eq!(Object::take(waits.ready().expect("it was served")), 'a');
     assert!(adds.ready().is_ok());
@@ -173,8 +175,8 @@ fn a_pool_without_a_journal_notes_nothing() {
 
 #[test]
 fn more_entries_than_there_is_memory_for_are_refused() {
-    let config = PoolConfig { journal: usize::MAX, ..PoolConfig::new(1) };
-    assert!(matches!(Pool::<u8>::try_from_config(&config), Err(PoolError::OutOfMemory)));
+    let settings = Settings { journal: usize::MAX, ..PoolConfig::new(1).into() };
+    assert!(matches!(Pool::<u8>::try_from_settings(&settings), Err(OutOfMemory)));
 }
 
 /// What one thread does in its turn: it gets, adds again what it took, waits, gives up, and has a handle of its own.

@@ -1,9 +1,10 @@
 //! What an unmanaged pool counts, and how it is printed.
 mod common;
 
+use common::refusals::CROWDED;
 use common::{Task, block_on};
 use deadpool::Runtime;
-use deadpool::unmanaged::{Object, Pool, PoolConfig, PoolError, Report, Tally};
+use deadpool::unmanaged::{Object, Pool, PoolConfig, PoolError, Report, Settings, Tally};
 use std::task::Poll;
 use std::time::Duration;
 
@@ -33,7 +34,7 @@ const NONE: Tally = Tally {
 
 /// Room for one object, and for one in each queue.
 fn small_pool() -> Pool<u8> {
-    Pool::from_config(&PoolConfig { max_waiting: Some(1), ..PoolConfig::new(1) })
+    Pool::from_settings(&Settings { max_waiting: Some(1), ..PoolConfig::new(1).into() })
 }
 
 #[test]
@@ -43,7 +44,7 @@ fn gets_are_counted_by_how_they_ended() {
     assert_eq!(pool.try_get().map(drop), Err(PoolError::Timeout));
     let mut waits = Task::new(pool.get());
     assert!(waits.poll().is_pending());
-    assert_eq!(block_on(pool.get()).map(drop), Err(PoolError::Crowded));
+    assert_eq!(block_on(pool.get()).map(drop), Err(CROWDED));
     assert_eq!(balanced(&pool), Tally { gets: 3, waited: 1, late: 1, crowded: 1, ..NONE });
     pool.try_add(7).expect("there is room");
     let Poll::Ready(Ok(held)) = waits.poll() else { panic!("it was granted an object") };
@@ -56,6 +57,28 @@ fn gets_are_counted_by_how_they_ended() {
     let wanted =
         Tally { gets: 5, served: 1, waited: 2, late: 1, crowded: 1, closed: 2, adds: 1, stored: 1, dropped: 1, ..NONE };
     assert_eq!(balanced(&pool), wanted);
+}
+
+#[test]
+fn a_tally_and_its_status_are_of_one_moment() {
+    let pool = small_pool();
+    // (so often another thread has made steps between two looks)
+    let looks = || {
+        let (mut changes, mut last) = (0, 0);
+        while changes < 200 {
+            let taken = balanced(&pool).taken;
+            changes += usize::from(taken != last);
+            last = taken;
+            std::thread::yield_now();
+        }
+    };
+    std::thread::scope(|scope| {
+        let looking = scope.spawn(looks);
+        while !looking.is_finished() {
+            pool.try_add(7).expect("there is room");
+            assert_eq!(pool.try_remove(), Ok(7));
+        }
+    });
 }
 
 #[test]
@@ -77,7 +100,7 @@ fn adds_are_counted_by_how_they_ended() {
     assert_eq!(pool.try_add(2), Err((2, PoolError::Timeout)));
     let mut waits = Task::new(pool.add(3));
     assert!(waits.poll().is_pending());
-    assert_eq!(block_on(pool.add(4)), Err((4, PoolError::Crowded)));
+    assert_eq!(block_on(pool.add(4)), Err((4, CROWDED)));
     assert_eq!(pool.try_remove(), Ok(1));
     assert!(matches!(waits.poll(), Poll::Ready(Ok(()))));
     let mut waits = Task::new(pool.add(5));
@@ -169,7 +192,7 @@ fn the_books_balance_after_a_storm() {
 
 #[test]
 fn a_count_is_no_entry_of_a_journal_but_the_status_is() {
-    let pool = Pool::<u8>::from_config(&PoolConfig { journal: 9, ..PoolConfig::new(1) });
+    let pool = Pool::<u8>::from_settings(&Settings { journal: 9, ..PoolConfig::new(1).into() });
     let _ = pool.tally();
     assert_eq!(pool.journal().entries, ["status 1 0 0 0"]);
 }

@@ -1,7 +1,7 @@
 //! Which value belongs to which object, over long runs of random calls.
 mod common;
 
-use common::{Numbers, Task, counts};
+use common::{Numbers, Task, block_on, counts};
 use deadpool::managed::{Hook, HookError, Metrics, Object, Pool, QueueMode};
 use deadpool::unmanaged;
 use std::collections::{BTreeSet, VecDeque};
@@ -79,7 +79,7 @@ fn who_is_next_is_handed_out_with_its_value() {
         for _ in 0..4000 {
             match dice.below(6) {
                 0..=2 if out.len() < 4 => {
-                    let object = Task::new(pool.get()).ready().expect("a place is free");
+                    let object = block_on(pool.get()).expect("a place is free");
                     let first = if queue_mode == QueueMode::Fifo { idle.pop_front() } else { idle.pop_back() };
                     let expected = first.unwrap_or(next);
                     next += usize::from(first.is_none());

@@ -32,12 +32,12 @@ fn the_one_that_waits_longest_is_woken() {
 #[test]
 fn a_larger_limit_wakes_as_many_as_it_serves() {
     let pool: Pool<Numbers> = Pool::builder(Numbers::default()).max_size(0).build().expect("a pool");
-    let mut tasks: Vec<_> = (0..4).map(|_| Task::new(pool.get())).collect();
+    let mut tasks: Vec<_> = (0..40).map(|_| Task::new(pool.get())).collect();
     for task in &mut tasks {
         assert!(task.poll().is_pending());
     }
-    pool.resize(3);
-    assert_eq!(tasks.iter().map(Task::woken).collect::<Vec<_>>(), [1, 1, 1, 0]);
+    pool.resize(30);
+    assert_eq!(tasks.iter().map(Task::woken).collect::<Vec<_>>(), [[1; 30].as_slice(), &[0; 10]].concat());
 }
 
 fn one(manager: Numbers) -> PoolBuilder<Numbers> {

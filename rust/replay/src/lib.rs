@@ -11,6 +11,10 @@ mod managed;
 mod unmanaged;
 
 use managed::ManagedPlayer;
+use std::cell::Cell;
+use std::future::Future;
+use std::pin::pin;
+use std::task::{Context, Waker};
 use unmanaged::UnmanagedPlayer;
 
 /// How many gets and adds a script may start.
@@ -75,6 +79,20 @@ impl Player {
                 Reply::said("ok")
             }
         }
+    }
+}
+
+thread_local! {
+    static BEGUN: Cell<u32> = const { Cell::new(0) };
+}
+
+/// Is called before a get or an add is polled first, and has that poll answered. The crate has one in 129 on a thread end it before, so
+/// that other tasks run, and a script has no such line.
+fn count_begun() {
+    BEGUN.set(BEGUN.get() + 1);
+    if BEGUN.get().is_multiple_of(100) {
+        let pool = deadpool::unmanaged::Pool::from([()]);
+        while pin!(pool.get()).poll(&mut Context::from_waker(Waker::noop())).is_ready() {}
     }
 }
 

@@ -1,6 +1,6 @@
 //! A script over a managed pool.
 use crate::answers::{Answer, KINDS, Refused, Script, Value};
-use crate::{MOST_PARTIES, Reply, bounded, clock, counts, duration, number, status};
+use crate::{MOST_PARTIES, Reply, bounded, clock, count_begun, counts, duration, number, status};
 use deadpool::managed::{Object, Pool, PoolError, QueueMode, Tally, Timeouts, WeakPool};
 use std::collections::{BTreeMap, BTreeSet, HashMap};
 use std::future::Future;
@@ -124,7 +124,10 @@ impl ManagedPlayer {
             return Reply::said("no room");
         }
         let timeouts = timeouts.unwrap_or(pool.timeouts());
-        self.parties.push(Party::Going(Box::pin(async move { pool.timeout_get(&timeouts).await })));
+        self.parties.push(Party::Going(Box::pin(async move {
+            count_begun();
+            pool.timeout_get(&timeouts).await
+        })));
         Reply::said(format!("party {}", self.parties.len() - 1))
     }
 

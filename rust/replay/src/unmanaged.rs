@@ -1,7 +1,7 @@
 //! A script over an unmanaged pool.
 use crate::answers::{Script, Value};
-use crate::{MOST_PARTIES, Reply, bounded, clock, counts, duration, number, status};
-use deadpool::unmanaged::{Object, Pool, PoolConfig, PoolError, Tally};
+use crate::{MOST_PARTIES, Reply, bounded, clock, count_begun, counts, duration, number, status};
+use deadpool::unmanaged::{Object, Pool, PoolConfig, PoolError, Settings, Tally};
 use std::collections::{BTreeMap, HashMap};
 use std::future::Future;
 use std::pin::{Pin, pin};
@@ -35,8 +35,9 @@ impl UnmanagedPlayer {
         let (&[max, runtime], max_waiting) = bounded(words)? else {
             return None;
         };
-        let config = PoolConfig { runtime: clock::runtime(runtime)?, max_waiting, ..PoolConfig::new(number(max)?) };
-        let made = Pool::try_from_config(&config).map_err(|cause| cause.to_string());
+        let config = PoolConfig { runtime: clock::runtime(runtime)?, ..PoolConfig::new(number(max)?) };
+        let settings = Settings { max_waiting, ..config.into() };
+        let made = Pool::try_from_settings(&settings).map_err(|cause| cause.to_string());
         Some(made.map(|pool| UnmanagedPlayer {
             script: Script::default(),
             handles: vec![Arc::new(pool)],
@@ -111,13 +112,22 @@ impl UnmanagedPlayer {
     }
 
     fn get(&mut self, wait: Option<Duration>) -> Reply {
-        self.begin(|_, pool| Party::Get(Box::pin(async move { pool.timeout_get(wait).await })))
+        self.begin(|_, pool| {
+            Party::Get(Box::pin(async move {
+                count_begun();
+                pool.timeout_get(wait).await
+            }))
+        })
     }
 
     fn add(&mut self, value: u64) -> Reply {
         self.begin(|player, pool| {
             let (value, turn) = player.value(value);
-            Party::Add(Box::pin(async move { pool.add(value).await }), turn)
+            let add = async move {
+                count_begun();
+                pool.add(value).await
+            };
+            Party::Add(Box::pin(add), turn)
         })
     }
 

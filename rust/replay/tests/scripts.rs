@@ -82,15 +82,15 @@ fn kinds_of(script: &str) -> Vec<String> {
 
 /// The texts of the library's tests that have scripts, each with its file.
 fn texts_of_tests() -> Vec<(PathBuf, String)> {
-    let crates = Path::new(env!("CARGO_MANIFEST_DIR")).join("../../crates");
+    let top = Path::new(env!("CARGO_MANIFEST_DIR")).join("../..");
     let mut files = Vec::new();
-    below(&crates.join("test_support/src/scripts"), &mut files);
+    below(&top.join("crates/test_support/src/scripts"), &mut files);
     let mut texts = Vec::new();
     for file in files {
         let source = fs::read_to_string(&file).expect("a source");
         texts.extend(literals_of(&source).into_iter().map(|text| (file.clone(), text)));
     }
-    let told = crates.join("test_poolrun/texts/told.txt");
+    let told = top.join("tests/test_poolrun/texts/told.txt");
     let source = fs::read_to_string(&told).expect("scripts");
     texts.extend(source.split("\n\n").flat_map(kinds_of).map(|script| (told.clone(), script)));
     texts

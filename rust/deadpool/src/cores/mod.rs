@@ -7,6 +7,7 @@
 pub(crate) mod desk;
 pub(crate) mod gate;
 pub(crate) mod journal;
+pub(crate) mod order;
 pub(crate) mod parts;
 pub(crate) mod unmanaged;
 pub(crate) mod unmanaged_journal;

@@ -1,6 +1,6 @@
 //! How a pool is built.
 use super::hooks::Hooks;
-use super::{Core, Handle, Hook, Manager, Object, Pool, PoolConfig, QueueMode, Timeouts};
+use super::{Core, Handle, Hook, Manager, Object, Pool, PoolConfig, QueueMode, Settings, Timeouts};
 use crate::errors::error_texts;
 use crate::rattle::Global;
 use crate::runtime::Runtime;
@@ -14,13 +14,14 @@ use std::time::Duration;
 pub enum BuildError {
     /// There is a timeout, if only one of zero, and no runtime.
     NoRuntimeSpecified,
-    /// No memory was found for as many objects.
+    /// No memory was found for as many objects. It is this crate's own, and comes with its feature `refusals`.
+    #[cfg(feature = "refusals")]
     OutOfMemory,
 }
 
 error_texts! { BuildError {
     Self::NoRuntimeSpecified => "Error occurred while building the pool: Timeouts require a runtime",
-    Self::OutOfMemory => "Error occurred while building the pool: Out of memory",
+    #[cfg(feature = "refusals")] Self::OutOfMemory => "Error occurred while building the pool: Out of memory",
 } }
 
 /// Has a builder set a field of its own, or add to a list of hooks.
@@ -53,7 +54,7 @@ pub(super) struct Setup<M: Manager> {
 pub struct PoolBuilder<M: Manager, W: From<Object<M>> = Object<M>> {
     name: Option<Cow<'static, str>>,
     manager: M,
-    config: PoolConfig,
+    settings: Settings,
     runtime: Option<Runtime>,
     hooks: Hooks<M>,
     min_idle: usize,
@@ -66,7 +67,7 @@ impl<M: Manager, W: From<Object<M>>> PoolBuilder<M, W> {
         PoolBuilder {
             name: None,
             manager,
-            config: PoolConfig::default(),
+            settings: Settings::default(),
             runtime: None,
             hooks: Hooks { post_create: Vec::new(), pre_recycle: Vec::new(), post_recycle: Vec::new() },
             min_idle: 0,
@@ -79,16 +80,24 @@ impl<M: Manager, W: From<Object<M>>> PoolBuilder<M, W> {
     ///
     /// # Errors
     ///
-    /// If a timeout is set and no runtime, or if no memory is found.
+    /// If a timeout is set and no runtime, or, with the feature `refusals`, if no memory is found.
+    ///
+    /// # Panics
+    ///
+    /// Without the feature `refusals`, if no memory is found.
     pub fn build(self) -> Result<Pool<M, W>, BuildError> {
-        let PoolBuilder { name, manager, config, runtime, hooks, .. } = self;
-        let PoolConfig { max_size, timeouts, queue_mode, max_waiting } = config;
+        let PoolBuilder { name, manager, settings, runtime, hooks, .. } = self;
+        let Settings { config: PoolConfig { max_size, timeouts, queue_mode }, max_waiting } = settings;
         if timeouts.is_any_set() && runtime.is_none() {
             return Err(BuildError::NoRuntimeSpecified);
         }
         let desk = Core::<M>::new(Global, max_size, queue_mode, self.entries, self.min_idle);
-        let desk = desk.map_err(|_| BuildError::OutOfMemory)?.bounded(max_waiting);
-        Ok(Pool::of(Handle::new(Setup { name, manager, hooks, timeouts, runtime }, desk, self.entries > 0)))
+        #[cfg(feature = "refusals")]
+        let desk = desk.map_err(|_| BuildError::OutOfMemory)?;
+        #[cfg(not(feature = "refusals"))]
+        let desk = desk.unwrap_or_else(|_| panic!("memory for a pool"));
+        let setup = Setup { name, manager, hooks, timeouts, runtime };
+        Ok(Pool::of(Handle::new(setup, desk.bounded(max_waiting), self.entries > 0)))
     }
 
     /// Sets the name by which the pool is told from others: in its `Debug`, its tally, and the errors that [`Pool::named`] gives.
@@ -100,21 +109,23 @@ impl<M: Manager, W: From<Object<M>>> PoolBuilder<M, W> {
     setters! {
         fields {
             /// Sets what the configuration has.
-            config: PoolConfig => config;
+            config: PoolConfig => settings.config;
+            /// Sets what the settings have. It is this crate's own.
+            settings: Settings => settings;
             /// Sets the greatest number of objects.
-            max_size: usize => config.max_size;
+            max_size: usize => settings.config.max_size;
             /// Sets all timeouts.
-            timeouts: Timeouts => config.timeouts;
+            timeouts: Timeouts => settings.config.timeouts;
             /// Sets the timeout of the wait for a place.
-            wait_timeout: Option<Duration> => config.timeouts.wait;
+            wait_timeout: Option<Duration> => settings.config.timeouts.wait;
             /// Sets the timeout of a creation.
-            create_timeout: Option<Duration> => config.timeouts.create;
+            create_timeout: Option<Duration> => settings.config.timeouts.create;
             /// Sets the timeout of a recycling.
-            recycle_timeout: Option<Duration> => config.timeouts.recycle;
+            recycle_timeout: Option<Duration> => settings.config.timeouts.recycle;
             /// Sets which idle object is handed out next.
-            queue_mode: QueueMode => config.queue_mode;
+            queue_mode: QueueMode => settings.config.queue_mode;
             /// Sets how many gets may wait for a place; none is without a bound. It is this crate's own.
-            max_waiting: Option<usize> => config.max_waiting;
+            max_waiting: Option<usize> => settings.max_waiting;
             /// Sets where the pool has its timers from.
             runtime: Runtime => runtime;
             /// Sets how many idle objects a resize and a retain leave, if as many are idle. It is this crate's own.
@@ -135,6 +146,6 @@ impl<M: Manager, W: From<Object<M>>> PoolBuilder<M, W> {
 
 impl<M: Manager, W: From<Object<M>>> fmt::Debug for PoolBuilder<M, W> {
     fn fmt(&self, f: &mut fmt::Formatter<'_>) -> fmt::Result {
-        f.debug_struct("PoolBuilder").field("config", &self.config).finish_non_exhaustive()
+        f.debug_struct("PoolBuilder").field("config", &self.settings.config).finish_non_exhaustive()
     }
 }

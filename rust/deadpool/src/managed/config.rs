@@ -3,7 +3,7 @@ use super::{BuildError, QueueMode};
 use crate::errors::error_texts;
 use std::time::Duration;
 
-/// How many objects, how long each phase of a get may last, which idle object is next, and how many gets may wait.
+/// How many objects, how long each phase of a get may last, and which idle object is next.
 #[derive(Clone, Copy, Debug)]
 #[cfg_attr(feature = "serde", derive(serde::Deserialize, serde::Serialize))]
 pub struct PoolConfig {
@@ -15,16 +15,13 @@ pub struct PoolConfig {
     /// Which idle object is handed out next.
     #[cfg_attr(feature = "serde", serde(default))]
     pub queue_mode: QueueMode,
-    /// How many gets may wait for a place; none is without a bound. It is this crate's own.
-    #[cfg_attr(feature = "serde", serde(default, skip_serializing_if = "Option::is_none"))]
-    pub max_waiting: Option<usize>,
 }
 
 impl PoolConfig {
-    /// So many objects, no timeouts, the idle object next that came back first, and no bound on those that wait.
+    /// So many objects, no timeouts, and the idle object next that came back first.
     #[must_use]
     pub fn new(max_size: usize) -> Self {
-        PoolConfig { max_size, timeouts: Timeouts::default(), queue_mode: QueueMode::default(), max_waiting: None }
+        PoolConfig { max_size, timeouts: Timeouts::default(), queue_mode: QueueMode::default() }
     }
 }
 
@@ -32,6 +29,42 @@ impl PoolConfig {
 impl Default for PoolConfig {
     fn default() -> Self {
         PoolConfig::new(crate::shared::usual_size())
+    }
+}
+
+/// A configuration, with what a file of settings may have beside its keys. It is this crate's own, and read from formats with keys.
+///
+/// ```
+/// # use deadpool::managed::{Manager, Metrics, RecycleResult};
+/// # use std::convert::Infallible;
+/// # struct Lists;
+/// # impl Manager for Lists {
+/// #     type Type = Vec<u64>;
+/// #     type Error = Infallible;
+/// #     async fn create(&self) -> Result<Vec<u64>, Infallible> { Ok(Vec::new()) }
+/// #     async fn recycle(&self, _: &mut Vec<u64>, _: &Metrics) -> RecycleResult<Infallible> { Ok(()) }
+/// # }
+/// use deadpool::managed::{Pool, PoolConfig, Settings};
+///
+/// let settings = Settings { max_waiting: Some(64), ..PoolConfig::new(8).into() };
+/// let pool: Pool<Lists> = Pool::builder(Lists).settings(settings).build().expect("a pool");
+/// assert_eq!(pool.status().max_size, 8);
+/// ```
+#[derive(Clone, Copy, Debug, Default)]
+#[cfg_attr(feature = "serde", derive(serde::Deserialize, serde::Serialize))]
+pub struct Settings {
+    /// What the crate deadpool has too.
+    #[cfg_attr(feature = "serde", serde(flatten))]
+    pub config: PoolConfig,
+    /// How many gets may wait for a place; none is without a bound.
+    #[cfg_attr(feature = "serde", serde(default, skip_serializing_if = "Option::is_none"))]
+    pub max_waiting: Option<usize>,
+}
+
+/// A configuration with nothing else.
+impl From<PoolConfig> for Settings {
+    fn from(config: PoolConfig) -> Self {
+        Settings { config, max_waiting: None }
     }
 }
 
@@ -95,7 +128,7 @@ mod names {
     use serde::{Deserialize, Deserializer, Serialize, Serializer};
 
     #[derive(Deserialize, Serialize)]
-    #[serde(remote = "QueueMode")]
+    #[serde(remote = "QueueMode", rename = "QueueMode")]
     enum Named {
         Fifo,
         Lifo,

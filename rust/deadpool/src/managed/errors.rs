@@ -14,6 +14,10 @@ pub enum TimeoutType {
 }
 
 /// Why a get ended without an object. It then holds neither a place nor an object.
+///
+/// The last three kinds are this crate's own, and come with its feature `refusals`. Without that the kinds are those of the crate
+/// deadpool: instead of `Crowded` and `OutOfMemory` comes `Timeout(TimeoutType::Wait)`, and instead of `NumbersExhausted`
+/// `Timeout(TimeoutType::Create)`.
 #[derive(Debug)]
 pub enum PoolError<E> {
     /// The phase ran out of time.
@@ -26,12 +30,24 @@ pub enum PoolError<E> {
     NoRuntimeSpecified,
     /// A hook refused the new object.
     PostCreateHook(HookError<E>),
-    /// No place was free, and as many gets waited as may. It is this crate's own.
+    /// No place was free, and as many gets waited as may.
+    #[cfg(feature = "refusals")]
     Crowded,
     /// The get's entry in the queue, its waker or its object's box found no memory.
+    #[cfg(feature = "refusals")]
     OutOfMemory,
     /// No object number is left.
+    #[cfg(feature = "refusals")]
     NumbersExhausted,
+}
+
+/// The nearest of the kinds that are there.
+#[cfg(not(feature = "refusals"))]
+#[allow(non_upper_case_globals, reason = "they stand for kinds, which have such names")]
+impl<E> PoolError<E> {
+    pub(super) const Crowded: Self = PoolError::Timeout(TimeoutType::Wait);
+    pub(super) const OutOfMemory: Self = PoolError::Timeout(TimeoutType::Wait);
+    pub(super) const NumbersExhausted: Self = PoolError::Timeout(TimeoutType::Create);
 }
 
 error_texts! { PoolError<E: 'static> {
@@ -42,9 +58,9 @@ error_texts! { PoolError<E: 'static> {
     Self::Closed => "Pool has been closed",
     Self::NoRuntimeSpecified => "No runtime specified",
     Self::PostCreateHook(cause) => "`post_create` hook failed: {cause}\n" from cause,
-    Self::Crowded => "Too many gets wait for a slot",
-    Self::OutOfMemory => "Out of memory",
-    Self::NumbersExhausted => "Object numbers are exhausted",
+    #[cfg(feature = "refusals")] Self::Crowded => "Too many gets wait for a slot",
+    #[cfg(feature = "refusals")] Self::OutOfMemory => "Out of memory",
+    #[cfg(feature = "refusals")] Self::NumbersExhausted => "Object numbers are exhausted",
 } }
 
 impl<E> From<E> for PoolError<E> {

@@ -1,176 +1,223 @@
-//! A get, from its first poll to its object. What it holds is given back if it ends without an object or is dropped.
-use super::object::{Kept, in_hand};
-use super::{Core, Manager, Metrics, PoolError, Shared, TimeoutType, Timeouts};
-use crate::cores::desk::{Desk, Held, Reply, Step};
+//! A get: its order is executed, and what may have to wait is awaited.
+use super::executor::Executor;
+use super::object::Kept;
+use super::{Hook, HookResult, Manager, PoolError, Shared, TimeoutType, Timeouts};
+use crate::cores::desk::Step;
+use crate::cores::order::{Cause, Command, Order};
+use crate::moment::Instant;
 use crate::parcel::Boxed;
-use crate::timed::{Alarm, in_time, noting_polls, poll_again};
-use crate::waiting::{Asked, Turn, Waiting};
-use std::pin::pin;
-use std::time::{Duration, Instant};
+use crate::timed::{Alarm, lacks_timers, poll_again};
+use crate::waiting::{has_to_wait, may_ask_at_once};
+use std::future::{Future, poll_fn};
+use std::pin::{Pin, pin};
+use std::task::{Context, Poll};
+use std::time::Duration;
 
 type Given<T, M> = Result<T, PoolError<<M as Manager>::Error>>;
 
 pub(super) struct Get<'a, M: Manager> {
-    pool: &'a Shared<M>,
-    /// What is to be given back, if anything is.
-    held: Option<Held>,
-    kept: Option<Boxed<Kept<M>>>,
-    /// Since when it has waited for a place, if it has.
-    since: Option<Instant>,
+    timeouts: &'a Timeouts,
+    /// That of the phase which is under way, once this has waited.
+    alarm: Alarm,
+    waited: Waited,
+    executor: Executor<'a, M>,
+}
+
+/// How long a get has waited for its place, or since when it does.
+#[derive(Clone, Copy)]
+enum Waited {
+    For(Duration),
+    Since(Instant),
 }
 
 impl<'a, M: Manager> Get<'a, M> {
     /// An object, within these timeouts.
-    pub(super) async fn within(pool: &'a Shared<M>, timeouts: &Timeouts) -> Given<Option<Boxed<Kept<M>>>, M> {
-        let mut get = Get { pool, held: None, kept: None, since: None };
-        let may_wait = timeouts.wait != Some(Duration::ZERO);
-        let alarm = get.alarm(timeouts.wait.filter(|_| may_wait))?;
-        let cancel = |desk: &mut Core<M>, ticket| _ = desk.make(&Step::Withdraw { ticket }, &mut None);
-        let waiting = Waiting { pool, wakers: |state| &mut state.gets, cancel, ticket: None };
-        let step = |desk: &mut Core<M>, asked| get.asks(desk, may_wait, asked);
-        let (mut held, mut left) = waiting.ask(alarm, step, || Err(PoolError::OutOfMemory)).await?;
-        let waited = get.since.map_or(Duration::ZERO, |since| since.elapsed());
+    pub(super) async fn within(pool: &'a Shared<M>, timeouts: &'a Timeouts) -> Given<Option<Boxed<Kept<M>>>, M> {
+        let executor = Executor::new(pool, Order::new(), None);
+        let mut get = Get { timeouts, alarm: Alarm::Unset, waited: Waited::For(Duration::ZERO), executor };
+        let mut command = get.started();
         loop {
-            let allowance = match held {
-                Held::Creation => break get.create(timeouts.create).await?,
-                Held::Object => {
-                    let (prepared, was_pending) = noting_polls(pin!(get.prepare(timeouts.recycle))).await;
-                    if prepared.is_some() {
-                        break;
-                    }
-                    get.give_up(&Step::Discard, Some(Held::Place));
-                    // (each poll has an allowance of its own)
-                    if was_pending { None } else { Some(left) }
-                }
-                Held::Place => {
+            command = match command {
+                Command::Enter { wait } => get.enter(wait).await,
+                Command::Ask => poll_fn(|cx| Poll::Ready(get.ask(cx))).await,
+                Command::Wait(_) => get.wait().await,
+                Command::Pause => {
                     poll_again().await;
-                    None
+                    get.executor.order.polled(false)
                 }
+                Command::Create => get.create().await?,
+                Command::Number => get.executor.make(&Step::Created),
+                Command::PreRecycle(at) => get.prepare(&pool.setup.hooks.pre_recycle[at]).await,
+                Command::Recycle => get.recycle().await,
+                Command::PostRecycle(at) => get.prepare(&pool.setup.hooks.post_recycle[at]).await,
+                Command::PostCreate(at) => get.check(&pool.setup.hooks.post_create[at]).await?,
+                Command::Give { recycled } => return Ok(get.give(recycled)),
+                Command::End(cause) => return Err(error_of(cause)),
+                _ => get.executor.execute_rarely(command),
             };
-            let _tells = pool.telling_end();
-            (held, left) = pool.step(|state| {
-                let reply = get.make(&mut state.desk, &Step::Again { allowance });
-                get.served(reply)
-            })?;
         }
-        get.held = None;
-        if let Some(kept) = &mut get.kept {
-            kept.waited = waited;
-        }
-        Ok(get.kept.take())
     }
 
-    /// Enters, or asks with its ticket.
-    #[inline]
-    fn asks(&mut self, desk: &mut Core<M>, may_wait: bool, asked: Asked) -> Turn<Given<(Held, usize), M>> {
-        let reply = match asked {
-            None => self.make(desk, &Step::Enter { wait: may_wait }),
-            Some((ticket, expired)) => self.make(desk, &Step::Ask { ticket, expired }),
-        };
-        match reply {
-            Reply::Waiting(ticket) => {
-                self.since.get_or_insert_with(Instant::now);
-                Turn::Waits(ticket)
+    /// Its first event. A wait that no runtime can time is none.
+    #[inline(always)]
+    fn started(&mut self) -> Command {
+        let may_wait = self.timeouts.wait != Some(Duration::ZERO);
+        if may_wait && lacks_timers(self.timeouts.wait, self.executor.pool.setup.runtime) {
+            return self.executor.order.lacking();
+        }
+        self.executor.order.started(may_wait)
+    }
+
+    /// Its first step, once it is its task's turn.
+    async fn enter(&mut self, wait: bool) -> Command {
+        let is_counted = wait && may_ask_at_once();
+        if wait && !is_counted {
+            poll_again().await;
+        }
+        let step = Step::Enter { wait };
+        let command = poll_fn(|cx| Poll::Ready(self.executor.ask(&step, cx.waker()))).await;
+        if let Command::Wait(_) = command {
+            self.waited = Waited::Since(Instant::now());
+            if is_counted {
+                has_to_wait();
             }
-            reply => Turn::Ended(self.served(reply)),
         }
+        command
     }
 
-    /// Makes a step, and keeps the object that it gives.
-    #[inline(always)]
-    fn make(&mut self, desk: &mut Core<M>, step: &Step) -> Reply {
-        let mut hand = None;
-        let reply = desk.make(step, &mut hand);
-        self.kept = in_hand(hand);
-        reply
+    #[inline(never)]
+    fn ask(&mut self, cx: &Context<'_>) -> Command {
+        let step = self.executor.order.step();
+        let command = self.executor.ask(&step, cx.waker());
+        if let (Waited::Since(since), false) = (self.waited, matches!(command, Command::Wait(_))) {
+            self.waited = Waited::For(since.elapsed());
+        }
+        command
     }
 
-    /// What it holds after a reply, and how many more idle objects this poll may take.
-    #[inline]
-    fn served(&mut self, reply: Reply) -> Given<(Held, usize), M> {
-        self.held = None;
-        let served = match reply {
-            Reply::Object { left } => (Held::Object, left),
-            Reply::Create => (Held::Creation, 0),
-            Reply::Going => (Held::Place, 0),
-            Reply::Exhausted => return Err(PoolError::NumbersExhausted),
-            Reply::Full | Reply::Expired => return Err(PoolError::Timeout(TimeoutType::Wait)),
-            Reply::Crowded => return Err(PoolError::Crowded),
-            Reply::OutOfMemory => return Err(PoolError::OutOfMemory),
-            _ => return Err(PoolError::Closed),
+    /// Ends this poll, unless the time to wait is over and was not looked at before. Tells at the next one whether it is.
+    fn wait(&mut self) -> impl Future<Output = Command> {
+        let looks = matches!(self.alarm, Alarm::Unset);
+        let mut has_ended = false;
+        self.alarm.begin(self.timeouts.wait, self.executor.pool.setup.runtime);
+        poll_fn(move |cx| {
+            let is_first = !std::mem::replace(&mut has_ended, true);
+            if is_first && !(looks && self.alarm.is_over(cx)) {
+                return Poll::Pending;
+            }
+            let expired = self.alarm.is_over(cx);
+            Poll::Ready(self.executor.order.polled(expired))
+        })
+    }
+
+    /// The manager makes a value, in time. Its error ends the get here, so that it need not lie in the future.
+    async fn create(&mut self) -> Given<Command, M> {
+        let Get { timeouts, alarm, executor, .. } = self;
+        let setup = &executor.pool.setup;
+        if lacks_timers(timeouts.create, setup.runtime) {
+            return Ok(executor.order.failed(Cause::NoRuntime));
+        }
+        *alarm = Alarm::Unset;
+        let created = {
+            let call = pin!(setup.manager.create());
+            let is_late = |cx: &mut Context<'_>| alarm.begin(timeouts.create, setup.runtime).is_over(cx);
+            called(call, &mut executor.order, is_late).await
         };
-        self.held = Some(served.0);
-        Ok(served)
-    }
-
-    #[inline(always)]
-    fn alarm(&self, timeout: Option<Duration>) -> Given<Alarm, M> {
-        Alarm::after(timeout, self.pool.setup.runtime).ok_or(PoolError::NoRuntimeSpecified)
-    }
-
-    /// A new object, which the hooks have accepted.
-    async fn create(&mut self, timeout: Option<Duration>) -> Given<(), M> {
-        let created = self.new_value(timeout).await.and_then(|value| self.created(value));
-        created.inspect_err(|_| self.give_up(&Step::Failed, None))?;
-        for hook in &self.pool.setup.hooks.post_create {
-            let passed = hook.call(self.kept.as_mut().expect("the get has an object")).await;
-            passed.map_err(PoolError::PostCreateHook).inspect_err(|_| self.give_up(&Step::Refused, None))?;
+        match created {
+            None => Ok(executor.order.failed(Cause::Late)),
+            Some(Err(cause)) => {
+                executor.fail(Cause::Failed);
+                Err(PoolError::Backend(cause))
+            }
+            Some(Ok(value)) => Ok(executor.created(value)),
         }
-        Ok(())
     }
 
-    /// A value that the manager has made, in time.
-    async fn new_value(&mut self, timeout: Option<Duration>) -> Given<M::Type, M> {
-        let made = in_time(self.alarm(timeout)?, pin!(self.pool.setup.manager.create())).await;
-        made.ok_or(PoolError::Timeout(TimeoutType::Create))?.map_err(PoolError::Backend)
-    }
-
-    /// The creation ends well, unless there is no memory for the object.
-    fn created(&mut self, value: M::Type) -> Given<(), M> {
-        let kept = Kept { value, metrics: Metrics::default(), waited: Duration::ZERO, number: 0 };
-        let mut kept = Boxed::new(kept).map_err(|_| PoolError::OutOfMemory)?;
-        let Reply::Number(number) = self.pool.step(|state| state.desk.make(&Step::Created, &mut None)) else {
-            return Err(PoolError::Closed);
+    /// The manager recycles the object, in time.
+    async fn recycle(&mut self) -> Command {
+        let Get { timeouts, alarm, executor, .. } = self;
+        let setup = &executor.pool.setup;
+        if lacks_timers(timeouts.recycle, setup.runtime) {
+            return executor.order.failed(Cause::NoRuntime);
+        }
+        *alarm = Alarm::Unset;
+        let recycled = {
+            let Kept { value, metrics, .. } = &mut **executor.kept.as_mut().expect("an object is recycled");
+            let call = pin!(setup.manager.recycle(value, metrics));
+            let is_late = |cx: &mut Context<'_>| alarm.begin(timeouts.recycle, setup.runtime).is_over(cx);
+            called(call, &mut executor.order, is_late).await
         };
-        self.held = Some(Held::Object);
-        kept.number = number;
-        self.kept = Some(kept);
-        Ok(())
+        match recycled {
+            Some(Ok(())) => executor.ready(),
+            _ => executor.order.failed(Cause::Late),
+        }
     }
 
-    /// Makes an idle object ready to be handed out again. It is not if a hook or the manager refuses it or takes too long.
-    async fn prepare(&mut self, timeout: Option<Duration>) -> Option<()> {
-        let (setup, kept) = (&self.pool.setup, self.kept.as_mut()?);
-        for hook in &setup.hooks.pre_recycle {
-            hook.call(kept).await.ok()?;
+    /// A hook sees the idle object.
+    async fn prepare(&mut self, hook: &Hook<M>) -> Command {
+        match self.seen(hook).await {
+            Ok(()) => self.executor.ready(),
+            Err(_) => self.executor.order.failed(Cause::Refused),
         }
-        let alarm = Alarm::after(timeout, setup.runtime)?;
-        let Kept { value, metrics, .. } = &mut **kept;
-        in_time(alarm, pin!(setup.manager.recycle(value, metrics))).await?.ok()?;
-        for hook in &setup.hooks.post_recycle {
-            hook.call(kept).await.ok()?;
-        }
-        kept.metrics.recycled_now();
-        Some(())
     }
 
-    /// Makes a step that gives up what is held, with the object if there is one, and holds this after it.
-    fn give_up(&mut self, step: &Step, held: Option<Held>) {
-        self.held = held;
-        let _tells = self.pool.telling_end();
-        let kept = self.kept.take();
-        self.pool.step(|state| state.desk.make(step, &mut None));
-        if let Some(mut kept) = kept {
-            self.pool.setup.manager.detach(&mut kept.value);
+    /// A hook sees the new object. Its refusal ends the get.
+    async fn check(&mut self, hook: &Hook<M>) -> Given<Command, M> {
+        match self.seen(hook).await {
+            Ok(()) => Ok(self.executor.ready()),
+            Err(cause) => {
+                self.executor.fail(Cause::Refused);
+                Err(PoolError::PostCreateHook(cause))
+            }
         }
+    }
+
+    async fn seen(&mut self, hook: &Hook<M>) -> HookResult<M::Error> {
+        let Executor { kept, order, .. } = &mut self.executor;
+        let call = pin!(hook.call(kept.as_mut().expect("a hook sees an object")));
+        called(call, order, |_| false).await.expect("a hook has no time")
+    }
+
+    /// The object is out.
+    fn give(&mut self, recycled: bool) -> Option<Boxed<Kept<M>>> {
+        let mut given = self.executor.given();
+        if let Some(kept) = &mut given {
+            if recycled {
+                kept.metrics.recycled_now();
+            }
+            kept.waited = if let Waited::For(duration) = self.waited { duration } else { Duration::ZERO };
+        }
+        given
     }
 }
 
-impl<M: Manager> Drop for Get<'_, M> {
-    #[inline]
-    fn drop(&mut self) {
-        if let Some(held) = self.held {
-            self.give_up(&Step::Cancel(held), None);
+/// What a call gives, or none if its time is over before that. Each poll that ends meanwhile is told.
+#[inline(always)]
+fn called<F: Future>(
+    mut call: Pin<&mut F>,
+    order: &mut Order,
+    mut is_late: impl FnMut(&mut Context<'_>) -> bool,
+) -> impl Future<Output = Option<F::Output>> {
+    poll_fn(move |cx| match call.as_mut().poll(cx) {
+        Poll::Ready(output) => Poll::Ready(Some(output)),
+        Poll::Pending if is_late(cx) => Poll::Ready(None),
+        Poll::Pending => {
+            order.pauses();
+            Poll::Pending
         }
+    })
+}
+
+/// The error by which a get ends.
+#[cold]
+fn error_of<E>(cause: Cause) -> PoolError<E> {
+    match cause {
+        Cause::NoPlace => PoolError::Timeout(TimeoutType::Wait),
+        Cause::Crowded => PoolError::Crowded,
+        Cause::OutOfMemory => PoolError::OutOfMemory,
+        Cause::NumbersExhausted => PoolError::NumbersExhausted,
+        Cause::NoRuntime => PoolError::NoRuntimeSpecified,
+        Cause::Late => PoolError::Timeout(TimeoutType::Create),
+        _ => PoolError::Closed,
     }
 }

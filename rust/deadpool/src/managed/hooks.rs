@@ -57,7 +57,29 @@ impl<M: Manager> Hook<M> {
         Hook::Fn(Box::new(f))
     }
 
-    /// A hook that gives a future.
+    /// A hook that gives a future. The type of the value has to be written out, as here, if a method of it is called.
+    ///
+    /// ```
+    /// # use deadpool::managed::{Manager, Metrics, Pool, RecycleResult};
+    /// # use std::convert::Infallible;
+    /// # struct Lists;
+    /// # impl Manager for Lists {
+    /// #     type Type = Vec<u64>;
+    /// #     type Error = Infallible;
+    /// #     async fn create(&self) -> Result<Vec<u64>, Infallible> { Ok(Vec::new()) }
+    /// #     async fn recycle(&self, _: &mut Vec<u64>, _: &Metrics) -> RecycleResult<Infallible> { Ok(()) }
+    /// # }
+    /// use deadpool::managed::Hook;
+    ///
+    /// let begun = Hook::async_fn(|list: &mut Vec<u64>, _: &Metrics| {
+    ///     Box::pin(async move {
+    ///         list.push(7);
+    ///         Ok(())
+    ///     })
+    /// });
+    /// let pool: Pool<Lists> = Pool::builder(Lists).post_create(begun).build().expect("a pool");
+    /// assert_eq!(*pool.get_blocking().expect("a list"), [7]);
+    /// ```
     pub fn async_fn(
         f: impl for<'a> Fn(&'a mut M::Type, &'a Metrics) -> HookFuture<'a, M::Error> + Sync + Send + 'static,
     ) -> Self {

@@ -1,11 +1,12 @@
 //! How long the objects of a pool may serve, which a hook asks at each get, and a keeper meanwhile.
 use super::{Hook, HookError, Manager, Metrics};
+#[cfg(not(target_arch = "wasm32"))]
 use std::time::{Duration, Instant};
 
 /// How long an object may serve. A limit that is not set holds of every object.
 ///
 /// As a hook it refuses an idle object that is past its limits: then the pool gives it up, and the get goes on. Meanwhile
-/// [`Pool::keeper`](super::Pool::keeper) gives up those that nobody asks for.
+/// [`Pool::keeper`](super::Pool::keeper) gives up those that nobody asks for. On wasm32 there are no moments, and `uses` is the one limit.
 ///
 /// ```
 /// # use deadpool::managed::{Manager, Metrics, RecycleResult};
@@ -30,8 +31,10 @@ use std::time::{Duration, Instant};
 #[cfg_attr(feature = "serde", serde(default))]
 pub struct Limits {
     /// How long ago it may have been created. From this age on it is given up.
+    #[cfg(not(target_arch = "wasm32"))]
     pub lifetime: Option<Duration>,
     /// How long ago it may have been handed out last.
+    #[cfg(not(target_arch = "wasm32"))]
     pub idle: Option<Duration>,
     /// How often it may be handed out: once when it is created, and once for each time that it was recycled.
     pub uses: Option<usize>,
@@ -41,16 +44,24 @@ impl Limits {
     /// Objects serve without an end.
     #[must_use]
     pub const fn none() -> Self {
-        Limits { lifetime: None, idle: None, uses: None }
+        Limits {
+            #[cfg(not(target_arch = "wasm32"))]
+            lifetime: None,
+            #[cfg(not(target_arch = "wasm32"))]
+            idle: None,
+            uses: None,
+        }
     }
 
     /// With this lifetime.
+    #[cfg(not(target_arch = "wasm32"))]
     #[must_use]
     pub const fn lifetime(self, most: Duration) -> Self {
         Limits { lifetime: Some(most), ..self }
     }
 
     /// With this idle time.
+    #[cfg(not(target_arch = "wasm32"))]
     #[must_use]
     pub const fn idle(self, most: Duration) -> Self {
         Limits { idle: Some(most), ..self }
@@ -59,24 +70,45 @@ impl Limits {
     /// With so many uses.
     #[must_use]
     pub const fn uses(self, most: usize) -> Self {
+        #[cfg_attr(target_arch = "wasm32", allow(clippy::needless_update, reason = "there is no other field"))]
         Limits { uses: Some(most), ..self }
     }
 
     /// Whether an idle object with these metrics may be handed out once more at this moment.
+    #[cfg(not(target_arch = "wasm32"))]
     #[must_use]
     pub fn allow(&self, metrics: &Metrics, now: Instant) -> bool {
         let since = |then: Instant| now.saturating_duration_since(then);
         self.lifetime.is_none_or(|most| since(metrics.created) < most)
             && self.idle.is_none_or(|most| since(metrics.recycled.unwrap_or(metrics.created)) < most)
-            && self.uses.is_none_or(|most| metrics.recycle_count.saturating_add(1) < most)
+            && self.allow_use(metrics)
+    }
+
+    fn allow_use(&self, metrics: &Metrics) -> bool {
+        self.uses.is_none_or(|most| metrics.recycle_count.saturating_add(1) < most)
+    }
+
+    /// Says of each idle object whether it may be handed out once more now.
+    pub(super) fn allow_now(self) -> impl Fn(&Metrics) -> bool {
+        #[cfg(not(target_arch = "wasm32"))]
+        let now = Instant::now();
+        move |metrics| {
+            #[cfg(not(target_arch = "wasm32"))]
+            let allows = self.allow(metrics, now);
+            #[cfg(target_arch = "wasm32")]
+            let allows = self.allow_use(metrics);
+            allows
+        }
     }
 }
 
 /// A hook before the recycling, which gives up what is past its limits.
 impl<M: Manager> From<Limits> for Hook<M> {
     fn from(limits: Limits) -> Self {
-        Hook::sync_fn(move |_, metrics| {
-            if limits.allow(metrics, Instant::now()) { Ok(()) } else { Err(HookError::message("past its limits")) }
-        })
+        Hook::sync_fn(
+            move |_, metrics| {
+                if limits.allow_now()(metrics) { Ok(()) } else { Err(HookError::message("past its limits")) }
+            },
+        )
     }
 }

@@ -1,12 +1,22 @@
 //! What a pool asks of its backend.
 use super::RecycleError;
 use std::future::Future;
+#[cfg(not(target_arch = "wasm32"))]
 use std::time::{Duration, Instant};
 
 /// How a recycling ended.
 pub type RecycleResult<E> = Result<(), RecycleError<E>>;
 
 /// Makes the objects of a pool, and says of each that came back whether it can be used again.
+///
+/// # Cancel safety
+///
+/// Its futures are dropped at any await if the get is dropped, or if their timeout is over. The pool then gives up the object that was
+/// recycled. What a creation has opened until then is for the manager's own values to close.
+///
+/// # Panics
+///
+/// If a call panics, so does the get for which it was made. The pool counts the object as given up, and goes on.
 ///
 /// ```
 /// use deadpool::managed::{Manager, Metrics, RecycleError, RecycleResult};
@@ -52,13 +62,15 @@ pub trait Manager: Sync + Send {
     fn detach(&self, _obj: &mut Self::Type) {}
 }
 
-/// What is known of an object's past.
+/// What is known of an object's past. On wasm32 it has a count alone, as in the crate deadpool.
 #[derive(Clone, Copy, Debug)]
 #[must_use]
 pub struct Metrics {
     /// When it was created.
+    #[cfg(not(target_arch = "wasm32"))]
     pub created: Instant,
     /// When it was last handed out again.
+    #[cfg(not(target_arch = "wasm32"))]
     pub recycled: Option<Instant>,
     /// How often it was handed out again.
     pub recycle_count: usize,
@@ -66,24 +78,37 @@ pub struct Metrics {
 
 impl Metrics {
     /// How long ago it was created.
+    #[cfg(not(target_arch = "wasm32"))]
+    #[must_use]
     pub fn age(&self) -> Duration {
         self.created.elapsed()
     }
 
     /// How long ago it was last handed out.
+    #[cfg(not(target_arch = "wasm32"))]
+    #[must_use]
     pub fn last_used(&self) -> Duration {
         self.recycled.unwrap_or(self.created).elapsed()
     }
 
     #[inline]
     pub(super) fn recycled_now(&mut self) {
-        self.recycled = Some(Instant::now());
+        #[cfg(not(target_arch = "wasm32"))]
+        {
+            self.recycled = Some(Instant::now());
+        }
         self.recycle_count = self.recycle_count.saturating_add(1);
     }
 }
 
 impl Default for Metrics {
     fn default() -> Self {
-        Metrics { created: Instant::now(), recycled: None, recycle_count: 0 }
+        Metrics {
+            #[cfg(not(target_arch = "wasm32"))]
+            created: Instant::now(),
+            #[cfg(not(target_arch = "wasm32"))]
+            recycled: None,
+            recycle_count: 0,
+        }
     }
 }

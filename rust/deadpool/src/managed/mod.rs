@@ -33,6 +33,7 @@
 mod builder;
 mod config;
 mod errors;
+mod executor;
 mod get;
 mod hooks;
 mod limits;
@@ -47,7 +48,7 @@ pub use crate::cores::journal::{Report, Tally};
 pub use crate::errors::OutOfMemory;
 pub use crate::journal::Journal;
 pub use builder::{BuildError, PoolBuilder};
-pub use config::{CreatePoolError, PoolConfig, Timeouts};
+pub use config::{CreatePoolError, PoolConfig, Settings, Timeouts};
 pub use errors::{HookError, PoolError, RecycleError, TimeoutType};
 pub use hooks::{Hook, HookFuture, HookResult};
 pub use limits::Limits;

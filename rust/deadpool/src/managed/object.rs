@@ -1,8 +1,10 @@
 //! An object that is out.
+use super::executor::Executor;
 use super::{Manager, Metrics, ObjectId, Pool, Shared};
-use crate::cores::desk::{Desk, Reply, Slot, Step};
+use crate::cores::desk::Step;
+use crate::cores::order::Order;
 use crate::lends::lends_value;
-use crate::parcel::{Boxed, Parcel};
+use crate::parcel::Boxed;
 use std::fmt;
 use std::sync::Arc;
 use std::time::Duration;
@@ -16,10 +18,10 @@ pub(super) struct Kept<M: Manager> {
     pub(super) number: usize,
 }
 
-/// The object in a hand after a step.
-#[inline]
-pub(super) fn in_hand<M: Manager>(hand: Option<Slot<Parcel<Kept<M>>>>) -> Option<Boxed<Kept<M>>> {
-    hand.and_then(|slot| slot.value.take())
+impl<M: Manager> Kept<M> {
+    pub(super) fn new(value: M::Type) -> Self {
+        Kept { value, metrics: Metrics::default(), waited: Duration::ZERO, number: 0 }
+    }
 }
 
 /// An object that is out. Its drop gives it back to the pool.
@@ -59,17 +61,16 @@ impl<M: Manager> Object<M> {
 
     /// Takes the value out of the pool for good. Its place is free.
     #[must_use]
+    #[allow(clippy::missing_panics_doc, reason = "the value is there until this or the drop takes it")]
     pub fn take(mut this: Self) -> M::Type {
-        let mut kept = this.kept.take().expect("an object has its value");
-        let reply = this.pool.step(|state| state.desk.make(&Step::Take, &mut None));
-        this.pool.tell_end();
-        if let Reply::Taken { detach: true } = reply {
-            this.pool.setup.manager.detach(&mut kept.value);
-        }
-        kept.open().value
+        let mut take = Executor::new(&this.pool, Order::taking(), this.kept.take());
+        let command = take.make(&Step::Take);
+        take.execute(command);
+        take.given().expect("an object has its value").open().value
     }
 
     /// Its number.
+    #[must_use]
     pub fn id(this: &Self) -> ObjectId {
         ObjectId::new(this.kept().number)
     }
@@ -80,28 +81,26 @@ impl<M: Manager> Object<M> {
     }
 
     /// How long its get waited for a place: zero if it was served at once. What the manager and the hooks took is no part of it.
+    #[must_use]
     pub fn waited(this: &Self) -> Duration {
         this.kept().waited
     }
 
     /// Its pool, if that has a handle left.
+    #[must_use]
     pub fn pool(this: &Self) -> Option<Pool<M>> {
         Pool::upgrade(&this.pool)
     }
 }
 
 impl<M: Manager> Drop for Object<M> {
-    /// What is not kept is dropped here, without the lock.
     fn drop(&mut self) {
-        let Some(kept) = self.kept.take() else { return };
-        let mut hand = Some(Slot { number: kept.number, value: Parcel::of(kept) });
-        let reply = self.pool.step(|state| state.desk.make(&Step::Back, &mut hand));
-        let Some(kept) = in_hand(hand) else { return };
-        let _tells = self.pool.telling_end();
-        // (it is dropped before that)
-        let mut kept = kept;
-        if let Reply::Detach = reply {
-            self.pool.setup.manager.detach(&mut kept.value);
+        if self.kept.is_some() {
+            let mut back = Executor::new(&self.pool, Order::returning(), self.kept.take());
+            let command = back.give_back();
+            if !back.order.is_over() {
+                back.execute_rarely(command);
+            }
         }
     }
 }

@@ -11,12 +11,14 @@ use crate::desk::Desk;
 use crate::ending::{alarm_within, drained, ends_within};
 use crate::errors::Named;
 use crate::parcel::{Boxed, Parcel};
+use crate::shared::State;
 use crate::timed::{Alarm, poll_again};
+use crate::wait::wait;
 use std::fmt;
 use std::future::Future;
 use std::marker::PhantomData;
 use std::sync::{Arc, Weak};
-use std::time::{Duration, Instant};
+use std::time::Duration;
 
 /// What became of the idle objects in a retain.
 #[derive(Debug)]
@@ -97,6 +99,16 @@ impl<M: Manager, W: From<Object<M>>> Pool<M, W> {
     /// # Errors
     ///
     /// Each [`PoolError`] says when it comes. The get then holds nothing.
+    ///
+    /// # Cancel safety
+    ///
+    /// It can be dropped at any await. It then leaves the queue, or gives its place to the next one. An object that it was preparing is
+    /// given up, and one that was being created is not waited for. Who drops it loses its turn in the queue.
+    ///
+    /// # Panics
+    ///
+    /// As its manager and its hooks: the object is given up then, and the place is free. `Runtime::Tokio1` with its feature panics
+    /// outside of tokio, if a timeout begins there.
     pub async fn get(&self) -> Result<W, PoolError<M::Error>> {
         self.timeout_get(&self.shared.setup.timeouts).await
     }
@@ -104,6 +116,14 @@ impl<M: Manager, W: From<Object<M>>> Pool<M, W> {
     /// An object, within these timeouts.
     ///
     /// # Errors
+    ///
+    /// As of [`Pool::get`].
+    ///
+    /// # Cancel safety
+    ///
+    /// As of [`Pool::get`].
+    ///
+    /// # Panics
     ///
     /// As of [`Pool::get`].
     pub async fn timeout_get(&self, timeouts: &Timeouts) -> Result<W, PoolError<M::Error>> {
@@ -116,8 +136,67 @@ impl<M: Manager, W: From<Object<M>>> Pool<M, W> {
     /// # Errors
     ///
     /// As of [`Pool::get`]: it is `Timeout(TimeoutType::Wait)` if none is free.
+    ///
+    /// # Cancel safety
+    ///
+    /// As of [`Pool::get`].
+    ///
+    /// # Panics
+    ///
+    /// As of [`Pool::get`].
     pub async fn try_get(&self) -> Result<W, PoolError<M::Error>> {
-        self.timeout_get(&Timeouts { wait: Some(Duration::ZERO), ..self.timeouts() }).await
+        self.get_timeout(Duration::ZERO).await
+    }
+
+    /// An object, if a place is free within this time. The pool's other timeouts hold as well.
+    ///
+    /// # Errors
+    ///
+    /// As of [`Pool::get`]: it is `Timeout(TimeoutType::Wait)` if none is free in time. A time above zero needs a runtime.
+    ///
+    /// # Cancel safety
+    ///
+    /// As of [`Pool::get`].
+    ///
+    /// # Panics
+    ///
+    /// As of [`Pool::get`].
+    pub async fn get_timeout(&self, wait: Duration) -> Result<W, PoolError<M::Error>> {
+        self.timeout_get(&Timeouts { wait: Some(wait), ..self.timeouts() }).await
+    }
+
+    /// An object, for which this thread [waits](crate::wait()). A task of an executor awaits [`Pool::get`] instead.
+    ///
+    /// ```
+    /// # use deadpool::managed::{Manager, Metrics, RecycleResult};
+    /// # use std::convert::Infallible;
+    /// # struct Lists;
+    /// # impl Manager for Lists {
+    /// #     type Type = Vec<u64>;
+    /// #     type Error = Infallible;
+    /// #     async fn create(&self) -> Result<Vec<u64>, Infallible> { Ok(Vec::new()) }
+    /// #     async fn recycle(&self, _: &mut Vec<u64>, _: &Metrics) -> RecycleResult<Infallible> { Ok(()) }
+    /// # }
+    /// # use deadpool::managed::Pool;
+    /// let pool: Pool<Lists> = Pool::builder(Lists).max_size(1).build().expect("a pool");
+    /// std::thread::scope(|threads| {
+    ///     for number in 1..=4 {
+    ///         let pool = &pool;
+    ///         threads.spawn(move || pool.get_blocking().expect("a list").push(number));
+    ///     }
+    /// });
+    /// assert_eq!(pool.get_blocking().expect("a list").iter().sum::<u64>(), 10);
+    /// ```
+    ///
+    /// # Errors
+    ///
+    /// As of [`Pool::get`].
+    ///
+    /// # Panics
+    ///
+    /// As of [`Pool::get`].
+    pub fn get_blocking(&self) -> Result<W, PoolError<M::Error>> {
+        wait(self.get())
     }
 
     /// Sets the limit of an open pool. The idle objects above it are dropped, the one that came back first before the others.
@@ -148,7 +227,7 @@ impl<M: Manager, W: From<Object<M>>> Pool<M, W> {
     ///
     /// # Panics
     ///
-    /// If no memory is found, as [`Pool::try_retain`] tells.
+    /// If no memory is found, as [`Pool::try_retain`] tells, and as the predicate and [`Manager::detach`].
     pub fn retain(&self, predicate: impl FnMut(&M::Type, Metrics) -> bool) -> RetainResult<M::Type> {
         self.try_retain(predicate).expect("memory for a retain")
     }
@@ -166,16 +245,24 @@ impl<M: Manager, W: From<Object<M>>> Pool<M, W> {
     }
 
     /// Gives up, after each period, the idle objects that are past these limits, as [`Pool::try_retain`] does, until the pool
-    /// has closed or has no handle. It is no handle: a task is spawned with it, or a thread [waits](crate::wait) for it. The
+    /// has closed or has no handle. It is no handle: a task is spawned with it, or a thread [waits](crate::wait()) for it. The
     /// periods are measured by the pool's timers, or by this crate's thread if it has none.
+    ///
+    /// # Cancel safety
+    ///
+    /// It can be dropped at any await. Nothing is kept of its period.
+    ///
+    /// # Panics
+    ///
+    /// As [`Manager::detach`]. `Runtime::Tokio1` with its feature panics outside of tokio.
     pub fn keeper(&self, limits: Limits, period: Duration) -> impl Future<Output = ()> + Send + use<M, W> {
         let (pool, runtime) = (Arc::downgrade(&*self.shared), self.shared.setup.runtime);
         async move {
             while !ends_within(&pool, alarm_within(period, runtime)).await {
                 if let Some(pool) = pool.upgrade() {
-                    let now = Instant::now();
+                    let allows = limits.allow_now();
                     // (what finds no memory is tried again after a period)
-                    let _ = retained(&pool, |_, metrics| limits.allow(&metrics, now));
+                    let _ = retained(&pool, |_, metrics| allows(&metrics));
                 }
                 // (a period may be zero)
                 poll_again().await;
@@ -184,6 +271,7 @@ impl<M: Manager, W: From<Object<M>>> Pool<M, W> {
     }
 
     /// The timeouts that the pool was built with.
+    #[must_use]
     pub fn timeouts(&self) -> Timeouts {
         self.shared.setup.timeouts
     }
@@ -195,6 +283,10 @@ impl<M: Manager, W: From<Object<M>>> Pool<M, W> {
 
     /// Closes the pool, as [`Pool::close`], and waits until nothing is left of it: no object is out, and no get has a place or a
     /// creation under way. Who has an object of its own waits for good.
+    ///
+    /// # Cancel safety
+    ///
+    /// It can be dropped at any await. Once it was polled the pool stays closed, and another one waits for the same.
     pub async fn drain(&self) {
         let _ = drained(&self.shared, Alarm::Unset).await;
     }
@@ -204,6 +296,14 @@ impl<M: Manager, W: From<Object<M>>> Pool<M, W> {
     /// # Errors
     ///
     /// How the pool stands if something is left then. It stays closed.
+    ///
+    /// # Cancel safety
+    ///
+    /// As of [`Pool::drain`].
+    ///
+    /// # Panics
+    ///
+    /// `Runtime::Tokio1` with its feature panics outside of tokio.
     pub async fn drain_for(&self, most: Duration) -> Result<(), Status> {
         drained(&self.shared, alarm_within(most, self.shared.setup.runtime)).await
     }
@@ -233,27 +333,30 @@ impl<M: Manager, W: From<Object<M>>> Pool<M, W> {
     /// let error = deadpool::wait(pool.get()).map_err(|error| pool.named(error)).expect_err("it is closed");
     /// assert_eq!(error.to_string(), "pool orders: Pool has been closed");
     /// ```
+    #[must_use]
     pub fn named<E>(&self, error: E) -> Named<E> {
         Named { name: self.shared.setup.name.clone(), error }
     }
 
     /// Whether the pool has closed.
+    #[must_use]
     pub fn is_closed(&self) -> bool {
-        self.shared.look().desk.is_closed()
+        self.shared.look(|state| state.desk.is_closed())
     }
 
     /// How the pool stands.
     #[must_use]
+    #[doc(alias("state", "size", "num_idle"))]
     pub fn status(&self) -> Status {
-        self.shared.look().desk.status()
+        self.shared.look(|state| state.desk.status())
     }
 
     /// How often each thing has happened since the pool was opened, with how it stands, both of one moment. It is printed as
     /// Prometheus reads it, with the pool's name as a label.
     #[must_use]
     pub fn tally(&self) -> Report<'_> {
-        let desk = &mut self.shared.look().desk;
-        Report { name: self.name().unwrap_or_default(), tally: desk.tally(), status: desk.status() }
+        let (tally, status) = self.shared.look(|State { desk, .. }| (desk.tally(), desk.status()));
+        Report { name: self.name().unwrap_or_default(), tally, status }
     }
 
     /// The manager.
@@ -263,6 +366,7 @@ impl<M: Manager, W: From<Object<M>>> Pool<M, W> {
     }
 
     /// A reference that is no handle.
+    #[must_use]
     pub fn weak(&self) -> WeakPool<M> {
         WeakPool { shared: Arc::downgrade(&*self.shared), wrapper: PhantomData }
     }
@@ -274,7 +378,7 @@ impl<M: Manager, W: From<Object<M>>> Pool<M, W> {
     /// If no memory is found for a copy.
     #[must_use]
     pub fn journal(&self) -> Journal {
-        let copy = self.shared.look().desk.journal();
+        let copy = self.shared.look(|state| state.desk.journal());
         let copy = copy.expect("memory for a copy of the journal");
         Journal::of(&copy, copy.full)
     }
@@ -297,15 +401,20 @@ impl<M: Manager, W: From<Object<M>>> fmt::Debug for Pool<M, W> {
 }
 
 /// Gives up the idle objects of which a predicate says no.
+#[allow(clippy::needless_for_each, reason = "it reads as the line below it")]
 fn retained<M: Manager>(
     pool: &Shared<M>,
     mut predicate: impl FnMut(&M::Type, Metrics) -> bool,
 ) -> Result<RetainResult<M::Type>, OutOfMemory> {
-    let given = pool.step(|state| {
+    // (it makes nobody due)
+    let given = pool.look(|state| {
         let mut keep = Vec::new();
-        while let Some(slot) = state.desk.idle_at(keep.len()) {
+        while state.desk.idle_at(keep.len()).is_some() {
             keep.try_reserve(1).map_err(|_| OutOfMemory)?;
-            let is_kept = slot.value.lend(|kept| predicate(&kept.value, kept.metrics));
+            let is_kept = state.lent(|state| {
+                let slot = state.desk.idle_at(keep.len())?;
+                slot.value.lend(|kept| predicate(&kept.value, kept.metrics))
+            });
             keep.push(is_kept.unwrap_or_default());
         }
         state.desk.retain(&mut Choice(keep.into_iter())).map_err(|_| OutOfMemory)
@@ -323,6 +432,7 @@ pub struct WeakPool<M: Manager, W: From<Object<M>> = Object<M>> {
 
 impl<M: Manager, W: From<Object<M>>> WeakPool<M, W> {
     /// A handle more, if one is left.
+    #[must_use]
     pub fn upgrade(&self) -> Option<Pool<M, W>> {
         Pool::upgrade(&self.shared.upgrade()?)
     }
@@ -339,3 +449,8 @@ impl<M: Manager, W: From<Object<M>>> fmt::Debug for WeakPool<M, W> {
         f.debug_struct("WeakPool").finish_non_exhaustive()
     }
 }
+
+#[cfg(test)]
+mod broken;
+#[cfg(test)]
+mod crowd;

@@ -35,6 +35,7 @@ impl<T> HeapCircularBuffer<T> {
     }
 
     /// Where its memory is from.
+    #[allow(clippy::unused_self, reason = "what it stands for keeps its own")]
     pub(crate) fn allocator(&self) -> &Global {
         &Global
     }

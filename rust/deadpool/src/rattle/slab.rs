@@ -42,19 +42,16 @@ impl<T> Slab<T> {
     /// value comes back, and nothing has changed. While a key is vacant again after a removal it takes no memory and ends well.
     pub(crate) fn insert(&mut self, value: T) -> Result<usize, T> {
         let key = self.vacant_key;
-        match self.places.get_mut(key) {
-            Some(place) => {
-                if let Err(vacant_before) = std::mem::replace(place, Ok(value)) {
-                    self.vacant_key = vacant_before;
-                }
+        if let Some(place) = self.places.get_mut(key) {
+            if let Err(vacant_before) = std::mem::replace(place, Ok(value)) {
+                self.vacant_key = vacant_before;
             }
-            None => {
-                if self.places.try_reserve(1).is_err() {
-                    return Err(value);
-                }
-                self.places.push(Ok(value));
-                self.vacant_key = key + 1;
+        } else {
+            if self.places.try_reserve(1).is_err() {
+                return Err(value);
             }
+            self.places.push(Ok(value));
+            self.vacant_key = key + 1;
         }
         self.len += 1;
         Ok(key)

@@ -63,6 +63,7 @@ impl<T> Vec<T> {
     }
 
     /// Where its memory is from.
+    #[allow(clippy::unused_self, reason = "what it stands for keeps its own")]
     pub(crate) fn allocator(&self) -> &Global {
         &Global
     }

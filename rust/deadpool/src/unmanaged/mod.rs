@@ -17,8 +17,9 @@ mod pool;
 
 pub use crate::Status;
 pub use crate::cores::unmanaged_journal::{Report, Tally};
+pub use crate::errors::OutOfMemory;
 pub use crate::journal::Journal;
-pub use config::{PoolConfig, PoolError};
+pub use config::{PoolConfig, PoolError, Settings};
 pub use object::Object;
 pub use pool::Pool;
 

@@ -18,10 +18,11 @@ pub struct Object<T> {
 impl<T> Object<T> {
     /// Takes the value out of the pool for good. There is room for another one.
     #[must_use]
+    #[allow(clippy::missing_panics_doc, reason = "the value is there until this or the drop takes it")]
     pub fn take(mut this: Self) -> T {
         let value = this.value.take().expect("an object has its value");
         this.pool.step(|state| state.desk.make(&Step::Take, &mut None));
-        this.pool.tell_end();
+        this.pool.tell_end(false);
         value.open()
     }
 }
@@ -31,11 +32,14 @@ impl<T> Drop for Object<T> {
     fn drop(&mut self) {
         let Some(value) = self.value.take() else { return };
         let mut hand = Some(Parcel::of(value));
-        self.pool.step(|state| state.desk.make(&Step::Back, &mut hand));
-        if let Some(value) = hand.and_then(|parcel| parcel.take()) {
-            let _tells = self.pool.telling_end();
-            drop(value);
-        }
+        let mut tells = self.pool.telling_end();
+        self.pool.step(|state| {
+            state.desk.make(&Step::Back, &mut hand);
+            if hand.is_some() {
+                tells.depart(state);
+            }
+        });
+        drop(hand.and_then(|parcel| parcel.take()));
     }
 }
 

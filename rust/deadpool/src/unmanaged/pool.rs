@@ -1,19 +1,35 @@
 //! A handle of a pool.
-use super::{Core, Journal, Object, PoolConfig, PoolError, Report};
+use super::{Core, Journal, Object, OutOfMemory, PoolConfig, PoolError, Report, Settings};
 use crate::Status;
 use crate::cores::unmanaged::{Reply, Step};
 use crate::desk::Desk;
 use crate::ending::{alarm_within, drained};
 use crate::parcel::{Boxed, Parcel};
 use crate::rattle::Global;
-use crate::shared::Handle;
+use crate::shared::{Handle, State};
 use crate::timed::Alarm;
+use crate::wait::wait;
 use crate::waiting::{Asked, Turn, Waiting};
 use std::fmt;
 use std::sync::Arc;
 use std::time::Duration;
 
 /// A handle of a pool. With the last one the idle objects are dropped.
+///
+/// ```
+/// use deadpool::unmanaged::{Pool, PoolError};
+///
+/// # fn main() -> Result<(), PoolError> {
+/// let pool = Pool::from([String::from("a letter")]);
+/// let mut letter = pool.get_blocking()?;
+/// letter.push_str(" to you");
+/// drop(letter);
+/// // There is room for one, which is there.
+/// let Err((letter, PoolError::Timeout)) = pool.try_add(String::from("another")) else { panic!("there is no room") };
+/// assert_eq!((letter.as_str(), pool.try_remove()?.as_str()), ("another", "a letter to you"));
+/// # Ok(())
+/// # }
+/// ```
 pub struct Pool<T> {
     shared: Handle<PoolConfig, Core<T>>,
 }
@@ -23,7 +39,7 @@ impl<T> Pool<T> {
     ///
     /// # Panics
     ///
-    /// If no memory is found for them, as [`Pool::try_from_config`] tells.
+    /// If no memory is found for them, as [`Pool::try_from_settings`] tells.
     #[must_use]
     pub fn new(max_size: usize) -> Self {
         Pool::from_config(&PoolConfig::new(max_size))
@@ -36,18 +52,28 @@ impl<T> Pool<T> {
     /// As [`Pool::new`].
     #[must_use]
     pub fn from_config(config: &PoolConfig) -> Self {
-        Pool::try_from_config(config).expect("memory for a pool")
+        Pool::from_settings(&Settings::from(*config))
     }
 
-    /// A pool of a configuration.
+    /// A pool of settings.
+    ///
+    /// # Panics
+    ///
+    /// As [`Pool::new`].
+    #[must_use]
+    pub fn from_settings(settings: &Settings) -> Self {
+        Pool::try_from_settings(settings).expect("memory for a pool")
+    }
+
+    /// A pool of settings.
     ///
     /// # Errors
     ///
-    /// `OutOfMemory`, if no memory is found for as many objects and entries.
-    pub fn try_from_config(config: &PoolConfig) -> Result<Self, PoolError> {
-        let desk = Core::new(Global, config.max_size, config.journal).map_err(|_| PoolError::OutOfMemory)?;
-        let desk = desk.bounded(config.max_waiting);
-        Ok(Pool { shared: Handle::new(*config, desk, config.journal > 0) })
+    /// If no memory is found for as many objects and entries.
+    pub fn try_from_settings(settings: &Settings) -> Result<Self, OutOfMemory> {
+        let Settings { config, max_waiting, journal } = *settings;
+        let desk = Core::new(Global, config.max_size, journal).map_err(|_| OutOfMemory)?;
+        Ok(Pool { shared: Handle::new(config, desk.bounded(max_waiting), journal > 0) })
     }
 
     /// An object, within the configured timeout.
@@ -55,8 +81,29 @@ impl<T> Pool<T> {
     /// # Errors
     ///
     /// Each [`PoolError`] says when it comes.
+    ///
+    /// # Cancel safety
+    ///
+    /// It can be dropped at any await, and then leaves the queue. Who drops it loses its turn there.
+    ///
+    /// # Panics
+    ///
+    /// `Runtime::Tokio1` with its feature panics outside of tokio, if a timeout begins there.
     pub async fn get(&self) -> Result<Object<T>, PoolError> {
         self.timeout_get(self.shared.setup.timeout).await
+    }
+
+    /// An object, for which this thread [waits](crate::wait()). A task of an executor awaits [`Pool::get`] instead.
+    ///
+    /// # Errors
+    ///
+    /// As of [`Pool::get`].
+    ///
+    /// # Panics
+    ///
+    /// As of [`Pool::get`].
+    pub fn get_blocking(&self) -> Result<Object<T>, PoolError> {
+        wait(self.get())
     }
 
     /// An object, if one is free.
@@ -76,13 +123,22 @@ impl<T> Pool<T> {
     /// # Errors
     ///
     /// As of [`Pool::get`].
+    ///
+    /// # Cancel safety
+    ///
+    /// As of [`Pool::get`].
+    ///
+    /// # Panics
+    ///
+    /// As of [`Pool::get`].
     pub async fn timeout_get(&self, timeout: Option<Duration>) -> Result<Object<T>, PoolError> {
         if timeout == Some(Duration::ZERO) {
             return self.try_get();
         }
         let alarm = Alarm::after(timeout, self.shared.setup.runtime).ok_or(PoolError::NoRuntimeSpecified)?;
         let cancel = |desk: &mut Core<T>, ticket| _ = desk.make(&Step::GetCancel { ticket }, &mut None);
-        let get = Waiting { pool: &self.shared, wakers: |state| &mut state.gets, cancel, ticket: None };
+        let get =
+            Waiting { pool: &self.shared, wakers: |state| &mut state.gets, cancel, ticket: None, may_yield: true };
         let got = get.ask(alarm, |desk, asked| got(desk, true, asked), || Err(PoolError::OutOfMemory)).await;
         Ok(self.object(got?))
     }
@@ -95,10 +151,15 @@ impl<T> Pool<T> {
     ///
     /// # Errors
     ///
-    /// The object, if the pool has closed or no memory is found.
+    /// The object, if the pool has closed, too many wait or no memory is found.
+    ///
+    /// # Cancel safety
+    ///
+    /// It can be dropped at any await, and then leaves the queue. The object is dropped with it.
     pub async fn add(&self, object: T) -> Result<(), (T, PoolError)> {
         let cancel = |desk: &mut Core<T>, ticket| _ = desk.make(&Step::AddCancel { ticket }, &mut None);
-        let add = Waiting { pool: &self.shared, wakers: |state| &mut state.adds, cancel, ticket: None };
+        let add =
+            Waiting { pool: &self.shared, wakers: |state| &mut state.adds, cancel, ticket: None, may_yield: true };
         let mut value = Some(Boxed::new(object).map_err(|object| (object, PoolError::OutOfMemory))?);
         let step = |desk: &mut Core<T>, asked: Asked| match asked {
             None => stored(desk, &Step::AddEnter { wait: true }, &mut value),
@@ -126,6 +187,14 @@ impl<T> Pool<T> {
     /// # Errors
     ///
     /// As of [`Pool::get`].
+    ///
+    /// # Cancel safety
+    ///
+    /// As of [`Pool::get`]: no object is taken then.
+    ///
+    /// # Panics
+    ///
+    /// As of [`Pool::get`].
     pub async fn remove(&self) -> Result<T, PoolError> {
         self.get().await.map(Object::take)
     }
@@ -144,6 +213,14 @@ impl<T> Pool<T> {
     /// # Errors
     ///
     /// As of [`Pool::timeout_get`].
+    ///
+    /// # Cancel safety
+    ///
+    /// As of [`Pool::remove`].
+    ///
+    /// # Panics
+    ///
+    /// As of [`Pool::get`].
     pub async fn timeout_remove(&self, timeout: Option<Duration>) -> Result<T, PoolError> {
         self.timeout_get(timeout).await.map(Object::take)
     }
@@ -154,6 +231,10 @@ impl<T> Pool<T> {
     }
 
     /// Closes the pool, as [`Pool::close`], and waits until no object is out. Who has an object of its own waits for good.
+    ///
+    /// # Cancel safety
+    ///
+    /// It can be dropped at any await. Once it was polled the pool stays closed, and another one waits for the same.
     pub async fn drain(&self) {
         let _ = drained(&self.shared, Alarm::Unset).await;
     }
@@ -163,19 +244,28 @@ impl<T> Pool<T> {
     /// # Errors
     ///
     /// How the pool stands if an object is out then. It stays closed.
+    ///
+    /// # Cancel safety
+    ///
+    /// As of [`Pool::drain`].
+    ///
+    /// # Panics
+    ///
+    /// `Runtime::Tokio1` with its feature panics outside of tokio.
     pub async fn drain_for(&self, most: Duration) -> Result<(), Status> {
         drained(&self.shared, alarm_within(most, self.shared.setup.runtime)).await
     }
 
     /// Whether the pool has closed.
+    #[must_use]
     pub fn is_closed(&self) -> bool {
-        self.shared.look().desk.is_closed()
+        self.shared.look(|state| state.desk.is_closed())
     }
 
     /// How the pool stands.
     #[must_use]
     pub fn status(&self) -> Status {
-        self.shared.look().desk.status()
+        self.shared.look(|state| state.desk.status())
     }
 
     /// How often each thing has happened since the pool was opened, with how it stands, both of one moment. It is printed as
@@ -193,16 +283,16 @@ impl<T> Pool<T> {
     /// ```
     #[must_use]
     pub fn tally(&self) -> Report<'static> {
-        let desk = &mut self.shared.look().desk;
-        Report { name: "", tally: desk.tally(), status: desk.status() }
+        let (tally, status) = self.shared.look(|State { desk, .. }| (desk.tally(), desk.status()));
+        Report { name: "", tally, status }
     }
 
-    /// The steps that the pool has made, of which [`PoolConfig::journal`] says how many are noted. An object has no name there.
+    /// The steps that the pool has made, of which [`Settings::journal`] says how many are noted. An object has no name there.
     ///
     /// ```
-    /// use deadpool::unmanaged::{Pool, PoolConfig, PoolError};
+    /// use deadpool::unmanaged::{Pool, PoolConfig, PoolError, Settings};
     ///
-    /// let pool = Pool::from_config(&PoolConfig { journal: 100, ..PoolConfig::new(1) });
+    /// let pool = Pool::from_settings(&Settings { journal: 100, ..PoolConfig::new(1).into() });
     /// assert!(pool.try_add("a letter").is_ok());
     /// drop(pool.try_get()?);
     /// assert_eq!(pool.journal().entries, ["add at_once _ stored", "get at_once object _", "back _ kept"]);
@@ -214,7 +304,7 @@ impl<T> Pool<T> {
     /// If no memory is found for a copy.
     #[must_use]
     pub fn journal(&self) -> Journal {
-        let copy = self.shared.look().desk.journal();
+        let copy = self.shared.look(|state| state.desk.journal());
         let copy = copy.expect("memory for a copy of the journal");
         Journal::of(&copy, copy.full)
     }
@@ -228,14 +318,11 @@ where
 {
     fn from(objects: I) -> Self {
         let objects = objects.into_iter();
-        let pool = Pool::new(objects.len());
-        for object in objects {
-            match pool.try_add(object) {
-                Ok(()) => {}
-                Err((_, PoolError::OutOfMemory)) => panic!("no memory for an object"),
-                // (the iterator has more than it said)
-                Err(_) => break,
-            }
+        let count = objects.len();
+        let pool = Pool::new(count);
+        // (an iterator may have more than it said)
+        for object in objects.take(count) {
+            assert!(pool.try_add(object).is_ok(), "no memory for an object");
         }
         pool
     }
@@ -301,3 +388,6 @@ fn added<T>(value: Option<Boxed<T>>, end: Result<(), PoolError>) -> Result<(), (
         _ => Ok(()),
     }
 }
+
+#[cfg(test)]
+mod broken;

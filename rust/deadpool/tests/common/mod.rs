@@ -1,6 +1,8 @@
 //! What the tests share: a small executor, futures that are polled by hand, and managers.
 #![allow(dead_code)]
 
+pub mod refusals;
+
 use deadpool::managed::{Manager, Metrics, RecycleResult};
 use std::convert::Infallible;
 use std::future::Future;

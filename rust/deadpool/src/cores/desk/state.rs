@@ -22,13 +22,13 @@ pub struct Core<T> {
     places: Places,
     // The idle objects, front to back.
     ring: HeapCircularBuffer<Slot<T>>,
+    gate: Gate,
     handles: u64,
     mode: QueueMode,
-    gate: Gate,
-    next: usize,
-    min_idle: usize,
     // How many gets may wait. So many as the greatest number never do.
     max_waiting: usize,
+    next: usize,
+    min_idle: usize,
 }
 
 // The next idle object leaves the ring.

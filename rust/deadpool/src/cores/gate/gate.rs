@@ -1,4 +1,4 @@
-// Made by .ci/made-rust of crates/deadpool_gate/src/gate.rt, without its contracts. The proof is of that text.
+// Made by .ci/made-rust of crates/deadpool_gate/src/gate.rt, without its contracts and its counter of accesses. The proof is of that text.
 //! The line at a pool: those that found no place, in order of arrival, and what each of them was answered.
 
 mod store;
@@ -79,11 +79,9 @@ pub struct Gate {
     granted: usize,
     waiting: usize,
     is_closed: bool,
-    first: Option<usize>,
     last: Option<usize>,
+    first: Option<usize>,
     store: NodeStore,
-    // The accesses that the store had counted when the last call on `&mut self` began.
-    accesses_before: u128,
 }
 
 // Where a pointer points once the node under `key` has gone, behind which stands `behind`.
@@ -109,7 +107,6 @@ impl Gate {
     pub fn new(alloc: Global) -> Self {
         Gate {
             store: NodeStore::new(alloc),
-            accesses_before: 0,
             first: None,
             last: None,
             first_waiting: None,
@@ -125,7 +122,6 @@ impl Gate {
     /// has is not free. After any answer but `Waiting` the list is as it was, and the caller may enter again.
     #[inline]
     pub fn enter(&mut self, room: usize, wait: bool) -> Entry {
-        self.accesses_before = self.store.accesses();
         if self.is_closed {
             return Entry::Closed;
         }
@@ -173,7 +169,6 @@ impl Gate {
     /// places are no longer free. Nobody is told of it here.
     #[inline]
     pub fn settle(&mut self, room: usize) -> usize {
-        self.accesses_before = self.store.accesses();
         let count = if self.is_closed { 0 } else { room.min(self.waiting()) };
         for _given in 0..count {
             self.grant_one();
@@ -206,7 +201,6 @@ impl Gate {
     /// Whether a waiter is listed under the ticket and has a place. It stays as it is.
     #[inline]
     pub fn has_place(&mut self, ticket: Ticket) -> bool {
-        self.accesses_before = self.store.accesses();
         match self.store.read(ticket.number) {
             Some(node) => node.granted,
             None => false,
@@ -217,7 +211,6 @@ impl Gate {
     /// `Waiting` it keeps its position and asks again later. `Unknown` changes nothing.
     #[inline]
     pub fn ask(&mut self, ticket: Ticket) -> Ask {
-        self.accesses_before = self.store.accesses();
         if self.is_closed {
             return match self.remove(ticket.number) {
                 Some(_) => Ask::Closed,
@@ -238,7 +231,6 @@ impl Gate {
     /// and a place that it had is free. `Unknown` changes nothing.
     #[inline]
     pub fn withdraw(&mut self, ticket: Ticket) -> Withdrawn {
-        self.accesses_before = self.store.accesses();
         match self.remove(ticket.number) {
             Some(true) => Withdrawn::Granted,
             Some(false) => Withdrawn::Waiting,
@@ -250,7 +242,6 @@ impl Gate {
     /// ask or withdraw.
     #[inline]
     pub fn close(&mut self) {
-        self.accesses_before = self.store.accesses();
         self.is_closed = true;
     }
 
@@ -258,7 +249,6 @@ impl Gate {
     /// this answer it counts as told. It stays in the list until it asks or withdraws.
     #[inline]
     pub fn take_wake(&mut self) -> Option<Ticket> {
-        self.accesses_before = self.store.accesses();
         let key = self.first_unnotified?;
         if !self.is_closed && self.first_waiting == Some(key) {
             return None;
@@ -294,12 +284,5 @@ impl Gate {
     #[inline]
     pub fn waiting(&self) -> usize {
         self.waiting
-    }
-
-    /// How many accesses to nodes the last call on `&mut self` made: reads, writes of one field, nodes put in and nodes
-    /// taken out. Calls on `&self` make none, and leave this as it is. So does a `settle_within` while nobody waits.
-    #[inline]
-    pub fn touched(&self) -> u128 {
-        self.store.accesses().saturating_sub(self.accesses_before)
     }
 }

@@ -20,12 +20,12 @@ use crate::rattle::{AllocError, Global};
 #[repr(C)]
 pub struct Journaled<T> {
     core: Core<T>,
+    tally: Tally,
     log: Log,
     limit: usize,
     mode: QueueMode,
     min_idle: usize,
     max_waiting: Option<usize>,
-    tally: Tally,
 }
 
 // How many objects there are.

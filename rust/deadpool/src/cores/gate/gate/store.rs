@@ -1,4 +1,4 @@
-// Made by .ci/made-rust of crates/deadpool_gate/src/gate/store.rt, without its contracts. The proof is of that text.
+// Made by .ci/made-rust of crates/deadpool_gate/src/gate/store.rt, without its contracts and its counter of accesses. The proof is of that text.
 //! The nodes of a gate. They are reached only through this store, which counts each access to one of them.
 
 use crate::rattle::Slab;
@@ -35,23 +35,15 @@ impl Node {
 }
 
 /// The nodes under their keys.
-#[repr(C)]
 pub struct NodeStore {
     nodes: Slab<Node>,
-    accesses: u128,
 }
 
 impl NodeStore {
     /// No nodes, and no memory for any.
     #[inline]
     pub fn new(alloc: Global) -> Self {
-        NodeStore { nodes: Slab::new(alloc), accesses: 0 }
-    }
-
-    /// How many accesses there were so far. It never falls; at the greatest number it stays.
-    #[inline]
-    pub fn accesses(&self) -> u128 {
-        self.accesses
+        NodeStore { nodes: Slab::new(alloc) }
     }
 
     /// The key that the next node gets. It is no access to a node.
@@ -63,14 +55,12 @@ impl NodeStore {
     /// Reads a node: one access.
     #[inline]
     pub fn read(&mut self, key: usize) -> Option<Node> {
-        self.accesses = self.accesses.saturating_add(1);
         self.nodes.get(key).copied()
     }
 
     /// Writes one field of a node, if there is one under the key: one access.
     #[inline]
     pub fn write(&mut self, key: usize, change: Change) {
-        self.accesses = self.accesses.saturating_add(1);
         if let Some(node) = self.nodes.get_mut(key) {
             *node = node.with(change);
         }
@@ -80,7 +70,6 @@ impl NodeStore {
     /// all numbers is taken to be more nodes than any memory has.
     #[inline]
     pub fn put(&mut self, node: Node) -> Result<usize, AllocError> {
-        self.accesses = self.accesses.saturating_add(1);
         if self.nodes.len() >= usize::MAX / 2 {
             return Err(AllocError);
         }
@@ -93,7 +82,6 @@ impl NodeStore {
     /// Takes a node out: one access. Its key may be given again.
     #[inline]
     pub fn take(&mut self, key: usize) -> Option<Node> {
-        self.accesses = self.accesses.saturating_add(1);
         self.nodes.try_remove(key)
     }
 }

@@ -1,0 +1,206 @@
+//! What executes an order: that of a get, of a return or of a take. What is held and what follows is the order's to say.
+//!
+//! The executor is trusted for two rules. **A step and its event are one**: its reply is told under the lock, and no code of a user's
+//! runs between. **All else is told before it is called**, and what takes the hand empties it before it calls. So whenever code of a
+//! user's runs, the order knows what is held, and what is left to do if that code never comes back.
+use super::object::Kept;
+use super::{Core, Manager, Shared};
+use crate::cores::desk::{Desk, Reply, Slot, Step};
+use crate::cores::order::{Cause, Command, HookCounts, Order};
+use crate::parcel::{Boxed, Parcel};
+use crate::shared::{State, go_on};
+use std::mem::replace;
+use std::panic::{AssertUnwindSafe, catch_unwind};
+use std::task::Waker;
+use std::thread;
+
+/// An order under way, over a pool. If it is dropped before its end, all that it holds is given back.
+pub(super) struct Executor<'a, M: Manager> {
+    pub(super) pool: &'a Shared<M>,
+    pub(super) order: Order,
+    /// The hand.
+    pub(super) kept: Option<Boxed<Kept<M>>>,
+    /// Whether what a step let go of is still to be detached or dropped.
+    departs: bool,
+}
+
+impl<'a, M: Manager> Executor<'a, M> {
+    pub(super) fn new(pool: &'a Shared<M>, order: Order, kept: Option<Boxed<Kept<M>>>) -> Self {
+        Executor { pool, order, kept, departs: false }
+    }
+
+    #[inline(always)]
+    fn counts(&self) -> HookCounts {
+        let hooks = &self.pool.setup.hooks;
+        HookCounts {
+            pre_recycle: hooks.pre_recycle.len(),
+            post_recycle: hooks.post_recycle.len(),
+            post_create: hooks.post_create.len(),
+        }
+    }
+
+    /// A step and its event. An object that it gives, or gives back, is in the hand then.
+    #[inline(always)]
+    fn tell(
+        &mut self,
+        state: &mut State<Core<M>>,
+        step: &Step,
+        brought: &mut Option<Slot<Parcel<Kept<M>>>>,
+    ) -> Command {
+        let reply = state.desk.make(step, brought);
+        if let Some(slot) = brought.take() {
+            self.kept = slot.value.take();
+        }
+        if let (Reply::Number(number), Some(kept)) = (reply, &mut self.kept) {
+            kept.number = number;
+        }
+        let command = self.order.replied(&self.counts(), step, reply);
+        // (a get that goes on with its place is no end)
+        let is_end = matches!(command, Command::Part | Command::Detach | Command::Release | Command::Tell);
+        if is_end && !matches!(step, Step::Discard) && !replace(&mut self.departs, true) {
+            state.depart();
+        }
+        command
+    }
+
+    /// Makes a step, and tells its reply.
+    #[inline(always)]
+    pub(super) fn make(&mut self, step: &Step) -> Command {
+        let pool = self.pool;
+        pool.step(|state| self.tell(state, step, &mut None))
+    }
+
+    /// The same of the object in the hand, which comes back.
+    #[inline(always)]
+    pub(super) fn give_back(&mut self) -> Command {
+        let pool = self.pool;
+        let mut brought = self.kept.take().map(|kept| Slot { number: kept.number, value: Parcel::of(kept) });
+        pool.step(|state| self.tell(state, &Step::Back, &mut brought))
+    }
+
+    /// Makes a step that asks for a place. While its get waits, the pool has its waker.
+    #[inline(always)]
+    pub(super) fn ask(&mut self, step: &Step, waker: &Waker) -> Command {
+        let pool = self.pool;
+        // (a waker that is replaced or not needed any more is dropped without the lock)
+        let (command, _stale) = pool.step(|state| {
+            let command = self.tell(state, step, &mut None);
+            match (command, step) {
+                (Command::Wait(ticket), _) => match state.lent(|state| state.gets.keep(ticket.number(), waker)) {
+                    Ok(stale) => (command, stale),
+                    Err(_) => (self.order.unheard(), None),
+                },
+                (_, Step::Ask { ticket, .. }) => (command, state.gets.take(ticket.number())),
+                _ => (command, None),
+            }
+        });
+        command
+    }
+
+    /// Makes the step that the order has. By one of them a get leaves the queue, with its waker.
+    #[inline(never)]
+    fn make_rarely(&mut self) -> Command {
+        let pool = self.pool;
+        match self.order.step() {
+            Step::Withdraw { ticket } => {
+                let step = Step::Withdraw { ticket };
+                let take = |state: &mut State<Core<M>>| state.gets.take(ticket.number());
+                pool.step(|state| (self.tell(state, &step, &mut None), take(state))).0
+            }
+            step => self.make(&step),
+        }
+    }
+
+    /// The value that was made goes into the hand, if memory is found for it.
+    #[inline(always)]
+    pub(super) fn created(&mut self, value: M::Type) -> Command {
+        match Boxed::new(Kept::new(value)) {
+            Ok(kept) => {
+                self.kept = Some(kept);
+                self.ready()
+            }
+            Err(_) => self.order.failed(Cause::OutOfMemory),
+        }
+    }
+
+    /// A call has ended well.
+    #[inline(always)]
+    pub(super) fn ready(&mut self) -> Command {
+        let counts = self.counts();
+        self.order.ready(&counts)
+    }
+
+    /// A call has ended its get, which ends at once.
+    #[cold]
+    pub(super) fn fail(&mut self, cause: Cause) {
+        let command = self.order.failed(cause);
+        self.execute_rarely(command);
+    }
+
+    /// The object leaves the hand for whoever has asked for it.
+    #[inline(always)]
+    pub(super) fn given(&mut self) -> Option<Boxed<Kept<M>>> {
+        self.order.gives();
+        self.kept.take()
+    }
+
+    #[inline(never)]
+    pub(super) fn execute_rarely(&mut self, command: Command) -> Command {
+        self.execute(command)
+    }
+
+    /// Executes what needs no wait, and gives the first command that does.
+    #[inline(always)]
+    pub(super) fn execute(&mut self, mut command: Command) -> Command {
+        loop {
+            command = match command {
+                Command::Make => self.make_rarely(),
+                Command::Back => self.give_back(),
+                Command::Detach | Command::Part => {
+                    let next = self.order.begins();
+                    if let Some(kept) = &mut self.kept {
+                        self.pool.setup.manager.detach(&mut kept.value);
+                    }
+                    next
+                }
+                Command::Release => {
+                    let next = self.order.begins();
+                    drop(self.kept.take());
+                    next
+                }
+                Command::Tell => {
+                    let next = self.order.begins();
+                    self.pool.tell_end(replace(&mut self.departs, false));
+                    next
+                }
+                _ => return command,
+            };
+        }
+    }
+
+    /// Ends, as it is dropped or a call has panicked. A call that panics here ends no other: the first panic goes on at the end.
+    #[cold]
+    fn end(&mut self) {
+        let ended = self.end_once();
+        if ended.is_err() {
+            while !self.order.is_over() {
+                _ = self.end_once();
+            }
+            go_on(ended);
+        }
+    }
+
+    fn end_once(&mut self) -> thread::Result<()> {
+        let command = self.order.dropped();
+        catch_unwind(AssertUnwindSafe(|| _ = self.execute(command)))
+    }
+}
+
+impl<M: Manager> Drop for Executor<'_, M> {
+    #[inline]
+    fn drop(&mut self) {
+        if !self.order.is_over() {
+            self.end();
+        }
+    }
+}

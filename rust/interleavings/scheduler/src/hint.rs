@@ -1,0 +1,3 @@
+//! A spin is no operation: who spins asks again, and that is one.
+
+pub fn spin_loop() {}
