@@ -26,7 +26,7 @@ async fn main() -> Result<(), Box<dyn Error>> {
     let builder = Pool::builder(Numbers).max_size(2).runtime(Runtime::Tokio1);
     let builder = builder.wait_timeout(Some(second)).create_timeout(Some(5 * second)).recycle_timeout(Some(second));
     // A hook that refuses a new object ends the get. One that refuses an idle object has it given up, and the get goes on.
-    let builder = builder.post_create(Hook::async_fn(|number, _| {
+    let builder = builder.post_create(Hook::async_fn(|number: &mut u64, _| {
         Box::pin(async move {
             tokio::task::yield_now().await;
             *number = 7;

@@ -1,10 +1,12 @@
 //! What each feature has: tokio's and async-std's own timers and threads, names, and configurations in JSON.
 use deadpool::managed::{
-    Limits, Manager, Metrics, Pool, PoolConfig, PoolError, QueueMode, RecycleResult, TimeoutType, Timeouts,
+    Limits, Manager, Metrics, Pool, PoolConfig, PoolError, QueueMode, RecycleResult, Settings, TimeoutType, Timeouts,
 };
 use deadpool::{Runtime, SpawnBlockingError, unmanaged};
 use std::convert::Infallible;
 use std::future::pending;
+use std::sync::Arc;
+use std::sync::atomic::{AtomicBool, Ordering};
 use std::time::{Duration, Instant};
 
 const HOUR: Duration = Duration::from_secs(3600);
@@ -53,6 +55,28 @@ async fn an_hour_of_tokios_paused_clock_passes_at_once() {
     assert!(begun.elapsed() < HOUR / 60, "no hour of real time has passed");
     drop(object);
     assert_eq!(*waits.get().await.expect("the object is back"), 0);
+}
+
+#[tokio::test]
+async fn a_loop_of_gets_lets_another_task_of_its_thread_run() {
+    let (managed, has_run) = (pool(false, Runtime::Tokio1, Timeouts::new()), Arc::new(AtomicBool::new(false)));
+    let added = unmanaged::Pool::from([0]);
+    for is_managed in [true, false] {
+        has_run.store(false, Ordering::SeqCst);
+        let flag = has_run.clone();
+        let other = tokio::spawn(async move { flag.store(true, Ordering::SeqCst) });
+        let mut gets = 0;
+        while !has_run.load(Ordering::SeqCst) && gets < 1000 {
+            if is_managed {
+                drop(managed.get().await.expect("an object"));
+            } else {
+                drop(added.get().await.expect("an object"));
+            }
+            gets += 1;
+        }
+        assert!(gets <= 129, "{gets}");
+        other.await.expect("it does not panic");
+    }
 }
 
 #[tokio::test]
@@ -116,22 +140,24 @@ fn configurations_are_read_and_written() {
 
 #[test]
 fn a_bound_is_written_if_it_is_set() {
-    let config = PoolConfig { max_waiting: Some(0), ..PoolConfig::new(3) };
-    let text = serde_json::to_string(&config).expect("a text");
+    let settings = Settings { max_waiting: Some(0), ..PoolConfig::new(3).into() };
+    let text = serde_json::to_string(&settings).expect("a text");
     assert!(text.ends_with(r#","queue_mode":"Fifo","max_waiting":0}"#), "{text}");
-    let read: PoolConfig = serde_json::from_str(&text).expect("a configuration");
-    assert_eq!(read.max_waiting, Some(0));
-    let config = unmanaged::PoolConfig { max_waiting: Some(7), ..unmanaged::PoolConfig::new(3) };
-    let text = serde_json::to_string(&config).expect("a text");
+    let read: Settings = serde_json::from_str(&text).expect("settings");
+    assert_eq!((read.config.max_size, read.max_waiting), (3, Some(0)));
+    let settings = unmanaged::Settings { max_waiting: Some(7), ..unmanaged::PoolConfig::new(3).into() };
+    let text = serde_json::to_string(&settings).expect("a text");
     assert_eq!(text, r#"{"max_size":3,"timeout":null,"max_waiting":7}"#);
-    let read: unmanaged::PoolConfig = serde_json::from_str(&text).expect("a configuration");
-    assert_eq!(read.max_waiting, Some(7));
+    let read: unmanaged::Settings = serde_json::from_str(&text).expect("settings");
+    assert_eq!((read.config.max_size, read.max_waiting), (3, Some(7)));
     for text in [r#"{"max_size":3,"timeout":null}"#, r#"{"max_size":3,"timeout":null,"max_waiting":null}"#] {
-        let managed: PoolConfig = serde_json::from_str(text).expect("a configuration");
-        let unmanaged: unmanaged::PoolConfig = serde_json::from_str(text).expect("a configuration");
+        let managed: Settings = serde_json::from_str(text).expect("settings");
+        let unmanaged: unmanaged::Settings = serde_json::from_str(text).expect("settings");
         assert_eq!((managed.max_waiting, unmanaged.max_waiting), (None, None));
+        assert!(!serde_json::to_string(&managed).expect("a text").contains("max_waiting"));
     }
-    assert!(serde_json::from_str::<PoolConfig>(r#"{"max_size":3,"max_waiting":-1}"#).is_err());
+    assert!(serde_json::from_str::<Settings>(r#"{"max_size":3,"max_waiting":-1}"#).is_err());
+    assert!(serde_json::from_str::<Settings>(r#"{"max_waiting":1}"#).is_err(), "the limit has no default");
     let limits: Limits = serde_json::from_str(r#"{"uses":3}"#).expect("what is not there is no limit");
     assert_eq!(limits, Limits::none().uses(3));
 }

@@ -11,11 +11,11 @@ fn shown<T: Debug>(read: serde_json::Result<T>) -> String {
 }
 
 fn managed_shown(text: &str) -> String {
-    shown(serde_json::from_str(text).map(|Strict::<managed::PoolConfig>(config)| config))
+    shown(serde_json::from_str(text).map(|Strict::<managed::Settings>(settings)| settings))
 }
 
 fn unmanaged_shown(text: &str) -> String {
-    shown(serde_json::from_str(text).map(|Strict::<unmanaged::PoolConfig>(config)| config))
+    shown(serde_json::from_str(text).map(|Strict::<unmanaged::Settings>(settings)| settings))
 }
 
 /// What stands before the arrow of each line is read as what stands behind it.
@@ -75,17 +75,34 @@ fn what_is_known_is_read_as_ever() {
     for text in [
         r#"{"max_size":3}"#,
         r#"{"max_size":3,"max_waiting":null}"#,
+        r#"{"max_size":3,"max_waiting":0}"#,
         r#"{"max_size":3,"timeouts":{"wait":{"secs":1,"nanos":2},"create":null},"queue_mode":"Lifo","max_waiting":9}"#,
         r#"{"queue_mode":"Fifo","max_size":0,"timeouts":{"recycle":{"nanos":4294967295,"secs":0}}}"#,
     ] {
-        assert_eq!(managed_shown(text), shown(serde_json::from_str::<managed::PoolConfig>(text)));
-        assert!(managed_shown(text).starts_with("PoolConfig"), "{text}");
+        assert_eq!(managed_shown(text), shown(serde_json::from_str::<managed::Settings>(text)));
+        assert!(managed_shown(text).starts_with("Settings"), "{text}");
     }
-    for text in [r#"{"max_size":3}"#, r#"{"max_size":3,"timeout":{"secs":1,"nanos":2},"max_waiting":9}"#] {
-        assert_eq!(unmanaged_shown(text), shown(serde_json::from_str::<unmanaged::PoolConfig>(text)));
-        assert!(unmanaged_shown(text).starts_with("PoolConfig"), "{text}");
+    for text in [
+        r#"{"max_size":3}"#,
+        r#"{"max_size":3,"max_waiting":0}"#,
+        r#"{"max_size":3,"timeout":{"secs":1,"nanos":2},"max_waiting":9}"#,
+    ] {
+        assert_eq!(unmanaged_shown(text), shown(serde_json::from_str::<unmanaged::Settings>(text)));
+        assert!(unmanaged_shown(text).starts_with("Settings"), "{text}");
     }
-    let config = managed::PoolConfig::new(4);
-    let written = serde_json::to_string(&config).expect("a text");
-    assert_eq!(managed_shown(&written), format!("{config:?}"));
+    let settings = managed::Settings { max_waiting: Some(5), ..managed::PoolConfig::new(4).into() };
+    let written = serde_json::to_string(&settings).expect("a text");
+    assert_eq!(managed_shown(&written), format!("{settings:?}"));
+}
+
+/// What settings have beside a configuration is no key of a configuration alone.
+#[test]
+fn a_configuration_alone_has_its_own_keys() {
+    let (bounded, plain) = (r#"{"max_size":1,"max_waiting":1}"#, r#"{"max_size":1}"#);
+    let managed = |text| shown(serde_json::from_str(text).map(|Strict::<managed::PoolConfig>(config)| config));
+    let unmanaged = |text| shown(serde_json::from_str(text).map(|Strict::<unmanaged::PoolConfig>(config)| config));
+    assert_eq!([managed(bounded), unmanaged(bounded)], ["max_waiting: no key of a pool"; 2]);
+    assert_eq!(managed(plain), shown(serde_json::from_str::<managed::PoolConfig>(plain)));
+    assert_eq!(unmanaged(plain), shown(serde_json::from_str::<unmanaged::PoolConfig>(plain)));
+    assert!(managed(plain).starts_with("PoolConfig") && unmanaged(plain).starts_with("PoolConfig"));
 }

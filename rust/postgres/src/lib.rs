@@ -24,6 +24,7 @@
 
 mod client;
 mod config;
+mod generic;
 mod manager;
 mod options;
 mod statements;
@@ -31,6 +32,7 @@ mod transaction;
 
 pub use client::ClientWrapper;
 pub use config::{Config, ConfigError};
+pub use generic::GenericClient;
 pub use manager::{ConfigConnectImpl, Connect, Manager};
 pub use options::{ChannelBinding, ManagerConfig, RecyclingMethod, SslMode, TargetSessionAttrs};
 pub use statements::{StatementCache, StatementCaches};

@@ -2,7 +2,9 @@
 mod common;
 
 use common::{cut, end_all, judge, open, pool, until_open};
-use deadpool_postgres::{Client, Hook, HookError, Manager, ManagerConfig, Object, Pool, PoolError, RecyclingMethod};
+use deadpool_postgres::{
+    Client, GenericClient, Hook, HookError, Manager, ManagerConfig, Object, Pool, PoolError, RecyclingMethod,
+};
 use deadpool_postgres::{Runtime, TimeoutType, Timeouts};
 use std::time::Duration;
 use tokio_postgres::types::Type;
@@ -36,6 +38,35 @@ async fn a_statement_is_prepared_once() {
     assert_eq!(client.statement_cache.size(), 1);
     pool.manager().statement_caches.clear();
     assert_eq!(client.statement_cache.size(), 0);
+}
+
+/// Adds a word, by what may be a connection or a transaction.
+async fn add(client: &impl GenericClient, word: &str) -> i64 {
+    let add = client.prepare_cached("INSERT INTO words VALUES ($1)").await.expect("a statement");
+    assert_eq!(client.execute(&add, &[&word]).await.expect("it is added"), 1);
+    client.query_one("SELECT count(*) FROM words", &[]).await.expect("a row").get(0)
+}
+
+#[tokio::test]
+async fn a_function_is_lent_a_connection_or_a_transaction() {
+    let pool = pool("generic", 1, RecyclingMethod::Fast);
+    let mut client = pool.get().await.expect("a connection");
+    client.batch_execute("CREATE TEMP TABLE words (word text)").await.expect("a table");
+    // (as a task's, whose future goes to another thread)
+    let added = tokio::spawn(async move {
+        let first = [add(&client, "by an object").await, add(&*client, "by a connection").await];
+        let mut transaction = GenericClient::transaction(&mut client).await.expect("it begins");
+        let within = add(&transaction, "by a transaction").await;
+        let inner = GenericClient::transaction(&mut transaction).await.expect("it begins");
+        let innermost = add(&inner, "within it").await;
+        drop(inner);
+        drop(transaction);
+        (first, within, innermost, client)
+    });
+    let (first, within, innermost, client) = added.await.expect("it does not panic");
+    assert_eq!((first, within, innermost), ([1, 2], 3, 4));
+    assert_eq!(text_of(&client, "SELECT string_agg(word, ', ') FROM words").await, "by an object, by a connection");
+    assert_eq!(client.statement_cache.size(), 1);
 }
 
 #[tokio::test]

@@ -20,9 +20,10 @@ fn open() -> Result<Pool, Fault> {
     config.manager = Some(ManagerConfig { recycling_method: RecyclingMethod::Verified });
     let seconds = |count| Some(Duration::from_secs(count));
     let timeouts = Timeouts { wait: Some(Duration::from_millis(100)), create: seconds(5), recycle: seconds(1) };
+    config.pool = Some(PoolConfig { timeouts, ..PoolConfig::new(8) });
     // One more than may wait is refused at once, so that it can tell its own client to come back later.
-    config.pool = Some(PoolConfig { timeouts, max_waiting: Some(48), ..PoolConfig::new(8) });
-    Ok(config.builder(NoTls)?.name("orders").runtime(Runtime::Tokio1).pre_recycle(LIMITS).build()?)
+    let builder = config.builder(NoTls)?.name("orders").max_waiting(Some(48));
+    Ok(builder.runtime(Runtime::Tokio1).pre_recycle(LIMITS).build()?)
 }
 
 /// Waits until the keeper has given up all that is idle.
