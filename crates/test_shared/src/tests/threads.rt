@@ -1,3 +1,0 @@
-//! A shared pool between threads.
-mod chaos;
-mod jobs;

@@ -1,5 +1,0 @@
-//! Tests of the unmanaged pool.
-#![tactic(auto)]
-
-#[cfg(test)]
-mod tests;
