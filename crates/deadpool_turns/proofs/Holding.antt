@@ -26,8 +26,7 @@ use Rattle.deadpool_journal.specs.Replay.{IsStep}
 use Rattle.deadpool_journal.specs.declared.entry.Entry.{Entry}
 use Rattle.deadpool_journal.specs.declared.entry.Entry.TheVariants.{Made, Owner, Retain}
 use Rattle.deadpool_turns.specs.Holders.{EachRunNumbersOnce, EachHasOneHolder, EachOpensNumberedOnce, HandsOver}
-use Rattle.deadpool_turns.specs.Holders.{HandsOverBy}
-use Rattle.deadpool_turns.specs.Holders.{IsNumberedOnce, Out, Parts}
+use Rattle.deadpool_turns.specs.Holders.{IsNumberedOnce, Out, Parts, Passes, passing}
 use Rattle.deadpool_turns.specs.Holders.{holds, is_held, numbers_of, times, total, without_held}
 use Rattle.deadpool_turns.proofs.Removing.{times-remaining}
 
@@ -158,7 +157,7 @@ module _ (d d' : DeskState ℕ) (out out' : Out) (was : IsNumberedOnce d out) wh
       served d d' out out' was c slot some held (next_of is ∙ next) (idle_of is ∙ idle)
 
   numbered : (c : ℕ) (step : Step) (object : Option ℕ) (reply : Reply) → Does d step object reply d'
-      → HandsOver c step object reply out out' → IsNumberedOnce d' out'
+      → Passes c (passing step object reply) out out' → IsNumberedOnce d' out'
   numbered c (Enter wait) (Some slot) (Object left) h k = given c slot _ h.2.2 refl refl h.2.0 k
   numbered c (Enter wait) None Closed h k = same _ h.1 refl refl k
   numbered c (Enter wait) None Full h k = same _ h.3 refl refl k
@@ -240,7 +239,7 @@ module _ (d d' : DeskState ℕ) (out out' : Out) (was : IsNumberedOnce d out) wh
   owner_numbered _ _ h k = absurd h
 
 entry_numbered : (c : ℕ) (e : Entry) (d d' : DeskState ℕ) (out out' : Out) → IsNumberedOnce d out → IsStep d e d'
-    → HandsOverBy c e out out' → IsNumberedOnce d' out'
+    → HandsOver c e out out' → IsNumberedOnce d' out'
 entry_numbered c (Made step object reply) d d' out out' was h k = numbered d d' out out' was c step object reply h k
 entry_numbered c (Owner step reply) d d' out out' was h k = owner_numbered d d' out out' was step reply h k
 entry_numbered c (Retain (Ok removed)) d d' out out' was h k =
@@ -252,9 +251,8 @@ opens_once limit first min_idle mode most = record { once = λ n. omega arith; g
 
 pub numbers_once : EachRunNumbersOnce
 numbers_once d d' out out' [] was runs = rw (runs.0, runs.1) was
-numbers_once d d' out out' ((c, e) ∷ log) was runs =
-    numbers_once runs.0 d' runs.1.0 out' log
-    (entry_numbered c e d runs.0 out runs.1.0 was runs.1.1.0 runs.1.1.1) runs.1.1.2
+numbers_once d d' out out' ((c, e) ∷ log) was ((next, (step, later)), (after, (hands, rest))) =
+    numbers_once next d' after out' log (entry_numbered c e d next out after was step hands) (later, rest)
 
 -- who holds it, it stands there
 held_times : (c n : ℕ) (out : Out) → holds c n out ≡ true → 1 ≤ times n (numbers_of out)

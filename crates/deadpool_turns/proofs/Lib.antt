@@ -1,7 +1,10 @@
 -- What the laws stand on. Of a queue: Ahead, Changes, Passing.
 pub mod Ahead
 pub mod Changes
-mod Holding
+pub mod Holding
+mod Holds
+mod Named
+pub mod Own
 pub mod Passing
 mod Reached
 mod Refused

@@ -1,15 +1,16 @@
 -- Who holds which object: each holder by its number in a history, each object by its own.
-use Rattle.std.specs.Prelude.{◌≡◌, ◌≤◌, ℕ, ◌+◌, ◌==◌, ◌&&◌, Bool, true, List, [], ◌∷◌, map, Option, Some}
-use Rattle.std.specs.Prelude.{if◌then◌else◌}
+use Rattle.std.specs.Prelude.{◌≡◌, ◌≤◌, ⊤, ℕ, ◌+◌, ◌==◌, ◌&&◌, Bool, true, false, List, [], ◌∷◌, map, Option, Some, None}
+use Rattle.std.specs.Prelude.{IsSome, if◌then◌else◌}
 use Rattle.std.specs.List.{list_any}
 use Rattle.deadpool_parts.specs.declared.config.QueueMode.{QueueMode}
 use Rattle.deadpool_desk.specs.DeskState.{DeskState, bounded, new_core}
 use Rattle.deadpool_desk.specs.declared.step.Held.TheVariants as held
 use Rattle.deadpool_desk.specs.declared.step.Reply.{Reply}
-use Rattle.deadpool_desk.specs.declared.step.Reply.TheVariants.{Object, Number, Taken, Done, Unknown}
+use Rattle.deadpool_desk.specs.declared.step.Reply.TheVariants.{Object, Number, Done, Unknown}
 use Rattle.deadpool_desk.specs.declared.step.Step.{Step}
-use Rattle.deadpool_desk.specs.declared.step.Step.TheVariants.{Created, Discard, Refused, Back, Cancel, Take}
-use Rattle.deadpool_journal.specs.Replay.{IsStep}
+use Rattle.deadpool_desk.specs.declared.step.Step.TheVariants.{Enter, Ask, Again, Created, Discard, Refused, Back}
+use Rattle.deadpool_desk.specs.declared.step.Step.TheVariants.{Cancel, Take}
+use Rattle.deadpool_journal.specs.Replay.{Runs}
 use Rattle.deadpool_journal.specs.declared.entry.Entry.{Entry}
 use Rattle.deadpool_journal.specs.declared.entry.Entry.TheVariants.{Made}
 
@@ -33,28 +34,90 @@ without_held holder n (x ∷ xs) = if is_held holder n x then xs else x ∷ with
 abbrev pub Parts : ℕ → ℕ → Out → Out → Type 0
 Parts holder n out out' = (holds holder n out ≡ true) × (out' ≡ without_held holder n out)
 
--- What a step makes of who holds what: its maker has what it is given, and gives away only what it has.
-abbrev pub HandsOver : ℕ → Step → Option ℕ → Reply → Out → Out → Type 0
-HandsOver holder Created object (Number n) out out' = out' ≡ (holder, n) ∷ out
-HandsOver holder Back (Some n) Unknown out out' = out' ≡ out
-HandsOver holder Back (Some n) reply out out' = Parts holder n out out'
-HandsOver holder Take object (Taken detach) out out' = (n : ℕ) × Parts holder n out out'
-HandsOver holder Discard object Done out out' = (n : ℕ) × Parts holder n out out'
-HandsOver holder Refused object Done out out' = (n : ℕ) × Parts holder n out out'
-HandsOver holder (Cancel held.Object) object Done out out' = (n : ℕ) × Parts holder n out out'
-HandsOver holder step (Some n) (Object left) out out' = out' ≡ (holder, n) ∷ out
-HandsOver holder step object reply out out' = out' ≡ out
+-- What a step is to its maker: it gets an object, gives this one away or the one that it has, or has what it had.
+pub data Passing : Type 0 where
+  Gets : ℕ → Passing
+  Gives : ℕ → Passing
+  GivesOne : Passing
+  Stays : Passing
 
-abbrev pub HandsOverBy : ℕ → Entry → Out → Out → Type 0
-HandsOverBy holder (Made step object reply) out out' = HandsOver holder step object reply out out'
-HandsOverBy holder _ out out' = out' ≡ out
+abbrev pub gets : Option ℕ → Passing
+gets (Some n) = Gets n
+gets None = Stays
 
--- Steps of the desk machine, each beside its maker, by which each gives away only what it has.
+-- the object that is served, the one that was created, and whether something was given up
+abbrev pub given_by : Option ℕ → Reply → Option ℕ
+given_by object (Object left) = object
+given_by object _ = None
+
+abbrev pub created_by : Reply → Option ℕ
+created_by (Number n) = Some n
+created_by _ = None
+
+abbrev pub is_done : Reply → Bool
+is_done Done = true
+is_done _ = false
+
+abbrev pub is_unknown : Reply → Bool
+is_unknown Unknown = true
+is_unknown _ = false
+
+abbrev pub passing : Step → Option ℕ → Reply → Passing
+passing (Enter wait) object reply = gets (given_by object reply)
+passing (Ask ticket expired) object reply = gets (given_by object reply)
+passing (Again allowance) object reply = gets (given_by object reply)
+passing Created object reply = gets (created_by reply)
+passing Back (Some n) reply = if is_unknown reply then Stays else Gives n
+passing Take object reply = if is_unknown reply then Stays else GivesOne
+passing Discard object reply = if is_done reply then GivesOne else Stays
+passing Refused object reply = if is_done reply then GivesOne else Stays
+passing (Cancel held.Object) object reply = if is_done reply then GivesOne else Stays
+passing step object reply = Stays
+
+abbrev pub passing_by : Entry → Passing
+passing_by (Made step object reply) = passing step object reply
+passing_by _ = Stays
+
+-- What it makes of who holds what: each gives away only what it has.
+abbrev pub Passes : ℕ → Passing → Out → Out → Type 0
+Passes holder (Gets n) out out' = out' ≡ (holder, n) ∷ out
+Passes holder (Gives n) out out' = Parts holder n out out'
+Passes holder GivesOne out out' = (n : ℕ) × Parts holder n out out'
+Passes holder Stays out out' = out' ≡ out
+
+abbrev pub HandsOver : ℕ → Entry → Out → Out → Type 0
+HandsOver holder e out out' = Passes holder (passing_by e) out out'
+
+-- Steps, each beside its maker, by which each gives away only what it has.
+abbrev pub HandsOn : Out → List (ℕ × Entry) → Out → Type 0
+HandsOn out [] out' = out' ≡ out
+HandsOn out ((holder, e) ∷ log) out' = (after : Out) × (HandsOver holder e out after × HandsOn after log out')
+
+-- The same, as steps of the desk machine.
 abbrev pub RunsBy : DeskState ℕ → Out → List (ℕ × Entry) → DeskState ℕ → Out → Type 0
-RunsBy d out [] d' out' = (d' ≡ d) × (out' ≡ out)
-RunsBy d out ((holder, e) ∷ log) d' out' =
-    (next : DeskState ℕ) × ((after : Out) × (IsStep d e next × HandsOverBy holder e out after
-    × RunsBy next after log d' out'))
+RunsBy d out log d' out' = Runs d (map (λ (x : ℕ × Entry). x.1) log) d' × HandsOn out log out'
+
+-- What a holder has after a step, by what it had before, and whether it may make it.
+abbrev pub has_after : Passing → Option ℕ → Option ℕ
+has_after (Gets n) has = Some n
+has_after (Gives n) has = None
+has_after GivesOne has = None
+has_after Stays has = has
+
+abbrev pub CanPass : Passing → Option ℕ → Type 0
+CanPass (Gets n) has = ⊤
+CanPass (Gives n) has = has ≡ Some n
+CanPass GivesOne has = IsSome has
+CanPass Stays has = ⊤
+
+-- Whatever the reply to it, a step gives away only what its maker has.
+abbrev pub IsOwn : Step → Option ℕ → Option ℕ → Type 0
+IsOwn Back object has = has ≡ object
+IsOwn Take object has = IsSome has
+IsOwn Discard object has = IsSome has
+IsOwn Refused object has = IsSome has
+IsOwn (Cancel held.Object) object has = IsSome has
+IsOwn _ object has = ⊤
 
 -- how often a number stands in a list
 abbrev pub times : ℕ → List ℕ → ℕ

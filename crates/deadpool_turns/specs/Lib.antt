@@ -2,5 +2,7 @@
 pub mod Ahead
 pub mod Holders
 pub mod OtherOrders
+pub mod Own
 pub mod Steps
+pub mod Tickets
 pub mod Turns

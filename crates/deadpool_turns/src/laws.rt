@@ -2,6 +2,8 @@
 //! do nothing: each states a law.
 ghost use Rattle.deadpool_turns.specs.Holders.{EachHasOneHolder, EachOpensNumberedOnce, EachRunNumbersOnce};
 ghost use Rattle.deadpool_turns.specs.OtherOrders.{EachNearsBy, barged_in, freed_for_last, put_behind};
+ghost use Rattle.deadpool_turns.specs.Own.{EachHandsItsOwn, EachHoldsItsOwn};
+ghost use Rattle.deadpool_turns.specs.Tickets.{EachTicketIsKnown};
 ghost use Rattle.deadpool_turns.specs.Turns.{EachIsGrantedInTurn, EachKeepsItsPlace, EachReachedIsOrderly};
 ghost use Rattle.deadpool_turns.specs.Turns.{EachStaysQueued, EachStepKeepsOrder, EachStepNears};
 
@@ -50,7 +52,18 @@ pub fn numbers_stand_once()
     ensures run { EachRunNumbersOnce }
 {}
 
+/// What each has by its own steps, it holds there. Whatever the reply, it may give that away by its next step.
+pub fn each_holds_what_it_was_given()
+    ensures holds { EachHoldsItsOwn }
+    ensures hands { EachHandsItsOwn }
+{}
+
 /// There no two hold one object, and none that is held is idle.
 pub fn one_number_has_one_holder()
     ensures { EachHasOneHolder }
+{}
+
+/// No ticket is unknown to a pool whose gets each name only the one under which they wait.
+pub fn no_ticket_is_unknown()
+    ensures { EachTicketIsKnown }
 {}
