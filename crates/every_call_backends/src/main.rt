@@ -4,11 +4,13 @@
 #![tactic(auto)]
 
 mod buffers;
+mod connections;
 mod pings;
 
 use std::io;
 
 fn main(rt: HostRuntime) -> io::Result<()> {
     buffers::calls(rt)?;
+    connections::calls(rt)?;
     pings::calls(&rt, &rt)
 }
