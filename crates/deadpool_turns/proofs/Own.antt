@@ -10,7 +10,8 @@ use Rattle.deadpool_desk.specs.declared.step.Step.TheVariants.{Enter, Ask, Again
 use Rattle.deadpool_desk.specs.declared.step.Step.TheVariants.{Back, Withdraw, Cancel, Take}
 use Rattle.deadpool_journal.specs.declared.entry.Entry.{Entry}
 use Rattle.deadpool_turns.specs.Holders.{CanPass, HandsOn, HandsOver, IsOwn, Out, Passes, Passing, Gets, Gives}
-use Rattle.deadpool_turns.specs.Holders.{GivesOne, Stays, created_by, gets, given_by, has_after, holds, is_done, is_held}
+use Rattle.deadpool_turns.specs.Holders.{GivesOne, Stays, created_by, gets, given_by, has_after, holds}
+use Rattle.deadpool_turns.specs.Holders.{is_done, is_held}
 use Rattle.deadpool_turns.specs.Holders.{is_unknown, passing, without_held}
 
 -- what a holder has by its own steps, it holds
