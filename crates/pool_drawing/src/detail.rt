@@ -30,7 +30,7 @@ pub fn write_detail<W: Write>(
         pass_on(&mut svg, writer)?;
     }
     for at in 0..picture.objects.len() {
-        parties::write_object(&mut svg, &frame, picture, at)?;
+        parties::write_object(alloc, &mut svg, &frame, picture, at)?;
         pass_on(&mut svg, writer)?;
     }
     for at in 0..picture.lines.len() {

@@ -5,6 +5,8 @@
 mod detail;
 mod event;
 mod journal;
+mod kept_for;
+mod letters;
 mod line;
 mod objects;
 mod paint;
@@ -17,6 +19,7 @@ mod svg;
 pub use event::{Event, Owner, Why};
 pub use journal::draw_journal;
 pub use line::Line;
+pub use objects::Whereabouts;
 pub use picture::{
     Arrow, Column, Drawn, Kind, MOST_COLUMNS, MOST_OBJECTS, Picture, Stock, write_picture,
 };

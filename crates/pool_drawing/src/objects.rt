@@ -2,15 +2,38 @@
 use crate::{MOST_OBJECTS, Stock, Stop};
 use deadpool_managed::{AsyncHook, Manager, SyncHook};
 use deadpool_replay::{Trial, unmanaged};
-use pool_shapes::marks::{Place, Shape, Stage};
+use pool_shapes::marks::{Place, Shape, Shown, Stage};
+
+/// Where an object is, and for which get it is kept, if it is idle and is kept for one.
+#[derive(Clone, Copy, Debug, PartialEq, Eq)]
+pub struct Whereabouts {
+    pub place: Place,
+    pub kept_for: Option<usize>,
+}
+
+impl Whereabouts {
+    /// There, and not kept.
+    pub fn of(place: Place) -> Whereabouts {
+        Whereabouts {
+            place,
+            kept_for: None,
+        }
+    }
+}
+
+impl Shown for Whereabouts {
+    fn is_same(self, other: Whereabouts) -> bool {
+        self == other
+    }
+}
 
 /// Puts where each object is in place of what was there: that of the first number first. An object of which nothing is
-/// seen any more was given up. Gives what there is.
+/// seen any more was given up, and none is kept. Gives what there is.
 pub fn show_objects<M: Manager, F: SyncHook<M>, A: AsyncHook<M>, C: Drop>(
     trial: &Trial<M, F, A, C>,
     first: usize,
     shapes: &[Shape],
-    places: &mut Vec<Place>,
+    places: &mut Vec<Whereabouts>,
 ) -> Result<Stock, Stop> {
     clear(places);
     let mut idle = 0usize;
@@ -43,7 +66,7 @@ pub fn show_objects<M: Manager, F: SyncHook<M>, A: AsyncHook<M>, C: Drop>(
 pub fn show_unmanaged_objects<T: Drop>(
     trial: &unmanaged::Trial<T>,
     shapes: &[Shape],
-    places: &mut Vec<Place>,
+    places: &mut Vec<Whereabouts>,
 ) -> Result<Stock, Stop> {
     clear(places);
     let mut idle = 0usize;
@@ -72,14 +95,14 @@ pub fn show_unmanaged_objects<T: Drop>(
     })
 }
 
-fn clear(places: &mut Vec<Place>) {
+fn clear(places: &mut Vec<Whereabouts>) {
     for place in places {
-        *place = Place::GivenUp;
+        *place = Whereabouts::of(Place::GivenUp);
     }
 }
 
 // The objects that parties have. Gives how many of them are prepared or offered.
-fn show_held(first: usize, shapes: &[Shape], places: &mut Vec<Place>) -> Result<usize, Stop> {
+fn show_held(first: usize, shapes: &[Shape], places: &mut Vec<Whereabouts>) -> Result<usize, Stop> {
     let mut held = 0usize;
     for shape in shapes {
         if let Some(number) = shape.object {
@@ -103,16 +126,21 @@ fn place_with(stage: Stage) -> Place {
 }
 
 // The object with this number is there.
-fn put(places: &mut Vec<Place>, first: usize, number: usize, place: Place) -> Result<(), Stop> {
+fn put(
+    places: &mut Vec<Whereabouts>,
+    first: usize,
+    number: usize,
+    place: Place,
+) -> Result<(), Stop> {
     let at = number.saturating_sub(first);
     if at >= MOST_OBJECTS {
         return Err(Stop::TooMuch);
     }
     for _new in places.len()..at.saturating_add(1) {
-        places.push(Place::GivenUp)?;
+        places.push(Whereabouts::of(Place::GivenUp))?;
     }
     if at < places.len() {
-        places[at] = place;
+        places[at] = Whereabouts::of(place);
     }
     Ok(())
 }

@@ -37,6 +37,9 @@ text{font:11px sans-serif;fill:#222}
 </defs>
 ";
 
+/// The size of the letters in a mark.
+pub const SMALL: usize = 9;
+
 /// The stages in the order of the legend.
 pub const STAGES: [Stage; 10] = [
     Stage::New,
@@ -93,7 +96,7 @@ pub fn stage_letter(stage: Stage) -> &'static str {
 /// What the legend says of a stage.
 pub fn stage_name(stage: Stage) -> &'static str {
     match stage {
-        Stage::New => "not polled",
+        Stage::New => "not asked yet",
         Stage::Queued => "queued",
         Stage::Granted => "granted",
         Stage::Going => "going",

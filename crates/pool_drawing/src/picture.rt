@@ -2,9 +2,9 @@
 use crate::detail::write_detail;
 use crate::line::comment_of;
 use crate::story::write_story;
-use crate::{Event, Line, Stop};
+use crate::{Event, Line, Stop, Whereabouts};
 use pool_scripts::Fault;
-use pool_shapes::marks::{Lanes, Place, Shape, Shown};
+use pool_shapes::marks::{Lanes, Shape, Shown};
 use std::alloc::{AllocError, Global};
 use std::io::Write;
 use std::mem;
@@ -34,6 +34,16 @@ impl Kind {
     /// Whether it is of a journal, which says nothing of parties.
     pub fn is_journal(self) -> bool {
         matches!(self, Kind::Journal | Kind::UnmanagedJournal)
+    }
+
+    /// The title of a picture without one of its own.
+    pub fn title(self) -> &'static str {
+        match self {
+            Kind::Managed => "A run of a managed pool",
+            Kind::Unmanaged => "A run of an unmanaged pool",
+            Kind::Journal => "A journal of a managed pool",
+            Kind::UnmanagedJournal => "A journal of an unmanaged pool",
+        }
     }
 }
 
@@ -79,7 +89,7 @@ pub struct Picture {
     pub kind: Kind,
     pub drawn: Drawn,
     pub parties: Lanes<Shape>,
-    pub objects: Lanes<Place>,
+    pub objects: Lanes<Whereabouts>,
     /// The number of the object in the first lane.
     pub first_object: usize,
     /// As `pool_shapes` gives them.
@@ -102,7 +112,7 @@ pub struct Column {
     pub event: Event,
     pub stock: Stock,
     pub shapes: Vec<Shape>,
-    pub places: Vec<Place>,
+    pub places: Vec<Whereabouts>,
     pub levels: Vec<usize>,
 }
 

@@ -1,6 +1,7 @@
 //! Plays a script, and draws it.
 mod moves;
 
+use crate::kept_for::KeptFor;
 use crate::objects::{show_objects, show_unmanaged_objects};
 use crate::{
     Arrow, Column, Drawn, Event, Kind, Owner, Picture, Stop, is_out_of_memory, write_picture,
@@ -77,6 +78,7 @@ struct Drawing<'a> {
     answers: &'a Answers,
     pool: Option<ScriptPool<'a>>,
     given: Given,
+    kept_for: KeptFor,
     picture: Picture,
     reply: String,
     is_closed: bool,
@@ -93,6 +95,7 @@ impl<'a> Drawing<'a> {
             answers,
             pool: None,
             given: Given::new(alloc),
+            kept_for: KeptFor::new(alloc),
             picture: Picture::new(alloc, Kind::Managed, drawn),
             reply: String::new(alloc),
             is_closed: false,
@@ -158,6 +161,7 @@ impl<'a> Drawing<'a> {
             alloc,
             pool,
             given,
+            kept_for,
             picture,
             reply,
             column,
@@ -170,7 +174,7 @@ impl<'a> Drawing<'a> {
         };
         mem::swap(&mut column.shapes, earlier);
         column.event = event;
-        show(pool, given, picture.first_object, column)?;
+        show(pool, given, kept_for, picture.first_object, column)?;
         note_arrow(picture, column.stock.granted, earlier, &column.shapes)?;
         picture.add_column(*alloc, column)?;
         picture.add_line(*alloc, event.line, line, reply.as_str())?;
@@ -200,6 +204,7 @@ fn note_arrow(
 fn show(
     pool: &mut ScriptPool<'_>,
     given: &Given,
+    kept_for: &mut KeptFor,
     first: usize,
     column: &mut Column,
 ) -> Result<(), Stop> {
@@ -222,6 +227,7 @@ fn show(
             *stock = show_unmanaged_objects(trial, shapes, places)?;
         }
     }
+    kept_for.follow(shapes, places)?;
     Ok(())
 }
 

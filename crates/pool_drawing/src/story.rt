@@ -3,12 +3,14 @@
 mod arrows;
 mod axis;
 mod counts;
+mod ends;
 mod frame;
 mod guides;
 mod head;
 mod lanes;
-mod letters;
 mod paint;
+mod passing;
+mod words;
 
 use crate::{Picture, Svg};
 use frame::Frame;

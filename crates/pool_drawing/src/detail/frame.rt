@@ -17,8 +17,10 @@ const LEAST_UNIT: usize = 11;
 
 const MOST_UNIT: usize = 36;
 
-// How high the parts are, and how far a lane is from the next.
-const LEGEND: usize = 74;
+// How high the parts are, and how far a lane is from the next. The title and its sentence are above the legend.
+pub const HEAD: usize = 44;
+
+const LEGEND: usize = HEAD + 48;
 
 const AXIS: usize = 18;
 
@@ -146,11 +148,12 @@ impl Frame {
         let (width, height) = (self.width(), self.height());
         svg.open(width, height)?;
         svg.raw("<title>")?;
-        svg.raw(title_of(kind))?;
+        svg.raw(kind.title())?;
         svg.raw("</title>\n")?;
         svg.raw(STYLE)?;
         svg.raw("<rect width=\"100%\" height=\"100%\" fill=\"#fff\"/>\n")?;
-        svg.words("h", 8, 18, title_of(kind))
+        svg.words("h", 8, 18, kind.title())?;
+        svg.words("", 8, 36, what_is_shown(kind))
     }
 
     /// The numbers of the lines above their columns, and upright lines through all lanes. A column whose line has an
@@ -198,11 +201,13 @@ fn is_short(line: &Line) -> bool {
     line.text.len().saturating_add(line.reply.len()) <= HALF - 8
 }
 
-fn title_of(kind: Kind) -> &'static str {
+fn what_is_shown(kind: Kind) -> &'static str {
     match kind {
-        Kind::Managed => "A run of a managed pool",
-        Kind::Unmanaged => "A run of an unmanaged pool",
-        Kind::Journal => "A journal of a managed pool",
-        Kind::UnmanagedJournal => "A journal of an unmanaged pool",
+        Kind::Managed | Kind::Unmanaged => {
+            "Each count, party and object after each line, and all lines with their replies."
+        }
+        Kind::Journal | Kind::UnmanagedJournal => {
+            "Each count after each step of the pool, and all steps with their replies."
+        }
     }
 }

@@ -1,5 +1,5 @@
 //! What the colours mean.
-use super::frame::MARK;
+use super::frame::{HEAD, MARK};
 use crate::paint::{
     PLACES, STAGES, place_class, place_name, stage_class, stage_letter, stage_name, stage_words,
 };
@@ -12,7 +12,7 @@ const STEP: usize = 138;
 
 const ABREAST: usize = 5;
 
-const TOP: usize = 26;
+const TOP: usize = HEAD;
 
 const HIGH: usize = 16;
 
@@ -22,7 +22,7 @@ const LEFT: usize = 92;
 pub fn write_legend(svg: &mut Svg, kind: Kind) -> Result<(), AllocError> {
     write_limit(svg, 3 * ABREAST - 1)?;
     if kind.is_journal() {
-        return svg.words("n", LEFT, TOP + 12, "Counts after each step of the pool");
+        return Ok(());
     }
     svg.words("r n", LEFT - 8, TOP + 10, "party")?;
     let mut at = 0usize;

@@ -1,9 +1,10 @@
 //! Writes the lanes of parties and objects.
 use super::frame::{Frame, MARK};
-use crate::paint::{place_class, stage_class, stage_letter, stage_words};
-use crate::{Picture, Svg};
+use crate::letters::width_of;
+use crate::paint::{SMALL, place_class, stage_class, stage_letter, stage_words};
+use crate::{Picture, Svg, Whereabouts};
 use pool_shapes::marks::{Mark, Place, Shape, Stage};
-use std::alloc::AllocError;
+use std::alloc::{AllocError, Global};
 
 /// Writes the lane of a party.
 pub fn write_party(
@@ -73,6 +74,7 @@ fn write_inside(
 
 /// Writes the lane of an object.
 pub fn write_object(
+    alloc: Global,
     svg: &mut Svg,
     frame: &Frame,
     picture: &Picture,
@@ -92,25 +94,52 @@ pub fn write_object(
     };
     for at in 0..lane.len() {
         if let Some(mark) = lane.mark_at(at) {
-            write_place(svg, frame, y, mark)?;
+            write_whereabouts(alloc, svg, frame, y, mark)?;
         }
     }
     Ok(())
 }
 
-fn write_place(
+fn write_whereabouts(
+    alloc: Global,
     svg: &mut Svg,
     frame: &Frame,
     y: usize,
-    mark: &Mark<Place>,
+    mark: &Mark<Whereabouts>,
 ) -> Result<(), AllocError> {
-    let class = place_class(mark.shows);
-    if mark.shows == Place::GivenUp {
+    let Whereabouts { place, kept_for } = mark.shows;
+    let class = place_class(place);
+    if place == Place::GivenUp {
         let x = frame.x_of(mark.from).saturating_add(5);
         svg.words("x", x, y.saturating_add(10), "×")?;
         return write_end(svg, frame, y, class, mark.from, mark.to);
     }
-    let _width = write_box(svg, frame, y, class, mark.from, mark.to)?;
+    let width = write_box(svg, frame, y, class, mark.from, mark.to)?;
+    match kept_for {
+        Some(party) => {
+            let x = frame.x_of(mark.from).saturating_add(width / 2);
+            write_kept(alloc, svg, x, y.saturating_add(10), width, party)
+        }
+        None => Ok(()),
+    }
+}
+
+// For which get an idle object is kept, as far as the words have room.
+fn write_kept(
+    alloc: Global,
+    svg: &mut Svg,
+    x: usize,
+    y: usize,
+    width: usize,
+    party: usize,
+) -> Result<(), AllocError> {
+    let full = format!(in alloc; "free, kept for get {party}")?;
+    let short = format!(in alloc; "get {party}")?;
+    for words in [full.as_str(), short.as_str()] {
+        if width_of(words, SMALL) < width {
+            return svg.words("c", x, y, words);
+        }
+    }
     Ok(())
 }
 

@@ -1,9 +1,8 @@
 //! Where everything stands in a story, in points.
+use super::ends::{End, end_of_object, end_of_party};
 use super::guides::Guides;
 use super::head::Head;
-use super::letters::width_of;
-use crate::{Picture, Why};
-use pool_shapes::marks::{Place, Stage};
+use crate::Picture;
 
 // How wide a picture is at least.
 const LEAST_WIDTH: usize = 640;
@@ -56,6 +55,8 @@ pub struct Frame {
     pub most_down: usize,
     parties: usize,
     objects: usize,
+    /// Whether moments stand below the lines.
+    pub has_moments: bool,
     notes: usize,
 }
 
@@ -79,6 +80,7 @@ impl Frame {
             most_down,
             parties: picture.parties.len(),
             objects: picture.objects.len(),
+            has_moments: has_moments(picture),
             notes: head.notes(),
         };
         frame.right = right_of(&frame, picture);
@@ -88,6 +90,11 @@ impl Frame {
     /// Where a column begins.
     pub fn x_of(&self, column: usize) -> usize {
         LEFT.saturating_add(column.saturating_mul(self.unit))
+    }
+
+    /// Where the middle of a column is.
+    pub fn middle_of(&self, column: usize) -> usize {
+        self.x_of(column).saturating_add(self.unit / 2)
     }
 
     /// How wide the columns from one up to, but not including, another are.
@@ -157,15 +164,29 @@ impl Frame {
             .saturating_add(at.saturating_mul(LANE))
     }
 
-    /// Where the axis of the moments is.
+    /// Where the axis of the lines is.
     pub fn axis_y(&self) -> usize {
         self.object_y(self.objects).saturating_add(6)
     }
 
+    /// Where the numbers of the lines have their base.
+    pub fn lines_y(&self) -> usize {
+        self.axis_y().saturating_add(21)
+    }
+
+    /// Where the moments have theirs.
+    pub fn moments_y(&self) -> usize {
+        self.lines_y().saturating_add(ROW)
+    }
+
     /// Where a note has its base.
     pub fn note_y(&self, at: usize) -> usize {
-        self.axis_y()
-            .saturating_add(48)
+        let row = if self.has_moments {
+            self.moments_y()
+        } else {
+            self.lines_y()
+        };
+        row.saturating_add(ROW + 5)
             .saturating_add(at.saturating_mul(ROW))
     }
 
@@ -204,49 +225,24 @@ fn most_of(picture: &Picture) -> (usize, usize) {
     (up, down)
 }
 
-/// How wide the reason is behind an end, with its cross.
-pub fn reason_width(why: Why) -> usize {
-    width_of(why.text(), SMALL).saturating_add(24)
-}
-
-/// Why a party has ended in the last mark of its lane, and in which column. None if it has not, or if its object came
-/// back.
-pub fn end_of_party(picture: &Picture, party: usize) -> Option<(usize, Why)> {
-    let lane = picture.parties.lane_at(party)?;
-    let mark = lane.mark_at(lane.len().saturating_sub(1))?;
-    if mark.shows.stage == Stage::Cancelled {
-        return Some((mark.from, Why::Cancelled));
-    }
-    if mark.shows.stage != Stage::Ended {
-        return None;
-    }
-    let event = picture.events.get(mark.from)?;
-    if event.party == Some(party) {
-        return Some((mark.from, event.end?));
-    }
-    None
-}
-
-/// Why an object was given up in the last mark of its lane, and in which column. None if it was not, or never there.
-pub fn end_of_object(picture: &Picture, at: usize) -> Option<(usize, Why)> {
-    let lane = picture.objects.lane_at(at)?;
-    let mark = lane.mark_at(lane.len().saturating_sub(1))?;
-    if mark.shows != Place::GivenUp || lane.len() < 2 {
-        return None;
-    }
-    Some((mark.from, picture.events.get(mark.from)?.gone))
+// Whether a line names a moment above 0.
+fn has_moments(picture: &Picture) -> bool {
+    picture
+        .events
+        .iter()
+        .any(|event| event.moment.map_or(false, |moment| moment.0 > 0))
 }
 
 // How much room the reasons need that stand behind the last column.
 fn right_of(frame: &Frame, picture: &Picture) -> usize {
     let mut right = RIGHT;
     for party in 0..picture.parties.len() {
-        if let Some(end) = end_of_party(picture, party) {
+        if let Some(end) = end_of_party(frame, picture, party) {
             right = right.max(beyond(frame, end));
         }
     }
     for at in 0..picture.objects.len() {
-        if let Some(end) = end_of_object(picture, at) {
+        if let Some(end) = end_of_object(frame, picture, at) {
             right = right.max(beyond(frame, end));
         }
     }
@@ -254,11 +250,6 @@ fn right_of(frame: &Frame, picture: &Picture) -> usize {
 }
 
 // How far a reason stands beyond the last column.
-fn beyond(frame: &Frame, end: (usize, Why)) -> usize {
-    let (column, why) = end;
-    frame
-        .x_of(column)
-        .saturating_add(reason_width(why))
-        .saturating_add(8)
-        .saturating_sub(frame.end_x())
+fn beyond(frame: &Frame, end: End) -> usize {
+    end.right().saturating_add(8).saturating_sub(frame.end_x())
 }

@@ -1,6 +1,6 @@
 //! What the pool's owner does: guides through all lanes, with a label above each.
 use super::frame::{Frame, SMALL, unit_of};
-use super::letters::width_of;
+use crate::letters::width_of;
 use crate::{Owner, Picture, Svg};
 use pool_shapes::marks::{Mark, Shelf};
 use std::alloc::{AllocError, Global};

@@ -1,7 +1,7 @@
 //! The title, the sentence below it, what the colours mean, and at the foot what is said of lines that were refused.
 use super::frame::{BAR, DOWN, Frame, ROW, SMALL};
-use super::letters::{width_of, wrapped};
-use super::paint::STYLE;
+use super::paint::{STYLE, class_of};
+use crate::letters::{width_of, wrapped};
 use crate::{Kind, Line, Picture, Svg};
 use std::alloc::{AllocError, Global};
 
@@ -43,7 +43,7 @@ impl Head {
         let room = width.saturating_sub(2 * MARGIN);
         let title = match picture.comments.first() {
             Some(comment) => wrapped(alloc, comment.as_str(), TITLE, room)?,
-            None => wrapped(alloc, title_of(picture.kind), TITLE, room)?,
+            None => wrapped(alloc, picture.kind.title(), TITLE, room)?,
         };
         let sentence = wrapped(alloc, sentence_of(alloc, picture)?.as_str(), LETTERS, room)?;
         let mut head = Head {
@@ -78,7 +78,7 @@ impl Head {
                 continue;
             }
             let words = meaning_of(picture.kind, class);
-            let wide = width_of(words, LETTERS).saturating_add(SIGN + 26);
+            let wide = width_of(words, LETTERS).saturating_add(SIGN + 20);
             if x.saturating_add(wide) > width {
                 x = MARGIN;
                 row = row.saturating_add(1);
@@ -183,12 +183,12 @@ fn write_entry(svg: &mut Svg, entry: Entry, y: usize) -> Result<(), AllocError> 
 }
 
 // The classes of marks in the order of the legend: of bars, of an arrow and of the limit.
-const CLASSES: [&'static str; 10] = ["n", "q", "g", "c", "r", "k", "h", "i", "w", "L"];
+const CLASSES: [&'static str; 11] = ["n", "q", "g", "c", "r", "k", "h", "i", "f", "w", "L"];
 
 // What a class means.
 fn meaning_of(kind: Kind, class: &str) -> &'static str {
     match class {
-        "n" => "not polled",
+        "n" => "not asked yet",
         "q" => "waits",
         "g" if matches!(kind, Kind::Unmanaged | Kind::UnmanagedJournal) => "may go on",
         "g" => "has a place",
@@ -198,6 +198,7 @@ fn meaning_of(kind: Kind, class: &str) -> &'static str {
         "h" if kind.is_journal() => "objects",
         "h" => "has an object",
         "i" => "idle",
+        "f" => "free, kept for a get",
         "w" => "gives its place on",
         _ => "limit",
     }
@@ -209,6 +210,7 @@ fn is_used(picture: &Picture, class: &str) -> bool {
         "L" => true,
         "w" => !picture.arrows.is_empty(),
         "i" => has_idle(picture),
+        "f" => has_kept(picture),
         "h" | "q" | "g" if picture.kind.is_journal() => true,
         class => has_stage(picture, class),
     }
@@ -221,12 +223,12 @@ fn has_idle(picture: &Picture) -> bool {
     (0..lane.len()).any(|at| lane.mark_at(at).map_or(false, |mark| mark.shows.idle > 0))
 }
 
-fn has_stage(picture: &Picture, class: &str) -> bool {
-    for party in 0..picture.parties.len() {
-        if let Some(lane) = picture.parties.lane_at(party) {
+fn has_kept(picture: &Picture) -> bool {
+    for object in 0..picture.objects.len() {
+        if let Some(lane) = picture.objects.lane_at(object) {
             for at in 0..lane.len() {
                 if let Some(mark) = lane.mark_at(at) {
-                    if super::paint::class_of(mark.shows.stage) == class {
+                    if mark.shows.kept_for.is_some() {
                         return true;
                     }
                 }
@@ -236,7 +238,22 @@ fn has_stage(picture: &Picture, class: &str) -> bool {
     false
 }
 
-// The comments behind the first, as one text.
+fn has_stage(picture: &Picture, class: &str) -> bool {
+    for party in 0..picture.parties.len() {
+        if let Some(lane) = picture.parties.lane_at(party) {
+            for at in 0..lane.len() {
+                if let Some(mark) = lane.mark_at(at) {
+                    if class_of(mark.shows.stage) == class {
+                        return true;
+                    }
+                }
+            }
+        }
+    }
+    false
+}
+
+// The comments behind the first, as one text. Without them, what any such picture shows.
 fn sentence_of(alloc: Global, picture: &Picture) -> Result<String, AllocError> {
     let mut text = String::new(alloc);
     for comment in picture.comments.iter().skip(1) {
@@ -245,14 +262,18 @@ fn sentence_of(alloc: Global, picture: &Picture) -> Result<String, AllocError> {
         }
         text.push_str(comment.as_str())?;
     }
+    if text.is_empty() {
+        text.push_str(what_is_shown(picture.kind))?;
+    }
     Ok(text)
 }
 
-fn title_of(kind: Kind) -> &'static str {
+fn what_is_shown(kind: Kind) -> &'static str {
     match kind {
-        Kind::Managed => "A run of a managed pool",
-        Kind::Unmanaged => "A run of an unmanaged pool",
-        Kind::Journal => "A journal of a managed pool",
-        Kind::UnmanagedJournal => "A journal of an unmanaged pool",
+        Kind::Managed => "How gets and objects stand after each line of a script.",
+        Kind::Unmanaged => "How gets, adds and objects stand after each line of a script.",
+        Kind::Journal | Kind::UnmanagedJournal => {
+            "How many objects there are, and how many wait, after each step."
+        }
     }
 }

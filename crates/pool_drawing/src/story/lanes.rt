@@ -1,8 +1,9 @@
 //! Writes the lanes of parties and objects: first all bars, and above them the words.
-use super::frame::{BAR, DOWN, Frame, LEFT, SMALL, end_of_object, end_of_party, reason_width};
-use super::letters::width_of;
-use super::paint::{class_of, class_of_place, names_object, words_of, words_of_place};
-use crate::{Kind, Picture, Svg, Why};
+use super::ends::{end_of_object, end_of_party};
+use super::frame::{BAR, DOWN, Frame, LEFT};
+use super::paint::{class_of, class_of_object, names_object, words_of, words_of_place};
+use super::words::Words;
+use crate::{Kind, Picture, Svg, Whereabouts};
 use pool_shapes::marks::{Mark, Place, Shape, Shelf, Stage};
 use std::alloc::{AllocError, Global};
 
@@ -39,7 +40,7 @@ pub fn write_object_bars(
     let y = frame.object_y(at);
     for at in 0..lane.len() {
         if let Some(mark) = lane.mark_at(at) {
-            let class = class_of_place(mark.shows);
+            let class = class_of_object(mark.shows);
             write_bar(svg, frame, class, mark.from, mark.to, y)?;
         }
     }
@@ -62,66 +63,6 @@ fn write_bar(
     svg.bar(class, frame.x_of(from), y, width, BAR)
 }
 
-// The words of a lane: where their base is, and what is there already.
-#[derive(Drop)]
-struct Words<'a> {
-    alloc: Global,
-    svg: &'a mut Svg,
-    frame: &'a Frame,
-    y: usize,
-    shelf: Shelf,
-}
-
-impl Words<'_> {
-    // The first of these that has room in a bar.
-    fn write_inside(
-        &mut self,
-        class: &str,
-        columns: (usize, usize),
-        words: [&str; 2],
-    ) -> Result<(), AllocError> {
-        let (from, to) = columns;
-        let width = self.frame.width_of(from, to);
-        let middle = self.frame.x_of(from).saturating_add(width / 2);
-        for word in words {
-            let half = width_of(word, SMALL) / 2;
-            if word.is_empty() || half.saturating_mul(2).saturating_add(4) > width {
-                continue;
-            }
-            let end = middle.saturating_add(half);
-            if self.shelf.put(middle.saturating_sub(half), end)? {
-                return self.write_word(class, middle, word);
-            }
-        }
-        Ok(())
-    }
-
-    fn write_word(&mut self, class: &str, x: usize, word: &str) -> Result<(), AllocError> {
-        let svg = &mut *self.svg;
-        svg.raw("<text class=\"b ")?;
-        svg.raw(class)?;
-        svg.stroke("\" x=\"", x)?;
-        svg.stroke("\" y=\"", self.y)?;
-        svg.raw("\">")?;
-        svg.escaped(word)?;
-        svg.raw("</text>\n")
-    }
-
-    // A cross where the lane ends, and why it does.
-    fn write_end(&mut self, column: usize, why: Why) -> Result<(), AllocError> {
-        let x = self.frame.x_of(column).saturating_add(5);
-        let end = x.saturating_add(reason_width(why));
-        if !self.shelf.put(x, end)? {
-            return Ok(());
-        }
-        let top = self.y.saturating_sub(10);
-        self.svg
-            .path("x", format_args!("M{x} {top}l9 9m0 -9l-9 9"))?;
-        self.svg
-            .words("e", x.saturating_add(14), self.y, why.text())
-    }
-}
-
 /// The name of a party, the words in its bars, and why it has ended.
 pub fn write_party_words(
     alloc: Global,
@@ -139,6 +80,8 @@ pub fn write_party_words(
         alloc,
         svg,
         frame,
+        arrows: &picture.arrows,
+        party,
         y,
         shelf: Shelf::new(alloc),
     };
@@ -147,8 +90,8 @@ pub fn write_party_words(
             write_shape(&mut words, picture.kind, mark)?;
         }
     }
-    match end_of_party(picture, party) {
-        Some((column, why)) => words.write_end(column, why),
+    match end_of_party(frame, picture, party) {
+        Some(end) => words.write_end(end),
         None => Ok(()),
     }
 }
@@ -174,13 +117,13 @@ fn write_shape(words: &mut Words<'_>, kind: Kind, mark: &Mark<Shape>) -> Result<
         Some(number) if stage == Stage::Holding => {
             let full = format!(in words.alloc; "object {number}")?;
             let last = format!(in words.alloc; "{number}")?;
-            words.write_inside(class, columns, [full.as_str(), last.as_str()])
+            words.write_inside(class, columns, [full.as_str(), last.as_str(), ""])
         }
         Some(number) if names_object(stage) => {
             let full = format!(in words.alloc; "{short} object {number}")?;
-            words.write_inside(class, columns, [full.as_str(), short])
+            words.write_inside(class, columns, [full.as_str(), short, ""])
         }
-        _ => words.write_inside(class, columns, [short, ""]),
+        _ => words.write_inside(class, columns, [short, "", ""]),
     }
 }
 
@@ -202,36 +145,58 @@ pub fn write_object_words(
         alloc,
         svg,
         frame,
+        arrows: &[],
+        party: 0,
         y,
         shelf: Shelf::new(alloc),
     };
     for at in 0..lane.len() {
         if let Some(mark) = lane.mark_at(at) {
-            write_place(&mut words, picture, mark)?;
+            write_object(&mut words, picture, mark)?;
         }
     }
-    match end_of_object(picture, at) {
-        Some((column, why)) => words.write_end(column, why),
+    match end_of_object(frame, picture, at) {
+        Some(end) => words.write_end(end),
         None => Ok(()),
     }
 }
 
-fn write_place(
+fn write_object(
     words: &mut Words<'_>,
     picture: &Picture,
-    mark: &Mark<Place>,
+    mark: &Mark<Whereabouts>,
 ) -> Result<(), AllocError> {
-    let place = mark.shows;
-    let class = class_of_place(place);
+    let Whereabouts { place, kept_for } = mark.shows;
+    let class = class_of_object(mark.shows);
     let columns = (mark.from, mark.to);
+    if let Some(party) = kept_for {
+        return write_kept(words, class, columns, party);
+    }
     // (an object is out from the line on by which a party got it)
     let party = picture.events.get(mark.from).and_then(|event| event.party);
     match party {
         Some(party) if place == Place::Out => {
             let name = name_of(picture, party);
             let full = format!(in words.alloc; "{name}{party}")?;
-            words.write_inside(class, columns, [full.as_str(), ""])
+            words.write_inside(class, columns, [full.as_str(), "", ""])
         }
-        _ => words.write_inside(class, columns, [words_of_place(place), ""]),
+        _ => words.write_inside(class, columns, [words_of_place(place), "", ""]),
     }
+}
+
+// That an idle object is kept for a get.
+fn write_kept(
+    words: &mut Words<'_>,
+    class: &str,
+    columns: (usize, usize),
+    party: usize,
+) -> Result<(), AllocError> {
+    let full = format!(in words.alloc; "free, kept for get {party}")?;
+    let short = format!(in words.alloc; "kept for get {party}")?;
+    let last = format!(in words.alloc; "get {party}")?;
+    words.write_inside(
+        class,
+        columns,
+        [full.as_str(), short.as_str(), last.as_str()],
+    )
 }

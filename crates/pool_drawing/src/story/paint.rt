@@ -1,5 +1,5 @@
 //! The colours of a story, in light and in the dark, and what stages and places are called.
-use crate::Kind;
+use crate::{Kind, Whereabouts};
 use pool_shapes::marks::{Place, Stage};
 
 /// Colours that differ in lightness, so that they can be told apart in print and by those who see no red or green.
@@ -16,7 +16,8 @@ text{font:16px system-ui,-apple-system,'Segoe UI',Roboto,'DejaVu Sans',sans-seri
 .b.c{stroke:#8fd0f5}
 .b.r{stroke:#7cc9a5}
 .b.k{stroke:#e9b9d5}
-.b.i{stroke:#cfd8de}
+.b.i,.b.f{stroke:#cfd8de}
+.b.n{stroke:#fff}
 .m{font-size:15px;text-anchor:middle;fill:#55626c}
 .e{font-size:15px;fill:#b3261e;stroke:#fff;stroke-width:4px;stroke-linejoin:round;paint-order:stroke}
 .x{stroke:#b3261e;stroke-width:2.5;fill:none}
@@ -31,6 +32,7 @@ rect.c{fill:#8fd0f5}
 rect.r{fill:#7cc9a5}
 rect.k{fill:#e9b9d5}
 rect.i,path.i{fill:#cfd8de}
+rect.f{fill:#cfd8de;stroke:#e69f00;stroke-width:2}
 .w{stroke:#14212b;stroke-width:2;fill:none}
 .W{fill:#14212b}
 @media (prefers-color-scheme:dark){
@@ -39,9 +41,10 @@ text,.W{fill:#e6edf3}
 .s,.m{fill:#9aa7b2}
 .b{fill:#0d1117}
 .b.h{fill:#fff;stroke:#1f6fa8}
-.b.i{fill:#e6edf3;stroke:#44515c}
+.b.i,.b.f{fill:#e6edf3;stroke:#44515c}
+.b.n{fill:#e6edf3;stroke:#0d1117}
 rect.h,path.h{fill:#1f6fa8}
-rect.i,path.i{fill:#44515c}
+rect.i,rect.f,path.i{fill:#44515c}
 .e{fill:#ff8a80;stroke:#0d1117}
 .x,.d,.L{stroke:#ff8a80}
 .w{stroke:#e6edf3}
@@ -66,7 +69,7 @@ pub fn class_of(stage: Stage) -> &'static str {
 /// What a bar of this stage says in words.
 pub fn words_of(kind: Kind, stage: Stage) -> &'static str {
     match stage {
-        Stage::New => "",
+        Stage::New => "not asked yet",
         Stage::Queued => "waits",
         Stage::Granted if kind == Kind::Unmanaged => "may go on",
         Stage::Granted | Stage::Going => "has a place",
@@ -86,10 +89,11 @@ pub fn names_object(stage: Stage) -> bool {
     }
 }
 
-/// The class of a place that has a bar.
-pub fn class_of_place(place: Place) -> &'static str {
-    match place {
+/// The class of an object that has a bar.
+pub fn class_of_object(object: Whereabouts) -> &'static str {
+    match object.place {
         Place::Offered => "q",
+        Place::Idle if object.kept_for.is_some() => "f",
         Place::Idle => "i",
         Place::Prepared => "r",
         Place::Out => "h",
