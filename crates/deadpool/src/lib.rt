@@ -4,9 +4,9 @@
 
 pub mod limits;
 pub mod managed;
-pub mod replay;
 pub mod threads;
 pub mod timer;
+pub mod trial;
 pub mod unmanaged;
 
 pub use deadpool_gate::gate;

@@ -6,7 +6,7 @@ use deadpool_builder::PoolBuilder;
 use deadpool_managed::{
     FnHook, GetState, Hook, HookResult, Metrics, Moment, NoHook, SyncHook, Timeouts,
 };
-use deadpool_replay::{Move, Trial};
+use deadpool_trial::{Move, Trial};
 use futures::task::{Doorbell, Solo};
 use std::io;
 use std::io::Print;

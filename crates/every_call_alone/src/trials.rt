@@ -2,7 +2,7 @@
 use crate::zeros::Zeros;
 use deadpool_builder::PoolBuilder;
 use deadpool_managed::{Moment, NoHook};
-use deadpool_replay::{Move, Trial, unmanaged};
+use deadpool_trial::{Move, Trial, unmanaged};
 use futures::task::{Doorbell, Solo};
 use std::alloc::{AllocError, Global};
 use std::io;

@@ -1,6 +1,6 @@
 //! What a column of a picture is of.
 use deadpool_managed::{Moment, PoolError};
-use deadpool_replay::{Move, Reply, unmanaged};
+use deadpool_trial::{Move, Reply, unmanaged};
 use deadpool_unmanaged as plain;
 use std::fmt;
 

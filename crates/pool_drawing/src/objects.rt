@@ -1,7 +1,7 @@
 //! Where each object of a trial is.
 use crate::{MOST_OBJECTS, Stock, Stop};
 use deadpool_managed::{AsyncHook, Manager, SyncHook};
-use deadpool_replay::{Trial, unmanaged};
+use deadpool_trial::{Trial, unmanaged};
 use pool_shapes::marks::{Place, Shape, Shown, Stage};
 
 /// Where an object is, and for which get it is kept, if it is idle and is kept for one.

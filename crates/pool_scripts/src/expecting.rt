@@ -5,7 +5,7 @@ use crate::opening::PARTIES;
 use crate::players::{Player, ScriptPlayer, TrialPlayer};
 use deadpool_builder::PoolBuilder;
 use deadpool_managed::{AsyncHook, Manager, SyncHook};
-use deadpool_replay::Trial;
+use deadpool_trial::Trial;
 use futures::test::MockTask;
 use std::alloc::{AllocError, Global};
 use std::fmt;

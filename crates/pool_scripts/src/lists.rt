@@ -1,6 +1,6 @@
 //! Lists of moves, which the program does not know: `list start; poll 0 0`.
 use crate::script::{Excerpt, LineError, ManagedLine, Reason, parse_managed, parse_unmanaged};
-use deadpool_replay::{Move, unmanaged};
+use deadpool_trial::{Move, unmanaged};
 use std::alloc::Global;
 
 /// The moves of a line that is a list, each behind a space and parted from the next. None if the line is another.

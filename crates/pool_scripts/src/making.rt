@@ -7,7 +7,7 @@ use crate::texts::{
 };
 use deadpool_managed::{AsyncHook, Manager, SyncHook};
 use deadpool_parts::Moment;
-use deadpool_replay::{Move, Reply, Trial, unmanaged};
+use deadpool_trial::{Move, Reply, Trial, unmanaged};
 use futures::task::Context;
 use std::alloc::AllocError;
 use std::fmt;

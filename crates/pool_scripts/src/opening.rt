@@ -3,7 +3,7 @@ use crate::manager::{Answers, Kind, ScriptHook, ScriptManager};
 use crate::script::{ManagedPool, PoolLine, Settings, UnmanagedPool};
 use deadpool_builder::PoolBuilder;
 use deadpool_managed::{BuildError, ConfigError, Hook, NoHook, PoolConfig};
-use deadpool_replay::{Trial, unmanaged};
+use deadpool_trial::{Trial, unmanaged};
 use std::alloc::{AllocError, Global};
 use std::fmt;
 

@@ -5,7 +5,7 @@ use crate::making::{make_managed, run_managed};
 use crate::manager::Answers;
 use crate::script::{Excerpt, LineError, ManagedLine, Reason, is_skipped, parse_managed};
 use deadpool_managed::{AsyncHook, Manager, SyncHook};
-use deadpool_replay::Trial;
+use deadpool_trial::Trial;
 use futures::task::Context;
 use futures::test::MockTask;
 use std::alloc::{AllocError, Global};

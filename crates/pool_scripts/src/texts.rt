@@ -2,7 +2,7 @@
 use deadpool_journal::Tally;
 use deadpool_managed::{Counts, RetainResult};
 use deadpool_parts::Status;
-use deadpool_replay::{Reply, unmanaged};
+use deadpool_trial::{Reply, unmanaged};
 use deadpool_unmanaged_journal as plain;
 use std::alloc::AllocError;
 use std::fmt;

@@ -3,15 +3,15 @@ use Rattle.std.specs.Prelude.{◌≡◌, ℕ, ◌+◌, min, List, [], ◌∷◌,
 use Rattle.deadpool_gate.specs.Numbers.{largest_usize}
 use Rattle.deadpool_desk.specs.Counts.{reach as desk_reach}
 use Rattle.deadpool_desk.specs.DeskState.{DeskState, places as desk_places, size as desk_size}
-use Rattle.deadpool_replay.specs.Look.{look_of}
-use Rattle.deadpool_replay.specs.Pool.{Pool, places, size, reach}
-use Rattle.deadpool_replay.specs.declared.look.Look.{Look}
-use Rattle.deadpool_replay.specs.declared.look.Look.TheVariants as look
+use Rattle.deadpool_trial.specs.Look.{look_of}
+use Rattle.deadpool_trial.specs.Pool.{Pool, places, size, reach}
+use Rattle.deadpool_trial.specs.declared.look.Look.{Look}
+use Rattle.deadpool_trial.specs.declared.look.Look.TheVariants as look
 use Rattle.deadpool_unmanaged.specs.State.{State, size as state_size}
-use Rattle.deadpool_replay.specs.Unmanaged.Look.{look_of as unmanaged_look_of}
-use Rattle.deadpool_replay.specs.Unmanaged.Pool.{Pool as UnmanagedPool, size as unmanaged_size}
-use Rattle.deadpool_replay.specs.declared.unmanaged.look.Look.{Look as UnmanagedLook}
-use Rattle.deadpool_replay.specs.declared.unmanaged.look.Look.TheVariants as unmanaged
+use Rattle.deadpool_trial.specs.Unmanaged.Look.{look_of as unmanaged_look_of}
+use Rattle.deadpool_trial.specs.Unmanaged.Pool.{Pool as UnmanagedPool, size as unmanaged_size}
+use Rattle.deadpool_trial.specs.declared.unmanaged.look.Look.{Look as UnmanagedLook}
+use Rattle.deadpool_trial.specs.declared.unmanaged.look.Look.TheVariants as unmanaged
 use Rattle.pool_shapes.specs.declared.marks.shape.Shape.{Shape}
 use Rattle.pool_shapes.specs.declared.marks.shape.Stage.{Stage}
 use Rattle.pool_shapes.specs.declared.marks.shape.Stage.TheVariants as stage

@@ -4,7 +4,7 @@ ghost use Rattle.pool_shapes.specs.Shapes.{levels_of, desk_levels_of, unmanaged_
 ghost use Rattle.pool_shapes.specs.Shapes.{queue_length};
 
 use deadpool_managed::{AsyncHook, Core, Counts, Manager, SyncHook};
-use deadpool_replay::{Trial, unmanaged};
+use deadpool_trial::{Trial, unmanaged};
 use deadpool_unmanaged as plain;
 use std::alloc::AllocError;
 

@@ -5,7 +5,7 @@ ghost use Rattle.pool_shapes.specs.Shapes.{ShowsParties, UnmanagedShowsParties};
 use crate::marks::Shape;
 use crate::{shape_of, unmanaged_shape_of};
 use deadpool_managed::{AsyncHook, Manager, SyncHook};
-use deadpool_replay::{Trial, unmanaged};
+use deadpool_trial::{Trial, unmanaged};
 use std::alloc::AllocError;
 
 /// Puts a shape for each party in place of those that were there, by the party's number. `given` has what each party

@@ -3,7 +3,7 @@ ghost use Rattle.std.specs.Prelude.{◌≡◌};
 ghost use Rattle.pool_shapes.specs.Shapes.{shape_of, unmanaged_shape_of, ended_with};
 
 use crate::marks::{Shape, Stage};
-use deadpool_replay::{Look, unmanaged};
+use deadpool_trial::{Look, unmanaged};
 
 /// What is shown of a get of a managed pool that has started, with the object that it was given and that is out.
 pub fn shape_of(look: Look, given: Option<usize>) -> Shape

@@ -1,7 +1,7 @@
 //! Makes the moves of a script, and keeps what parties are given.
 use crate::{Event, Stop};
 use deadpool_managed::Moment;
-use deadpool_replay::{Move, Reply, unmanaged};
+use deadpool_trial::{Move, Reply, unmanaged};
 use futures::task::Context;
 use pool_scripts::{
     Answers, ManagedLine, ManagedTrial, Refused, ScriptLine, UnmanagedLine, UnmanagedTrial,

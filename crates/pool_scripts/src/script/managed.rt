@@ -7,7 +7,7 @@ use super::{Language, LineError, Wanted};
 use crate::manager::{Answer, Kind};
 use deadpool_managed::Timeouts;
 use deadpool_parts::Moment;
-use deadpool_replay::Move;
+use deadpool_trial::Move;
 use std::alloc::Global;
 
 /// What a line over a managed pool says.

@@ -3,7 +3,7 @@ use super::words::{
     Words, end, next_moment, next_number, next_word, parse_timeout, unknown, words_of,
 };
 use super::{Language, LineError};
-use deadpool_replay::unmanaged::Move;
+use deadpool_trial::unmanaged::Move;
 use std::time::Duration;
 
 /// What a line of a script says over an unmanaged pool: a move, a closing that says what is left, or a question for

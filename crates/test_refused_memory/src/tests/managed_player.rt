@@ -3,7 +3,7 @@ use super::player::Player;
 use super::told::{SharedAnswers, Told, ToldHook, hook_of, manager_of, no_answers};
 use deadpool_builder::PoolBuilder;
 use deadpool_managed::{BuildError, NoHook};
-use deadpool_replay::{Move, Reply, Trial};
+use deadpool_trial::{Move, Reply, Trial};
 use futures::test::MockTask;
 use pool_scripts::{
     Answer, Kind, ManagedLine, ManagedPool, PoolLine, Refused, Settings, parse_managed, parse_pool,

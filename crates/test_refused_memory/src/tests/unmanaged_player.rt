@@ -1,7 +1,7 @@
 //! An unmanaged trial on which scripts are played.
 use super::player::Player;
 use deadpool_parts::Runtime;
-use deadpool_replay::unmanaged::{Move, Reply, Trial};
+use deadpool_trial::unmanaged::{Move, Reply, Trial};
 use pool_scripts::{PoolLine, parse_pool, parse_unmanaged, write_unmanaged};
 use std::alloc::{AllocError, Global};
 use std::random::RandomSource;

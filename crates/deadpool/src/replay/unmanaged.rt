@@ -1,6 +1,0 @@
-//! Runs of moves over an unmanaged pool, with moves and replies of their own; and its journal.
-
-pub use deadpool_replay::unmanaged::{Item, Look, Move, Reply, Trial, laws};
-pub use deadpool_unmanaged_journal::{
-    ByNumber, Entry, Journal, Journaled, Nameless, Naming, OwnerReply, OwnerStep, Unnamed,
-};

@@ -1,6 +1,0 @@
--- The law that a closed pool has nothing idle.
-use Rattle.deadpool_replay.proofs.OfUnmanaged.{Words.IsEmptyIfClosed, Well.each_state}
-use Rattle.deadpool_replay.proofs.unmanaged.laws.closed_is_empty.Goals as goal
-
-pub returns : goal.returns
-returns g c = each_state IsEmptyIfClosed (λ p well. well.closed)

@@ -1,0 +1,62 @@
+-- A return is the list machine's, and one by a party without an object says so.
+use Rattle.deadpool_trial.proofs.OfUnmanaged.Basics.{◌≡◌, ◌∙◌, Some, None, sym, arith, none_there}
+use Rattle.deadpool_trial.proofs.OfUnmanaged.Words.{find_item, item_number, Move, Reply}
+use Rattle.deadpool_trial.proofs.OfUnmanaged.{OtherMoves.known, OtherMoves.came_back, Parties.stays}
+use Rattle.deadpool_trial.proofs.unmanaged.trial.Trial.back.Goals as goal
+
+pub invariant_of-self : goal.invariant_of-self
+invariant_of-self g c =
+    let f = c.self.inside in
+    let none : find_item c.args.number f.out.items ≡ None = sym c.take_out.ensures.item ∙ c.in-None.is in
+    let same = c.take_out.ensures.items ∙ none_there item_number c.args.number f.out.items none in
+    let i = c.self.invariant in
+    rw same record {
+      counted = i.counted;
+      well = i.well;
+      parties = i.parties;
+      places = i.places;
+      out_room = rw c.take_out.ensures.capacity i.out_room;
+    }
+
+pub returns-in-None : goal.returns-in-None
+returns-in-None g c =
+    let f = c.self.inside in
+    let none : find_item c.args.number f.out.items ≡ None = sym c.take_out.ensures.item ∙ c.in-None.is in
+    let same = c.take_out.ensures.items ∙ none_there item_number c.args.number f.out.items none in
+    let all = stays f.runtime f.most_parties f.next f.core.pool f.visitors.items f.out.items c.self.invariant.counted
+    c.self.invariant.well (Move.Back c.args.number) Reply.NoSuch (rw none) in
+    rw (← c.self.view_is, same) all.gives
+
+pub after_back-requires : goal.after_back-requires
+after_back-requires g c =
+    let f = c.self.inside in
+    let here : find_item c.args.number f.out.items ≡ Some c.in-Some.item = sym c.take_out.ensures.item ∙ c.in-Some.is in
+    known f.runtime f.most_parties f.next f.core.pool f.visitors.items f.out.items c.self.invariant.counted
+    c.self.invariant.well c.args.number c.in-Some.item here c.make-reply.new.self.pool c.make-reply.result
+    c.make-reply.ensures.made.0
+
+pub invariant_of-self-in-Some : goal.invariant_of-self-in-Some
+invariant_of-self-in-Some g c =
+    let f = c.self.inside in
+    let here : find_item c.args.number f.out.items ≡ Some c.in-Some.item = sym c.take_out.ensures.item ∙ c.in-Some.is in
+    let all =
+    came_back f.runtime f.most_parties f.next f.core.pool f.visitors.items f.out.items c.self.invariant.counted
+    c.self.invariant.well c.args.number c.in-Some.item here c.make-reply.new.self.pool c.make-reply.result
+    c.make-reply.ensures.made.0 in
+    rw c.take_out.ensures.items record {
+      counted = all.counted;
+      well = all.well;
+      parties = c.self.invariant.parties;
+      places = c.self.invariant.places;
+      out_room = omega (arith, all.limit, c.self.invariant.out_room, c.take_out.ensures.capacity);
+    }
+
+pub returns-in-Some : goal.returns-in-Some
+returns-in-Some g c =
+    let f = c.self.inside in
+    let here : find_item c.args.number f.out.items ≡ Some c.in-Some.item = sym c.take_out.ensures.item ∙ c.in-Some.is in
+    let all =
+    came_back f.runtime f.most_parties f.next f.core.pool f.visitors.items f.out.items c.self.invariant.counted
+    c.self.invariant.well c.args.number c.in-Some.item here c.make-reply.new.self.pool c.make-reply.result
+    c.make-reply.ensures.made.0 in
+    rw (← c.self.view_is, c.take_out.ensures.items, c.after_back.ensures) all.gives
