@@ -10,15 +10,6 @@ pub mod RunLaws
 -- What a trial shows of it.
 pub mod TrialState
 pub mod Look
--- Scripts that it was checked with: each equation computes.
-pub mod Script
-pub mod ScriptsFirstPath
-pub mod ScriptsPreparation
-pub mod ScriptsTimeouts
-pub mod ScriptsOwnSteps
-pub mod ScriptsMinIdle
-pub mod ScriptsMaxWaiting
-pub mod ScriptsClosing
 -- How the fields of a trial are seen as the machine. No contract of another crate cites them.
 pub mod TrialFields
 pub mod Image

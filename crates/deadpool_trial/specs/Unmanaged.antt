@@ -8,9 +8,6 @@ pub mod Laws
 pub mod RunLaws
 -- What is seen of a pool between its moves.
 pub mod Look
--- Scripts that it was checked with: each equation computes.
-pub mod Script
-pub mod Scripts
 -- How the fields of a trial are seen as the machine. No contract of another crate cites them.
 pub mod TrialFields
 pub mod Image

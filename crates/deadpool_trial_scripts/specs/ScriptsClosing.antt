@@ -3,10 +3,10 @@
 use Rattle.std.specs.Prelude.{[], ◌∷◌, None, refl}
 use Rattle.deadpool_parts.specs.declared.config.QueueMode.TheVariants.{Fifo, Lifo}
 use Rattle.deadpool_parts.specs.declared.errors.PoolError.TheVariants.{Closed}
-use Rattle.deadpool_trial.specs.Script.{Plays, ◌⇒◌, new_pool, answer, start, poll, cancel, back, take_out, resize_to}
-use Rattle.deadpool_trial.specs.Script.{drain, status, drop_handle, Create, PreRecycle, Stalls, Fine, Refuses}
-use Rattle.deadpool_trial.specs.Script.{party, pending, object, failed, ok, kept, detached, cancelled, taken}
-use Rattle.deadpool_trial.specs.Script.{stands, has_left, drained, no_handle}
+use Rattle.deadpool_trial_scripts.specs.Script.{Plays, ◌⇒◌, new_pool, answer, start, poll, cancel, back, take_out}
+use Rattle.deadpool_trial_scripts.specs.Script.{resize_to, drain, status, drop_handle, Create, PreRecycle, Stalls, Fine}
+use Rattle.deadpool_trial_scripts.specs.Script.{Refuses, party, pending, object, failed, ok, kept, detached, cancelled}
+use Rattle.deadpool_trial_scripts.specs.Script.{taken, stands, has_left, drained, no_handle}
 
 -- Two are out: the pool is drained once both have come back or left. One that waits is refused, and is not waited for.
 pub drained-by-the-last-return : Plays (new_pool 2 Fifo None 0) (

@@ -5,9 +5,10 @@ use Rattle.deadpool_parts.specs.declared.moment.Runtime.TheVariants.{Clock}
 use Rattle.deadpool_parts.specs.declared.config.QueueMode.TheVariants.{Fifo}
 use Rattle.deadpool_parts.specs.declared.errors.PoolError.TheVariants.{Timeout, Backend, Closed, NoRuntimeSpecified}
 use Rattle.deadpool_parts.specs.declared.errors.TimeoutType.TheVariants as phase
-use Rattle.deadpool_trial.specs.Script.{Plays, ◌⇒◌, new_pool, Stalls, Refuses, Create, Recycle, PreRecycle}
-use Rattle.deadpool_trial.specs.Script.{PostRecycle, start, start_with, poll, cancel, back, close_pool, status, answer}
-use Rattle.deadpool_trial.specs.Script.{party, no_such, pending, object, failed, cancelled, ok, kept, stands}
+use Rattle.deadpool_trial_scripts.specs.Script.{Plays, ◌⇒◌, new_pool, Stalls, Refuses, Create, Recycle, PreRecycle}
+use Rattle.deadpool_trial_scripts.specs.Script.{PostRecycle, start, start_with, poll, cancel, back, close_pool, status}
+use Rattle.deadpool_trial_scripts.specs.Script.{answer, party, no_such, pending, object, failed, cancelled, ok, kept}
+use Rattle.deadpool_trial_scripts.specs.Script.{stands}
 
 -- A get is cancelled while its creation is pending, and is then no such get.
 pub cancelled-at-each-pending-call : Plays (new_pool 1 Fifo None 0) (

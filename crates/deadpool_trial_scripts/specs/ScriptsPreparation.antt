@@ -4,9 +4,10 @@ use Rattle.std.specs.Prelude.{[], ◌∷◌, None, refl}
 use Rattle.deadpool_parts.specs.declared.config.QueueMode.TheVariants.{Fifo}
 use Rattle.deadpool_parts.specs.declared.errors.PoolError.TheVariants.{Backend, PostCreateHook}
 use Rattle.deadpool_parts.specs.declared.errors.HookError.TheVariants.{Message}
-use Rattle.deadpool_trial.specs.Script.{Plays, ◌⇒◌, new_pool, Fine, Stalls, Refuses, Adds, Create, Recycle, PreRecycle}
-use Rattle.deadpool_trial.specs.Script.{PostRecycle, PostCreate, refused_text, start, advance, poll, back, status}
-use Rattle.deadpool_trial.specs.Script.{answer, party, more, pending, object, failed, ok, kept, stands}
+use Rattle.deadpool_trial_scripts.specs.Script.{Plays, ◌⇒◌, new_pool, Fine, Stalls, Refuses, Adds, Create, Recycle}
+use Rattle.deadpool_trial_scripts.specs.Script.{PreRecycle, PostRecycle, PostCreate, refused_text, start, advance, poll}
+use Rattle.deadpool_trial_scripts.specs.Script.{back, status, answer, party, more, pending, object, failed, ok, kept}
+use Rattle.deadpool_trial_scripts.specs.Script.{stands}
 
 -- One object was idle when the poll first took one, so that it takes only one. Its next poll may take another.
 pub allowance-used-up : Plays (new_pool 3 Fifo None 0) (

@@ -3,8 +3,8 @@
 use Rattle.std.specs.Prelude.{[], ◌∷◌, None, refl}
 use Rattle.deadpool_parts.specs.declared.config.QueueMode.TheVariants.{Fifo, Lifo}
 use Rattle.deadpool_parts.specs.declared.errors.PoolError.TheVariants.{NumbersExhausted}
-use Rattle.deadpool_trial.specs.Script.{Plays, ◌⇒◌, new_pool, start, poll, back, status, party, no_such, pending}
-use Rattle.deadpool_trial.specs.Script.{object, failed, kept, stands}
+use Rattle.deadpool_trial_scripts.specs.Script.{Plays, ◌⇒◌, new_pool, start, poll, back, status, party, no_such}
+use Rattle.deadpool_trial_scripts.specs.Script.{pending, object, failed, kept, stands}
 
 -- A get makes the first object, which comes back.
 pub first-run : Plays (new_pool 1 Fifo None 0) (

@@ -1,8 +1,8 @@
 -- Worked scripts. Each equation is a script with the reply to each line, and holds by computing.
 use Rattle.std.specs.Prelude.{[], ◌∷◌, Some, None, true, false, refl}
 use Rattle.deadpool_parts.specs.declared.moment.Runtime.TheVariants.{Clock}
-use Rattle.deadpool_trial.specs.Unmanaged.Script.{Plays, ◌⇒◌, new_pool, get, poll, party, pending, added, failed}
-use Rattle.deadpool_trial.specs.Unmanaged.Script.{refused, taken, ok, stands, object, plain}
+use Rattle.deadpool_trial_scripts.specs.Unmanaged.Script.{Plays, ◌⇒◌, new_pool, get, poll, party, pending, added}
+use Rattle.deadpool_trial_scripts.specs.Unmanaged.Script.{failed, refused, taken, ok, stands, object, plain}
 use Rattle.deadpool_unmanaged.specs.declared.error.PoolError.TheVariants.{Timeout, Closed, Crowded, NoRuntimeSpecified}
 use Rattle.deadpool_trial.specs.Unmanaged.Pool.{bounded}
 use Rattle.deadpool_trial.specs.declared.unmanaged.moves.Move.TheVariants.{Add, TryGet, TryAdd, Cancel, Back, Take}

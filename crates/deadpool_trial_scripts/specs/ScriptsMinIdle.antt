@@ -4,10 +4,10 @@ use Rattle.std.specs.Prelude.{false, [], ◌∷◌, Some, None, refl}
 use Rattle.deadpool_parts.specs.declared.config.QueueMode.TheVariants.{Fifo}
 use Rattle.deadpool_parts.specs.declared.errors.PoolError.TheVariants.{Timeout}
 use Rattle.deadpool_parts.specs.declared.errors.TimeoutType.TheVariants as phase
-use Rattle.deadpool_trial.specs.Script.{Plays, ◌⇒◌, new_pool_with_min_idle, Stalls, Recycle, start, start_with, poll}
-use Rattle.deadpool_trial.specs.Script.{back, resize_to, retain_only, close_pool, drop_handle, upgrade_handle, status}
-use Rattle.deadpool_trial.specs.Script.{answer, party, no_handle, pending, object, failed, ok, kept, detached, dropped}
-use Rattle.deadpool_trial.specs.Script.{retained, stands, upgraded}
+use Rattle.deadpool_trial_scripts.specs.Script.{Plays, ◌⇒◌, new_pool_with_min_idle, Stalls, Recycle, start, start_with}
+use Rattle.deadpool_trial_scripts.specs.Script.{poll, back, resize_to, retain_only, close_pool, drop_handle}
+use Rattle.deadpool_trial_scripts.specs.Script.{upgrade_handle, status, answer, party, no_handle, pending, object}
+use Rattle.deadpool_trial_scripts.specs.Script.{failed, ok, kept, detached, dropped, retained, stands, upgraded}
 
 -- A shrink leaves two idle while the others are out, and a get has no place all the same. A smaller limit leaves one,
 -- and a close none.

@@ -5,9 +5,9 @@ use Rattle.deadpool_parts.specs.declared.moment.Runtime.TheVariants.{Clock}
 use Rattle.deadpool_parts.specs.declared.config.QueueMode.TheVariants.{Fifo}
 use Rattle.deadpool_parts.specs.declared.errors.PoolError.TheVariants.{Closed, Crowded, Timeout}
 use Rattle.deadpool_parts.specs.declared.errors.TimeoutType.TheVariants as phase
-use Rattle.deadpool_trial.specs.Script.{Plays, ◌⇒◌, new_pool, new_pool_with_bound, start, start_with, poll, cancel}
-use Rattle.deadpool_trial.specs.Script.{back, resize_to, close_pool, status}
-use Rattle.deadpool_trial.specs.Script.{party, pending, object, failed, ok, kept, cancelled, stands}
+use Rattle.deadpool_trial_scripts.specs.Script.{Plays, ◌⇒◌, new_pool, new_pool_with_bound, start, start_with, poll}
+use Rattle.deadpool_trial_scripts.specs.Script.{cancel, back, resize_to, close_pool, status, party, pending, object}
+use Rattle.deadpool_trial_scripts.specs.Script.{failed, ok, kept, cancelled, stands}
 
 -- One may wait. The next is refused at once, until the first has a place: then nobody waits.
 pub one-more-is-refused : Plays (new_pool_with_bound 1 Fifo None 0 1) (

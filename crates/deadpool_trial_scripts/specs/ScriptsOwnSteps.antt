@@ -4,11 +4,12 @@ use Rattle.std.specs.Prelude.{true, false, [], ◌∷◌, Some, None, refl}
 use Rattle.deadpool_parts.specs.declared.config.QueueMode.TheVariants.{Fifo, Lifo}
 use Rattle.deadpool_parts.specs.declared.errors.PoolError.TheVariants.{Timeout, Closed}
 use Rattle.deadpool_parts.specs.declared.errors.TimeoutType.TheVariants as phase
-use Rattle.deadpool_trial.specs.Script.{Plays, ◌⇒◌, new_pool, Stalls, Refuses, Create, Recycle, start, start_with}
-use Rattle.deadpool_trial.specs.Script.{advance, poll, cancel, put, back, take_out, resize_to, retain_only, close_pool}
-use Rattle.deadpool_trial.specs.Script.{status, clone_handle, drop_handle, upgrade_handle, answer, party, no_such}
-use Rattle.deadpool_trial.specs.Script.{no_handle, more, pending, object, failed, cancelled, ok, kept, detached}
-use Rattle.deadpool_trial.specs.Script.{dropped, taken, retained, stands, upgraded}
+use Rattle.deadpool_trial_scripts.specs.Script.{Plays, ◌⇒◌, new_pool, Stalls, Refuses, Create, Recycle, start}
+use Rattle.deadpool_trial_scripts.specs.Script.{start_with, advance, poll, cancel, put, back, take_out, resize_to}
+use Rattle.deadpool_trial_scripts.specs.Script.{retain_only, close_pool, status, clone_handle, drop_handle}
+use Rattle.deadpool_trial_scripts.specs.Script.{upgrade_handle, answer, party, no_such, no_handle, more, pending}
+use Rattle.deadpool_trial_scripts.specs.Script.{object, failed, cancelled, ok, kept, detached, dropped, taken, retained}
+use Rattle.deadpool_trial_scripts.specs.Script.{stands, upgraded}
 
 -- The idle object goes with the last handle.
 pub clone-and-two-drops : Plays (new_pool 1 Fifo None 0) (
