@@ -1,13 +1,13 @@
-//! Reads a journal, makes its steps again, and draws the counts after each of them.
+//! Reads a journal, makes its steps again, and draws what there is after each of them.
 mod step;
 mod unmanaged;
 
-use crate::{Column, Drawn, Kind, Owner, Picture, Stock, Stop, is_out_of_memory, write_picture};
+use crate::story::write_story;
+use crate::{Column, Kind, Owner, Picture, Stock, Stop, is_out_of_memory};
 use deadpool_managed::{Core, QueueMode};
 use deadpool_unmanaged as plain;
 use pool_scripts::{Fault, LineError, Reason, Stopped, parse_number, read_line, without_line_feed};
-use pool_shapes::{show_core_levels, show_unmanaged_core_levels};
-use std::alloc::{AllocError, Global};
+use std::alloc::Global;
 use std::io::{BufRead, Write};
 use step::{Words, end, make_again, next_number, next_word, words_of};
 use unmanaged::{Name, make_unmanaged_again};
@@ -17,16 +17,15 @@ use unmanaged::{Name, make_unmanaged_again};
 /// drawn up to there.
 pub fn draw_journal<B: BufRead, W: Write>(
     alloc: Global,
-    drawn: Drawn,
     reader: &mut B,
     writer: &mut W,
 ) -> Result<(), Stopped> {
-    let mut reading = Reading::new(alloc, drawn);
+    let mut reading = Reading::new(alloc);
     let ending = reading.read_all(reader);
     if is_out_of_memory(&ending) {
         return ending;
     }
-    write_picture(alloc, &reading.picture, writer)?;
+    write_story(alloc, &reading.picture, writer)?;
     ending
 }
 
@@ -50,12 +49,12 @@ struct Reading {
 }
 
 impl Reading {
-    fn new(alloc: Global, drawn: Drawn) -> Self {
+    fn new(alloc: Global) -> Self {
         Reading {
             alloc,
             pool: None,
             is_full: false,
-            picture: Picture::new(alloc, Kind::Journal, drawn),
+            picture: Picture::new(alloc, Kind::Journal),
             column: Column::new(alloc),
         }
     }
@@ -124,12 +123,11 @@ impl Reading {
             ..
         } = self;
         if let Some(pool) = pool {
-            show(pool, column)?;
+            show(pool, column);
             column.event.line = number;
             column.event.owner = owner_of(line);
             picture.add_column(*alloc, column)?;
         }
-        picture.add_line(*alloc, number, line, "")?;
         Ok(())
     }
 }
@@ -149,22 +147,21 @@ fn text_again(alloc: Global, pool: &mut Pool, words: &mut Words<'_>) -> Result<S
 }
 
 // What stands in the column of a pool as it is now.
-fn show(pool: &Pool, column: &mut Column) -> Result<(), AllocError> {
+fn show(pool: &Pool, column: &mut Column) {
     match pool {
         Pool::Managed(core) => {
-            show_core_levels(core, &mut column.levels)?;
             let counts = core.counts();
+            column.limit = counts.limit;
             column.stock = stock_of(counts.size, counts.granted, counts.waiting);
         }
         Pool::Unmanaged(core) => {
-            show_unmanaged_core_levels(core, &mut column.levels)?;
             let counts = core.counts();
+            column.limit = counts.limit;
             let granted = counts.gets_granted.saturating_add(counts.adds_granted);
             let waiting = counts.gets_waiting.saturating_add(counts.adds_waiting);
             column.stock = stock_of(counts.size, granted, waiting);
         }
     }
-    Ok(())
 }
 
 // A journal does not say which objects are idle.

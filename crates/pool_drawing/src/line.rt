@@ -1,20 +1,17 @@
-//! The lines that are written below a picture.
+//! The lines that are written below a picture, and what comments say.
 use std::alloc::{AllocError, Global};
 use std::str;
 
 // How many bytes of a line or a reply are shown at most.
 const MOST_SHOWN: usize = 60;
 
-/// A line of the input, and what was replied.
+/// A line of the input, and what was replied or is said of it.
 #[derive(Drop)]
 pub struct Line {
     /// Its number in the input, from 1.
     pub number: u64,
     pub text: String,
     pub reply: String,
-    pub is_error: bool,
-    /// Whether it has a column.
-    pub is_move: bool,
 }
 
 impl Line {
@@ -24,17 +21,7 @@ impl Line {
             number,
             text: shortened(alloc, line)?,
             reply: shortened(alloc, reply.trim_ascii().as_bytes())?,
-            is_error: reply.starts_with("error"),
-            is_move: true,
         })
-    }
-
-    /// A line that has no column: with what is said of it, it is an error.
-    pub fn aside(alloc: Global, number: u64, line: &[u8], why: &str) -> Result<Line, AllocError> {
-        let mut aside = Line::new(alloc, number, line, why)?;
-        aside.is_error = !why.is_empty();
-        aside.is_move = false;
-        Ok(aside)
     }
 }
 

@@ -1,12 +1,8 @@
 //! What a picture shows, before it is written.
-use crate::detail::write_detail;
 use crate::line::comment_of;
-use crate::story::write_story;
 use crate::{Event, Line, Stop, Whereabouts};
-use pool_scripts::Fault;
 use pool_shapes::marks::{Lanes, Shape, Shown};
 use std::alloc::{AllocError, Global};
-use std::io::Write;
 use std::mem;
 
 /// How many moves are drawn at most.
@@ -18,7 +14,7 @@ pub const MOST_OBJECTS: usize = 1_024;
 // How many comments are shown at most.
 const MOST_COMMENTS: usize = 8;
 
-// How many lines without a column are named at most, where not all lines are.
+// How many lines without a column are named at most.
 const MOST_NOTES: usize = 12;
 
 /// What a picture is of.
@@ -45,15 +41,6 @@ impl Kind {
             Kind::UnmanagedJournal => "A journal of an unmanaged pool",
         }
     }
-}
-
-/// How a picture is drawn.
-#[derive(Clone, Copy, Debug, PartialEq, Eq)]
-pub enum Drawn {
-    /// As a story: one chart, and words in the lanes.
-    Story,
-    /// With each count in a chart of its own, and all lines.
-    Detail,
 }
 
 /// What there is of a pool at one move.
@@ -87,13 +74,12 @@ pub struct Arrow {
 #[derive(Drop)]
 pub struct Picture {
     pub kind: Kind,
-    pub drawn: Drawn,
     pub parties: Lanes<Shape>,
     pub objects: Lanes<Whereabouts>,
     /// The number of the object in the first lane.
     pub first_object: usize,
-    /// As `pool_shapes` gives them.
-    pub levels: Lanes<usize>,
+    /// One lane.
+    pub limit: Lanes<usize>,
     /// One lane.
     pub stock: Lanes<Stock>,
     /// One for each column.
@@ -102,7 +88,7 @@ pub struct Picture {
     pub arrows: Vec<Arrow>,
     /// The comments before the pool: a title, and what is said below it.
     pub comments: Vec<String>,
-    /// All lines, or those that have no column and are no comment.
+    /// Those that have no column and are no comment.
     pub lines: Vec<Line>,
 }
 
@@ -113,7 +99,7 @@ pub struct Column {
     pub stock: Stock,
     pub shapes: Vec<Shape>,
     pub places: Vec<Whereabouts>,
-    pub levels: Vec<usize>,
+    pub limit: usize,
 }
 
 impl Column {
@@ -129,21 +115,20 @@ impl Column {
             },
             shapes: Vec::new(alloc),
             places: Vec::new(alloc),
-            levels: Vec::new(alloc),
+            limit: 0,
         }
     }
 }
 
 impl Picture {
     /// One with no columns and no lines.
-    pub fn new(alloc: Global, kind: Kind, drawn: Drawn) -> Self {
+    pub fn new(alloc: Global, kind: Kind) -> Self {
         Picture {
             kind,
-            drawn,
             parties: Lanes::new(alloc),
             objects: Lanes::new(alloc),
             first_object: 0,
-            levels: Lanes::new(alloc),
+            limit: Lanes::new(alloc),
             stock: Lanes::new(alloc),
             events: Vec::new(alloc),
             arrows: Vec::new(alloc),
@@ -159,7 +144,7 @@ impl Picture {
 
     /// How many columns there are.
     pub fn columns(&self) -> usize {
-        self.levels.columns()
+        self.limit.columns()
     }
 
     /// Adds a column. There has to be room. After a refusal the picture is of no use.
@@ -168,25 +153,11 @@ impl Picture {
         self.parties = widened(parties, &column.shapes)?;
         let objects = mem::replace(&mut self.objects, Lanes::new(alloc));
         self.objects = widened(objects, &column.places)?;
-        let levels = mem::replace(&mut self.levels, Lanes::new(alloc));
-        self.levels = widened(levels, &column.levels)?;
+        let limit = mem::replace(&mut self.limit, Lanes::new(alloc));
+        self.limit = widened(limit, &[column.limit])?;
         let stock = mem::replace(&mut self.stock, Lanes::new(alloc));
         self.stock = widened(stock, &[column.stock])?;
         self.events.push(column.event)?;
-        Ok(())
-    }
-
-    /// Adds a line that has a column, if the picture has a list of its lines.
-    pub fn add_line(
-        &mut self,
-        alloc: Global,
-        number: u64,
-        line: &[u8],
-        reply: &str,
-    ) -> Result<(), AllocError> {
-        if self.drawn == Drawn::Detail {
-            self.lines.push(Line::new(alloc, number, line, reply)?)?;
-        }
         Ok(())
     }
 
@@ -198,7 +169,7 @@ impl Picture {
         line: &[u8],
         why: &str,
     ) -> Result<(), AllocError> {
-        self.lines.push(Line::aside(alloc, number, line, why)?)?;
+        self.lines.push(Line::new(alloc, number, line, why)?)?;
         Ok(())
     }
 
@@ -210,7 +181,7 @@ impl Picture {
         Ok(())
     }
 
-    /// Adds a line that has no column: with what is said of it, or a comment.
+    /// Adds a line that has no column, if there are not many.
     pub fn set_aside(
         &mut self,
         alloc: Global,
@@ -218,9 +189,8 @@ impl Picture {
         line: &[u8],
         why: &str,
     ) -> Result<(), AllocError> {
-        let is_note = !why.is_empty() && self.lines.len() < MOST_NOTES;
-        if is_note || self.drawn == Drawn::Detail {
-            self.lines.push(Line::aside(alloc, number, line, why)?)?;
+        if self.lines.len() < MOST_NOTES {
+            self.lines.push(Line::new(alloc, number, line, why)?)?;
         }
         Ok(())
     }
@@ -232,16 +202,4 @@ fn widened<T: Shown + Drop>(lanes: Lanes<T>, shown: &[T]) -> Result<Lanes<T>, St
         return Err(Stop::TooMuch);
     }
     Ok(lanes.with_column(shown)?)
-}
-
-/// Writes a picture to its end, part by part.
-pub fn write_picture<W: Write>(
-    alloc: Global,
-    picture: &Picture,
-    writer: &mut W,
-) -> Result<(), Fault> {
-    match picture.drawn {
-        Drawn::Story => write_story(alloc, picture, writer),
-        Drawn::Detail => write_detail(alloc, picture, writer),
-    }
 }

@@ -3,9 +3,8 @@ mod moves;
 
 use crate::kept_for::KeptFor;
 use crate::objects::{show_objects, show_unmanaged_objects};
-use crate::{
-    Arrow, Column, Drawn, Event, Kind, Owner, Picture, Stop, is_out_of_memory, write_picture,
-};
+use crate::story::write_story;
+use crate::{Arrow, Column, Event, Kind, Owner, Picture, Stop, is_out_of_memory};
 use futures::task::{Context, Doorbell, Solo};
 use moves::{play_managed, play_unmanaged};
 use pool_scripts::{
@@ -13,10 +12,7 @@ use pool_scripts::{
     open_pool, parse_pool, read_line, refuse, sides_of, without_line_feed,
 };
 use pool_shapes::marks::Shape;
-use pool_shapes::{
-    Given, Handover, handed_over, show_levels, show_parties, show_unmanaged_levels,
-    show_unmanaged_parties,
-};
+use pool_shapes::{Given, Handover, handed_over, show_parties, show_unmanaged_parties};
 use std::alloc::{AllocError, Global};
 use std::io::{BufRead, Write};
 use std::mem;
@@ -25,7 +21,6 @@ use std::random::RandomSource;
 /// Plays a script to its end, and writes its picture. One that ends before is drawn up to there.
 pub fn draw_script<R, B: BufRead, W: Write>(
     rt: &R,
-    drawn: Drawn,
     reader: &mut B,
     writer: &mut W,
 ) -> Result<(), Stopped>
@@ -36,14 +31,14 @@ where
         return Err(Stopped::from(Fault::OutOfMemory));
     };
     let answers = Answers::new(rt.alloc());
-    let mut drawing = Drawing::new(rt.alloc(), &answers, drawn);
+    let mut drawing = Drawing::new(rt.alloc(), &answers);
     let mut cx = task.begin();
     let ending = read_all(&mut drawing, reader, &mut cx);
     cx.cancel();
     if is_out_of_memory(&ending) {
         return ending;
     }
-    write_picture(rt.alloc(), &drawing.picture, writer)?;
+    write_story(rt.alloc(), &drawing.picture, writer)?;
     ending
 }
 
@@ -89,14 +84,14 @@ struct Drawing<'a> {
 }
 
 impl<'a> Drawing<'a> {
-    fn new(alloc: Global, answers: &'a Answers, drawn: Drawn) -> Self {
+    fn new(alloc: Global, answers: &'a Answers) -> Self {
         Drawing {
             alloc,
             answers,
             pool: None,
             given: Given::new(alloc),
             kept_for: KeptFor::new(alloc),
-            picture: Picture::new(alloc, Kind::Managed, drawn),
+            picture: Picture::new(alloc, Kind::Managed),
             reply: String::new(alloc),
             is_closed: false,
             column: Column::new(alloc),
@@ -108,7 +103,7 @@ impl<'a> Drawing<'a> {
     fn draw_line(&mut self, number: u64, line: &[u8], cx: &mut Context<'_>) -> Result<(), Stop> {
         self.reply.clear();
         if is_skipped(line) {
-            return self.skip(number, line);
+            return self.skip(line);
         }
         if !self.picture.has_room() {
             return Err(Stop::TooMuch);
@@ -122,14 +117,10 @@ impl<'a> Drawing<'a> {
     }
 
     // A comment before the pool is what the picture is of. No other has a place.
-    fn skip(&mut self, number: u64, line: &[u8]) -> Result<(), Stop> {
-        if line.is_empty() {
-            return Ok(());
-        }
-        if self.pool.is_none() {
+    fn skip(&mut self, line: &[u8]) -> Result<(), Stop> {
+        if !line.is_empty() && self.pool.is_none() {
             self.picture.add_comment(self.alloc, line)?;
         }
-        self.picture.set_aside(self.alloc, number, line, "")?;
         Ok(())
     }
 
@@ -177,7 +168,6 @@ impl<'a> Drawing<'a> {
         show(pool, given, kept_for, picture.first_object, column)?;
         note_arrow(picture, column.stock.granted, earlier, &column.shapes)?;
         picture.add_column(*alloc, column)?;
-        picture.add_line(*alloc, event.line, line, reply.as_str())?;
         Ok(())
     }
 }
@@ -212,18 +202,18 @@ fn show(
         stock,
         shapes,
         places,
-        levels,
+        limit,
         ..
     } = column;
     match pool {
         ScriptPool::Managed(trial) => {
             show_parties(trial, given.as_slice(), shapes)?;
-            show_levels(trial, levels)?;
+            *limit = trial.counts().limit;
             *stock = show_objects(trial, first, shapes, places)?;
         }
         ScriptPool::Unmanaged(trial) => {
             show_unmanaged_parties(trial, given.as_slice(), shapes)?;
-            show_unmanaged_levels(trial, levels)?;
+            *limit = trial.counts().limit;
             *stock = show_unmanaged_objects(trial, shapes, places)?;
         }
     }

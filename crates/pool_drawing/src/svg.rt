@@ -43,7 +43,7 @@ impl Svg {
         )
     }
 
-    /// A box with round corners.
+    /// A box with round corners, of a class, which says its colours.
     pub fn bar(
         &mut self,
         class: &str,
@@ -61,21 +61,6 @@ impl Svg {
     /// A line that bends, by the path that is given.
     pub fn path<D: fmt::Display + Drop>(&mut self, class: &str, path: D) -> Result<(), AllocError> {
         writeln!(&mut self.text, "<path class=\"{class}\" d=\"{path}\"/>")
-    }
-
-    /// A box of a class, which says its colours.
-    pub fn rect(
-        &mut self,
-        class: &str,
-        x: usize,
-        y: usize,
-        width: usize,
-        height: usize,
-    ) -> Result<(), AllocError> {
-        writeln!(
-            &mut self.text,
-            "<rect class=\"{class}\" x=\"{x}\" y=\"{y}\" width=\"{width}\" height=\"{height}\"/>"
-        )
     }
 
     /// A level line of a class.

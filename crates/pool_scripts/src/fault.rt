@@ -3,7 +3,7 @@ use std::alloc::AllocError;
 use std::{fmt, io};
 
 const USAGE: &str =
-    "usage: poolrun [check | draw [--detail] [journal] | watch [--colour] | threads N M [journal K] \
+    "usage: poolrun [check | draw [journal] | watch [--colour] | threads N M [journal K] \
     | buffers MOST | help [script]]";
 
 /// Why a run ended before its input did. Its text is what the program says on standard error.

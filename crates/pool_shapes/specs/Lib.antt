@@ -2,7 +2,7 @@
 
 -- The objects that parties were given, and that are out.
 pub mod Given
--- What lanes show of parties and counts.
+-- What lanes show of parties.
 pub mod Shapes
 -- Whose place goes to whom.
 pub mod Handed

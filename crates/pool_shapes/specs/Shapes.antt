@@ -1,15 +1,11 @@
--- What lanes show of a pool at one move: of each party its stage and its object, and the counts.
-use Rattle.std.specs.Prelude.{◌≡◌, ℕ, ◌+◌, min, List, [], ◌∷◌, length, Option, Some, None, slice_get}
-use Rattle.deadpool_gate.specs.Numbers.{largest_usize}
-use Rattle.deadpool_desk.specs.Counts.{reach as desk_reach}
-use Rattle.deadpool_desk.specs.DeskState.{DeskState, places as desk_places, size as desk_size}
+-- What lanes show of a pool at one move: of each party its stage and its object.
+use Rattle.std.specs.Prelude.{◌≡◌, ℕ, List, length, Option, Some, None, slice_get}
 use Rattle.deadpool_trial.specs.Look.{look_of}
-use Rattle.deadpool_trial.specs.Pool.{Pool, places, size, reach}
+use Rattle.deadpool_trial.specs.Pool.{Pool}
 use Rattle.deadpool_trial.specs.declared.look.Look.{Look}
 use Rattle.deadpool_trial.specs.declared.look.Look.TheVariants as look
-use Rattle.deadpool_unmanaged.specs.State.{State, size as state_size}
 use Rattle.deadpool_trial.specs.Unmanaged.Look.{look_of as unmanaged_look_of}
-use Rattle.deadpool_trial.specs.Unmanaged.Pool.{Pool as UnmanagedPool, size as unmanaged_size}
+use Rattle.deadpool_trial.specs.Unmanaged.Pool.{Pool as UnmanagedPool}
 use Rattle.deadpool_trial.specs.declared.unmanaged.look.Look.{Look as UnmanagedLook}
 use Rattle.deadpool_trial.specs.declared.unmanaged.look.Look.TheVariants as unmanaged
 use Rattle.pool_shapes.specs.declared.marks.shape.Shape.{Shape}
@@ -55,39 +51,12 @@ pub record ShowsEach (shape : ℕ → Option ℕ → Shape) (given : List (Optio
   pub count : length shapes ≡ length given
   pub each : (n : ℕ) (object : Option ℕ) → slice_get given n ≡ Some object → slice_get shapes n ≡ Some (shape n object)
 
--- the length of a queue, stopped at the greatest number
-abbrev pub queue_length : ℕ → ℕ → ℕ
-queue_length granted waiting = min (granted + waiting) largest_usize
-
 module _ {V C R S F A : Type 0} where
   -- how each party of a pool stands
   abbrev pub ShowsParties : Pool V C R S F A → List (Option ℕ) → List Shape → Type 0
   ShowsParties p given shapes = ShowsEach (λ n object. shape_of (look_of n p) object) given shapes
 
-  -- from the top: the limit, the size, the places that are held, the reach, the queue
-  abbrev pub levels_of : Pool V C R S F A → List ℕ
-  levels_of p = p.limit ∷ size p ∷ places p ∷ reach p ∷ queue_length (length p.granted) (length p.waiting) ∷ []
-
--- the same of a pool without names
-abbrev pub desk_levels_of : {O : Type 0} → DeskState O → List ℕ
-desk_levels_of d = d.limit ∷ desk_size d ∷ desk_places d ∷ desk_reach d
-    ∷ queue_length (length d.granted) (length d.waiting) ∷ []
-
 module _ {V : Type 0} where
   abbrev pub UnmanagedShowsParties : UnmanagedPool V → List (Option ℕ) → List Shape → Type 0
   UnmanagedShowsParties p given shapes =
       ShowsEach (λ n object. unmanaged_shape_of (unmanaged_look_of n p) object) given shapes
-
-  -- from the top: the limit, the size, the room that is taken or granted, the queue of the gets and that of the adds
-  abbrev pub unmanaged_levels_of : UnmanagedPool V → List ℕ
-  unmanaged_levels_of p =
-      p.limit ∷ unmanaged_size p ∷ queue_length (unmanaged_size p) (length p.adds.granted)
-      ∷ queue_length (length p.gets.granted) (length p.gets.waiting)
-      ∷ queue_length (length p.adds.granted) (length p.adds.waiting) ∷ []
-
--- the same of a pool without names
-abbrev pub state_levels_of : {O : Type 0} → State O → List ℕ
-state_levels_of d =
-    d.limit ∷ state_size d ∷ queue_length (state_size d) (length d.adds.granted)
-    ∷ queue_length (length d.gets.granted) (length d.gets.waiting)
-    ∷ queue_length (length d.adds.granted) (length d.adds.waiting) ∷ []

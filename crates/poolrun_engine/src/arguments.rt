@@ -1,6 +1,5 @@
 //! The words that the program is started with.
 use crate::counting::Crowd;
-use pool_drawing::Drawn;
 use pool_scripts::{Colour, parse_number};
 use std::env::Args;
 
@@ -21,9 +20,9 @@ pub enum Task {
     /// Plays a script, and compares the replies that are written in it.
     Check,
     /// Plays a script, and draws it.
-    Draw(Drawn),
+    Draw,
     /// Draws a journal.
-    DrawJournal(Drawn),
+    DrawJournal,
     /// Plays a script, and says after each reply how the pool stands.
     Watch(Colour),
     /// Has threads count by one pool.
@@ -72,24 +71,11 @@ fn parse_help(arguments: &mut Args) -> Option<Task> {
     }
 }
 
-// What is drawn, a script or a journal, and how.
+// What is drawn, a script or a journal.
 fn parse_draw(arguments: &mut Args) -> Option<Task> {
-    let Some(word) = arguments.next() else {
-        return Some(Task::Draw(Drawn::Story));
-    };
-    match word.as_str() {
-        "journal" => last(arguments, Task::DrawJournal(Drawn::Story)),
-        "--detail" => parse_detail(arguments),
-        _ => None,
-    }
-}
-
-fn parse_detail(arguments: &mut Args) -> Option<Task> {
     match arguments.next() {
-        None => Some(Task::Draw(Drawn::Detail)),
-        Some(word) if word.as_str() == "journal" => {
-            last(arguments, Task::DrawJournal(Drawn::Detail))
-        }
+        None => Some(Task::Draw),
+        Some(word) if word.as_str() == "journal" => last(arguments, Task::DrawJournal),
         Some(_) => None,
     }
 }

@@ -10,7 +10,6 @@ poolrun plays a script of moves over a pool of objects, and writes the reply to 
   poolrun                        plays the script on its standard input
   poolrun check                  plays it, and compares the replies that are written in it
   poolrun draw                   plays it, and writes a picture of the run in SVG
-  poolrun draw --detail          the same with each count in a chart of its own, and a list of the lines
   poolrun draw journal           writes a picture of the journal on its standard input
   poolrun watch                  plays it, and writes after each reply how the pool stands
   poolrun watch --colour         the same in colours, for a terminal

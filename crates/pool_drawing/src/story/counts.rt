@@ -54,7 +54,7 @@ pub fn write_counts(svg: &mut Svg, frame: &Frame, picture: &Picture) -> Result<(
     }
     let width = frame.end_x().saturating_sub(LEFT);
     svg.rule("a", LEFT, frame.base(), width)?;
-    if let Some(limits) = picture.levels.lane_at(0) {
+    if let Some(limits) = picture.limit.lane_at(0) {
         write_limits(svg, frame, limits)?;
     }
     write_names(svg, frame, picture.kind)

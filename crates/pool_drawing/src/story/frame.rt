@@ -213,7 +213,7 @@ fn most_of(picture: &Picture) -> (usize, usize) {
         }
     }
     let within = up.saturating_mul(2).saturating_add(2);
-    if let Some(lane) = picture.levels.lane_at(0) {
+    if let Some(lane) = picture.limit.lane_at(0) {
         for at in 0..lane.len() {
             if let Some(mark) = lane.mark_at(at) {
                 if mark.shows <= within {

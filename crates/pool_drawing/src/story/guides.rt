@@ -106,7 +106,7 @@ fn words_at(alloc: Global, picture: &Picture, column: usize) -> Result<Option<St
 
 // The limit, if it begins to be this in the column.
 fn limit_from(picture: &Picture, column: usize) -> Option<usize> {
-    let lane = picture.levels.lane_at(0)?;
+    let lane = picture.limit.lane_at(0)?;
     // (the marks begin one behind the other)
     let (mut low, mut high) = (0usize, lane.len());
     for _half in 0..usize::BITS {
