@@ -1,16 +1,22 @@
 #!/usr/bin/env python3
-"""make.py POOLRUN COUNT: writes COUNT random scripts of each kind with the replies of the program POOLRUN.
+"""Writes random scripts of each kind with the replies of poolrun.
 
-managed.txt and unmanaged.txt were made with a COUNT of 1500 over a build of crates/poolrun without a proof; `rt run` there leaves a
-proved one, out/poolrun. The lines are chosen by a generator with a fixed seed, which knows nothing of a pool. It notes of each reply
-whether an object was handed out and whether a party has ended, so that most lines name an object that is out or a party that
-goes on; some name others. At its end each script asks what was counted, before a closing and after it. The replies are those of
-poolrun, none is written by hand.
+    make.py COUNT            so many, with the replies of crates/poolrun as `rt try` builds it, without a proof
+    make.py COUNT POOLRUN    with those of the program POOLRUN; `rt run` in crates/poolrun leaves a proved one, out/poolrun
+
+managed.txt and unmanaged.txt have a COUNT of 1500. The lines are chosen by a generator with a fixed seed, which knows nothing of a
+pool. It notes of each reply whether an object was handed out and whether a party has ended, so that most lines name an object that is
+out or a party that goes on; some name others. At its end each script asks what was counted, before a closing and after it. The replies
+are those of poolrun, none is written by hand.
+
+`rt try` runs whole scripts alone. So it runs the lines that the stored replies choose, and runs again as long as the replies of a run
+choose others: once, if replies have only other words; as often as a script is long, if all is new. With POOLRUN once is enough.
 """
 import os
 import random
 import subprocess
 import sys
+import tempfile
 
 MANAGED = ["start"] * 4 + ["timed"] * 2 + ["poll"] * 16 + ["cancel"] * 2 + ["back"] * 6 + ["take", "put", "resize", "resize",
            "retain", "status", "status", "status", "clone", "drop", "upgrade"] + ["answer"] * 5 + ["rare"]
@@ -137,28 +143,92 @@ class Unmanaged(Script):
         return self.common(kind)
 
 
-def made(program, kind, seed):
-    script = kind(random.Random(seed))
+KINDS = {"managed": Managed, "unmanaged": Unmanaged}
+HERE = os.path.dirname(os.path.abspath(__file__))
+
+
+def made(name, seed, ask):
+    """Returns the lines of a script with their replies, by what asks for the reply to a line."""
+    script = KINDS[name](random.Random(f"{name} {seed}"))
     count = script.dice.randrange(10, 45)
+    told = []
+    for at in range(count + 1 + len(script.ending)):
+        line = script.opening() if at == 0 else script.next_line() if at <= count else script.ending[at - count - 1]
+        reply = ask(line)
+        script.note(line, reply)
+        told.append((line, reply))
+    return told
+
+
+def asked(program, name, seed):
+    """Returns a script with the replies of a program, line by line."""
     with subprocess.Popen([program], stdin=subprocess.PIPE, stdout=subprocess.PIPE, text=True) as ran:
-        told = []
-        for at in range(count + 1 + len(script.ending)):
-            line = script.opening() if at == 0 else script.next_line() if at <= count else script.ending[at - count - 1]
+
+        def ask(line):
             ran.stdin.write(line + "\n")
             ran.stdin.flush()
-            reply = ran.stdout.readline().rstrip("\n")
-            script.note(line, reply)
-            told.append(f"{line} => {reply}\n")
+            return ran.stdout.readline().rstrip("\n")
+
+        told = made(name, seed, ask)
         ran.stdin.close()
         assert ran.wait() == 0 and not ran.stdout.read(), told
-    return "".join(told)
+    return told
+
+
+def recalled(name, seed, known):
+    """Returns a script with the replies that are known of its lines. Of others it has none."""
+    left = iter(known)
+
+    def ask(line):
+        was, reply = next(left, (None, ""))
+        return reply if was == line else ""
+
+    return made(name, seed, ask)
+
+
+def stored(name):
+    """Returns the scripts that stand in a file."""
+    with open(f"{HERE}/{name}.txt", encoding="utf-8") as file:
+        return [[tuple(line.split(" => ")) for line in it.strip("\n").split("\n")] for it in file.read().split("\n\n")]
+
+
+def tried(scripts):
+    """Returns scripts, by their names, with the replies of poolrun as `rt try` builds it."""
+    with tempfile.TemporaryDirectory() as folder:
+        for name, told in scripts.items():
+            with open(f"{folder}/{name}", "w", encoding="utf-8") as file:
+                file.write("".join(f"{line}\n" for line, _ in told))
+        command = ["rt", "try", "--cases", folder]
+        ran = subprocess.run(command, cwd=f"{HERE}/../../../crates/poolrun", stdout=subprocess.PIPE, text=True, check=True)
+    replies = {}
+    for part in f"\n{ran.stdout}".split("\n== ")[1:]:
+        name, *lines = part.rstrip("\n").split("\n")
+        replies[name] = lines
+    for name, told in scripts.items():
+        assert len(told) == len(replies[name]), (name, replies[name])
+    return {name: [(line, reply) for (line, _), reply in zip(told, replies[name])] for name, told in scripts.items()}
+
+
+def all_tried(count):
+    """Returns the scripts of all kinds, by their names, once they are the ones that their replies choose."""
+    seeds = {f"{name}_{seed}": (name, seed) for name in KINDS for seed in range(count)}
+    known = {f"{name}_{seed}": told for name in KINDS for seed, told in enumerate(stored(name))}
+    while True:
+        known = tried({key: recalled(*seed, known.get(key, [])) for key, seed in seeds.items()})
+        others = sum(recalled(*seed, known[key]) != known[key] for key, seed in seeds.items())
+        if not others:
+            return known
+        print(f"{others} scripts have other lines now: they are tried again", flush=True)
 
 
 def main():
-    program, count = sys.argv[1], int(sys.argv[2])
-    for name, kind in (("managed", Managed), ("unmanaged", Unmanaged)):
-        with open(os.path.join(os.path.dirname(__file__), f"{name}.txt"), "w", encoding="utf-8") as it:
-            it.write("\n".join(made(os.path.abspath(program), kind, f"{name} {seed}") for seed in range(count)))
+    count, program = int(sys.argv[1]), sys.argv[2:]
+    known = {} if program else all_tried(count)
+    for name in KINDS:
+        scripts = [asked(os.path.abspath(program[0]), name, it) if program else known[f"{name}_{it}"] for it in range(count)]
+        with open(f"{HERE}/{name}.txt", "w", encoding="utf-8") as file:
+            file.write("\n".join("".join(f"{line} => {reply}\n" for line, reply in told) for told in scripts))
 
 
-main()
+if __name__ == "__main__":
+    main()
