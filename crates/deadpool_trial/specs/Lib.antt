@@ -13,7 +13,7 @@ pub mod Look
 -- How the fields of a trial are seen as the machine. No contract of another crate cites them.
 pub mod TrialFields
 pub mod Image
-pub mod CountingFields
+pub mod TalliedFields
 -- The same of an unmanaged pool.
 pub mod Unmanaged
 -- What the machine cites of the crate below: which idle object is the last, and why a get or an add is refused.

@@ -11,4 +11,4 @@ pub mod Look
 -- How the fields of a trial are seen as the machine. No contract of another crate cites them.
 pub mod TrialFields
 pub mod Image
-pub mod CountingFields
+pub mod TalliedFields

@@ -1,10 +1,10 @@
 //! Runs of moves over a pool on one thread, by any number of parties. Those over an unmanaged pool are in `unmanaged`.
 #![tactic(auto)]
 
-mod counting;
 pub mod laws;
 mod look;
 mod moves;
+mod tallied_core;
 mod trial;
 pub mod unmanaged;
 

@@ -16,7 +16,7 @@ mod owner;
 mod parties;
 mod seen;
 
-use crate::counting::Counting;
+use crate::tallied_core::TalliedCore;
 use crate::{Move, Reply};
 use deadpool_builder::{OpenPool, PoolBuilder};
 use deadpool_managed::{
@@ -44,7 +44,7 @@ struct Setup<M: Manager, F: SyncHook<M>, A: AsyncHook<M>> {
 #[derive(Drop)]
 pub struct Trial<M: Manager, F: SyncHook<M>, A: AsyncHook<M>, C: Drop> {
     setup: Setup<M, F, A>,
-    core: Counting<Kept<M::Type>>,
+    core: TalliedCore<Kept<M::Type>>,
     // By number; none if the party was cancelled.
     parties: Vec<Option<GetState<M, A>>>,
     // By rising number.
@@ -106,7 +106,7 @@ impl<M: Manager, F: SyncHook<M>, A: AsyncHook<M>, C: Drop> Trial<M, F, A, C> {
         };
         Ok(Trial {
             setup,
-            core: Counting::new(core),
+            core: TalliedCore::new(core),
             parties: Vec::with_capacity(alloc, parties)?,
             out: Vec::with_capacity(alloc, parties)?,
             clock,

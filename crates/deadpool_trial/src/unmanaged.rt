@@ -1,8 +1,8 @@
 //! Runs of moves over an unmanaged pool on one thread, by any number of parties.
-mod counting;
 pub mod laws;
 mod look;
 mod moves;
+mod tallied_core;
 mod trial;
 
 pub use look::Look;

@@ -10,7 +10,7 @@ ghost use Rattle.deadpool_trial.specs.declared.moves.Move.TheVariants as move;
 
 use super::Trial;
 use crate::Reply;
-use crate::counting::Counting;
+use crate::tallied_core::TalliedCore;
 use deadpool_desk::Reply as DeskReply;
 use deadpool_managed::{AsyncHook, Desk, Environment, Kept, Manager, Slot, Step, SyncHook};
 use deadpool_parts::tables::{index_of, take_out};
@@ -88,7 +88,7 @@ fn after_back<M: Manager, F: SyncHook<M>, A: AsyncHook<M>>(
 }
 
 // The step of an object that leaves the pool for good.
-fn leave<T: Drop>(core: &mut Counting<T>) -> DeskReply
+fn leave<T: Drop>(core: &mut TalliedCore<T>) -> DeskReply
     ensures made { Steps core.old Step.Take None result core.new }
     ensures fits { IsReplyTo Step.Take result }
 {

@@ -8,7 +8,7 @@ ghost use Rattle.deadpool_trial.specs.TrialFields.{look_as};
 
 use super::Trial;
 use crate::Look;
-use crate::counting::Counting;
+use crate::tallied_core::TalliedCore;
 use deadpool_journal::Tally;
 use deadpool_managed::{AsyncHook, Counts, Manager, StageKind, SyncHook};
 
@@ -58,7 +58,7 @@ impl<M: Manager, F: SyncHook<M>, A: AsyncHook<M>, C: Drop> Trial<M, F, A, C> {
 }
 
 // What is seen of a get at this stage.
-fn look_at<T: Drop>(kind: StageKind, core: &mut Counting<T>) -> Look
+fn look_at<T: Drop>(kind: StageKind, core: &mut TalliedCore<T>) -> Look
     ensures look { result ≡ look_as core.old.desk.granted kind }
     ensures same { core.new ≡ core.old }
 {

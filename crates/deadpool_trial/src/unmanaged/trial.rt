@@ -19,7 +19,7 @@ ghost use Rattle.deadpool_trial.specs.declared.unmanaged.moves.Move.TheVariants 
 
 mod seen;
 
-use crate::unmanaged::counting::Counting;
+use crate::unmanaged::tallied_core::TalliedCore;
 use crate::unmanaged::{Item, Move, Reply};
 use deadpool_parts::tables::{append, put_in, take_out};
 use deadpool_unmanaged::{
@@ -51,7 +51,7 @@ pub(crate) enum Turn<T> {
 /// its moment.
 #[derive(Drop)]
 pub struct Trial<T> {
-    core: Counting<Item<T>>,
+    core: TalliedCore<Item<T>>,
     runtime: Option<Runtime>,
     // By number; none if the party was cancelled.
     visitors: Vec<Option<Visitor<T>>>,
@@ -93,9 +93,9 @@ impl<T: Drop> Trial<T> {
         ensures { IfOk result (λ t. t ≡ opened max_size runtime parties) }
     {
         let core = Core::new(alloc, max_size)?;
-        let counting = Counting::new(core);
+        let tallied = TalliedCore::new(core);
         Ok(Trial {
-            core: counting,
+            core: tallied,
             runtime,
             visitors: Vec::with_capacity(alloc, parties)?,
             out: Vec::with_capacity(alloc, max_size)?,
@@ -353,7 +353,7 @@ fn draw<T: Drop>(next: &mut usize, value: T) -> Result<Item<T>, T>
 // Polls a party that was not cancelled.
 fn poll_visitor<T: Drop>(
     visitor: &mut Option<Visitor<T>>,
-    core: &mut Counting<Item<T>>,
+    core: &mut TalliedCore<Item<T>>,
     runtime: Option<Runtime>,
     now: Moment,
 ) -> Option<Turn<T>>
@@ -368,7 +368,7 @@ fn poll_visitor<T: Drop>(
 
 fn poll_get<T: Drop>(
     state: &mut GetState,
-    core: &mut Counting<Item<T>>,
+    core: &mut TalliedCore<Item<T>>,
     runtime: Option<Runtime>,
     now: Moment,
 ) -> Turn<T>
@@ -383,7 +383,7 @@ fn poll_get<T: Drop>(
 }
 
 // An add that has ended has no object and is not polled any more.
-fn poll_add<T: Drop>(state: &mut AddState<Item<T>>, core: &mut Counting<Item<T>>) -> Turn<T>
+fn poll_add<T: Drop>(state: &mut AddState<Item<T>>, core: &mut TalliedCore<Item<T>>) -> Turn<T>
     ensures { PolledAdd state.old core.old.pool
         (Option.Some result) (Option.Some (visitor.Add state.new)) core.new.pool }
 {
@@ -399,7 +399,7 @@ fn poll_add<T: Drop>(state: &mut AddState<Item<T>>, core: &mut Counting<Item<T>>
 }
 
 // Gives a party up.
-fn cancel_visitor<T: Drop>(visitor: Visitor<T>, core: &mut Counting<Item<T>>)
+fn cancel_visitor<T: Drop>(visitor: Visitor<T>, core: &mut TalliedCore<Item<T>>)
     ensures { CancelsVisitor visitor core.old.pool core.new.pool }
 {
     match visitor {
@@ -445,7 +445,7 @@ fn after_back<T: Drop>(reply: CoreReply) -> Reply<T>
 }
 
 // The step of an object that leaves for good.
-fn leave<T: Drop>(core: &mut Counting<T>) -> CoreReply
+fn leave<T: Drop>(core: &mut TalliedCore<T>) -> CoreReply
     ensures { Does core.old.pool Take None result core.new.pool }
 {
     core.make(&Step::Take, &mut None)

@@ -7,7 +7,7 @@ ghost use Rattle.deadpool_trial.specs.Unmanaged.Pool.{size};
 ghost use Rattle.deadpool_trial.specs.Unmanaged.TrialFields.{look_at_get, look_at_add};
 
 use super::{Trial, Visitor};
-use crate::unmanaged::counting::Counting;
+use crate::unmanaged::tallied_core::TalliedCore;
 use crate::unmanaged::{Item, Look};
 use deadpool_unmanaged::{AddStage, Counts, GetStage};
 use deadpool_unmanaged_journal::Tally;
@@ -59,7 +59,7 @@ impl<T: Drop> Trial<T> {
 }
 
 // What is seen of a get at this stage.
-fn look_at_get<T: Drop>(stage: &GetStage, core: &mut Counting<Item<T>>) -> Look
+fn look_at_get<T: Drop>(stage: &GetStage, core: &mut TalliedCore<Item<T>>) -> Look
     ensures look { result ≡ look_at_get core.old.pool.gets stage.now }
     ensures same { core.new ≡ core.old }
 {
@@ -77,7 +77,7 @@ fn look_at_get<T: Drop>(stage: &GetStage, core: &mut Counting<Item<T>>) -> Look
 }
 
 // What is seen of an add at this stage.
-fn look_at_add<T: Drop>(stage: &AddStage<Item<T>>, core: &mut Counting<Item<T>>) -> Look
+fn look_at_add<T: Drop>(stage: &AddStage<Item<T>>, core: &mut TalliedCore<Item<T>>) -> Look
     ensures look { result ≡ look_at_add core.old.pool.adds stage.now }
     ensures same { core.new ≡ core.old }
 {

@@ -5,7 +5,7 @@ use Rattle.deadpool_trial.proofs.unmanaged.trial.Trial.new.Goals as goal
 pub invariant_of-result : goal.invariant_of-result
 invariant_of-result g c =
     rw (
-      c.new-counting.ensures,
+      c.new-tallied.ensures,
       c.in_ok-core.ensures,
       c.in_ok-with_capacity.ensures.items,
       c.in_ok-with_capacity-2.ensures.items,

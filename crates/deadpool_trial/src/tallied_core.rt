@@ -18,21 +18,21 @@ use std::marker::Model;
 /// A core, and how often each thing has happened in it. Its steps are those of the core, and what is seen of it from
 /// outside is the core: the tally is no part of that.
 #[derive(Drop)]
-pub struct Counting<T> {
+pub struct TalliedCore<T> {
     core: Core<T>,
     tally: Tally,
 }
 
-impl<T> Model for Counting<T> {
+impl<T> Model for TalliedCore<T> {
     ghost use Rattle.deadpool_desk.specs.CoreState.{CoreState};
 
     ghost Value = { CoreState T };
 
-    ghost use Rattle.deadpool_trial.specs.CountingFields.{CountingInvariant};
+    ghost use Rattle.deadpool_trial.specs.TalliedFields.{TalliedInvariant};
 
     ghost view = { λ c. c.core };
 
-    ghost invariant = { CountingInvariant };
+    ghost invariant = { TalliedInvariant };
 }
 
 // How many objects there are.
@@ -42,13 +42,13 @@ fn size_of<T: Drop>(core: &Core<T>) -> usize
     core.counts().size
 }
 
-impl<T: Drop> Counting<T> {
+impl<T: Drop> TalliedCore<T> {
     /// That of a core before its first step.
-    pub fn new(core: Core<T>) -> Counting<T>
+    pub fn new(core: Core<T>) -> TalliedCore<T>
         requires { size core.desk ≡ 0 }
         ensures { result ≡ core }
     {
-        Counting {
+        TalliedCore {
             core,
             tally: Tally::new(),
         }
@@ -91,7 +91,7 @@ impl<T: Drop> Counting<T> {
     }
 }
 
-impl<T: Drop> Desk<T> for Counting<T> {
+impl<T: Drop> Desk<T> for TalliedCore<T> {
     ghost makes = { Makes };
 
     fn make(&mut self, step: &Step, hand: &mut Option<Slot<T>>) -> Reply {
@@ -102,7 +102,7 @@ impl<T: Drop> Desk<T> for Counting<T> {
     }
 }
 
-impl<T: Drop> OwnerDesk<T> for Counting<T> {
+impl<T: Drop> OwnerDesk<T> for TalliedCore<T> {
     ghost makes = { MakesForOwner };
 
     ghost retains = { λ R L asks. Retains asks };

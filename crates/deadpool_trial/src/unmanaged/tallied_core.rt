@@ -21,21 +21,21 @@ use std::marker::Model;
 /// A core, and how often each thing has happened in it. Its steps are those of the core, and what is seen of it from
 /// outside is the core: the tally is no part of that.
 #[derive(Drop)]
-pub struct Counting<T> {
+pub struct TalliedCore<T> {
     core: Core<T>,
     tally: Tally,
 }
 
-impl<T> Model for Counting<T> {
+impl<T> Model for TalliedCore<T> {
     ghost use Rattle.deadpool_unmanaged.specs.State.{CoreState};
 
     ghost Value = { CoreState T };
 
-    ghost use Rattle.deadpool_trial.specs.Unmanaged.CountingFields.{CountingInvariant};
+    ghost use Rattle.deadpool_trial.specs.Unmanaged.TalliedFields.{TalliedInvariant};
 
     ghost view = { λ c. c.core };
 
-    ghost invariant = { CountingInvariant };
+    ghost invariant = { TalliedInvariant };
 }
 
 // How many objects there are.
@@ -46,13 +46,13 @@ fn size_of<T: Drop>(core: &Core<T>) -> usize
 }
 
 // What is asked of the core.
-impl<T: Drop> Counting<T> {
+impl<T: Drop> TalliedCore<T> {
     /// That of a core before its first step.
-    pub fn new(core: Core<T>) -> Counting<T>
+    pub fn new(core: Core<T>) -> TalliedCore<T>
         requires { size core.pool ≡ 0 }
         ensures { result ≡ core }
     {
-        Counting {
+        TalliedCore {
             core,
             tally: Tally::new(),
         }
@@ -64,7 +64,7 @@ impl<T: Drop> Counting<T> {
         requires adds { self.pool.adds.waiting ≡ [] }
         ensures { result ≡ record self { pool = bounded max_waiting self.pool } }
     {
-        Counting {
+        TalliedCore {
             core: self.core.bounded(max_waiting),
             ..self
         }
@@ -124,7 +124,7 @@ impl<T: Drop> Counting<T> {
 }
 
 // What is counted.
-impl<T: Drop> Counting<T> {
+impl<T: Drop> TalliedCore<T> {
     /// Makes one step. The object that it takes or gives is in `hand`.
     pub fn make(&mut self, step: &Step, hand: &mut Option<T>) -> Reply
         requires { Brings step.now hand.old }
