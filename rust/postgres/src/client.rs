@@ -1,8 +1,11 @@
 //! A connection, with its statements and the task that drives it.
 use crate::{StatementCache, Transaction, TransactionBuilder};
 use std::fmt;
+use std::future::poll_fn;
 use std::ops::{Deref, DerefMut};
+use std::pin::pin;
 use std::sync::Arc;
+use std::task::Poll;
 use tokio::task::JoinHandle;
 use tokio_postgres::types::Type;
 use tokio_postgres::{Client, Error, Statement};
@@ -49,6 +52,19 @@ impl ClientWrapper {
     /// Begins a transaction of another kind.
     pub fn build_transaction(&mut self) -> TransactionBuilder<'_> {
         TransactionBuilder::new(self)
+    }
+
+    watched_calls!(client);
+
+    /// Has the server roll back a transaction that is open. No answer is waited for: what is asked next is carried out behind it.
+    pub(crate) async fn end_transaction(&self) {
+        // (two texts, since one fails as a whole: a transaction that has failed refuses to begin, and where there is none a
+        // rollback alone is a warning in the server's log)
+        for text in ["BEGIN", "ROLLBACK"] {
+            // (its first poll sends it)
+            let mut asked = pin!(self.client.batch_execute(text));
+            poll_fn(|cx| Poll::Ready(drop(asked.as_mut().poll(cx)))).await;
+        }
     }
 }
 

@@ -91,6 +91,24 @@ impl Config {
         Config::default()
     }
 
+    /// A configuration, as it is read by serde, in which each key is known, also those of its pool: a key that is not, as one that is
+    /// misspelt, is refused and named by its path.
+    ///
+    /// # Errors
+    /// What the format says, or that a key is not known.
+    #[cfg(feature = "serde")]
+    pub fn read_strictly<'de, D: serde::Deserializer<'de>>(format: D) -> Result<Self, D::Error> {
+        let mut unknown = None;
+        // (a path has a question mark for what may be left out)
+        let config = serde_ignored::deserialize(format, |key| {
+            unknown.get_or_insert(key.to_string().replace(".?.", "."));
+        })?;
+        match unknown {
+            None => Ok(config),
+            Some(key) => Err(serde::de::Error::custom(format!("{key}: no key of a configuration"))),
+        }
+    }
+
     /// A pool of this configuration. The runtime is for its timeouts, and may be left out if there are none.
     ///
     /// # Errors

@@ -1,5 +1,5 @@
 //! What a connection and a transaction have in common, for functions over either.
-use crate::{ClientWrapper, Object, Transaction};
+use crate::{ClientWrapper, Object, StatementCache, Transaction};
 use tokio_postgres::types::{BorrowToSql, ToSql, Type};
 use tokio_postgres::{Client, Error, Row, RowStream, Statement, ToStatement};
 
@@ -17,6 +17,9 @@ mod private {
 pub trait GenericClient: private::Sealed + Send + Sync {
     /// The client of the connection. Within a transaction its calls are part of that.
     fn client(&self) -> &Client;
+
+    /// The statements of the connection.
+    fn statements(&self) -> &StatementCache;
 
     /// The statement of this text, with these types of parameters, which is prepared on this connection unless it was before.
     fn prepare_typed_cached(
@@ -57,7 +60,7 @@ pub trait GenericClient: private::Sealed + Send + Sync {
     where
         T: ?Sized + ToStatement + Sync + Send,
     {
-        self.client().execute(statement, params)
+        self.statements().watched(self.client().execute(statement, params))
     }
 
     /// As the client's.
@@ -69,7 +72,7 @@ pub trait GenericClient: private::Sealed + Send + Sync {
     where
         T: ?Sized + ToStatement + Sync + Send,
     {
-        self.client().query(statement, params)
+        self.statements().watched(self.client().query(statement, params))
     }
 
     /// As the client's.
@@ -81,7 +84,7 @@ pub trait GenericClient: private::Sealed + Send + Sync {
     where
         T: ?Sized + ToStatement + Sync + Send,
     {
-        self.client().query_one(statement, params)
+        self.statements().watched(self.client().query_one(statement, params))
     }
 
     /// As the client's.
@@ -93,7 +96,7 @@ pub trait GenericClient: private::Sealed + Send + Sync {
     where
         T: ?Sized + ToStatement + Sync + Send,
     {
-        self.client().query_opt(statement, params)
+        self.statements().watched(self.client().query_opt(statement, params))
     }
 
     /// As the client's.
@@ -124,6 +127,10 @@ impl GenericClient for ClientWrapper {
         self
     }
 
+    fn statements(&self) -> &StatementCache {
+        &self.statement_cache
+    }
+
     async fn prepare_typed_cached(&self, query: &str, types: &[Type]) -> Result<Statement, Error> {
         ClientWrapper::prepare_typed_cached(self, query, types).await
     }
@@ -139,6 +146,10 @@ impl GenericClient for Object {
         self
     }
 
+    fn statements(&self) -> &StatementCache {
+        &self.statement_cache
+    }
+
     async fn prepare_typed_cached(&self, query: &str, types: &[Type]) -> Result<Statement, Error> {
         ClientWrapper::prepare_typed_cached(self, query, types).await
     }
@@ -151,6 +162,10 @@ impl GenericClient for Object {
 impl GenericClient for Transaction<'_> {
     fn client(&self) -> &Client {
         (**self).client()
+    }
+
+    fn statements(&self) -> &StatementCache {
+        &self.statement_cache
     }
 
     async fn prepare_typed_cached(&self, query: &str, types: &[Type]) -> Result<Statement, Error> {

@@ -64,6 +64,7 @@ impl managed::Manager for Manager {
         if client.is_closed() {
             return Err(RecycleError::message("The connection is closed"));
         }
+        client.end_transaction().await;
         if let Some(query) = self.manager_config.recycling_method.query() {
             client.simple_query(&query).await?;
         }

@@ -2,24 +2,25 @@
 use std::borrow::Cow;
 use tokio_postgres::config;
 
-/// How a connection that came back is looked at before it is handed out again.
+/// How a connection that came back is looked at before it is handed out again. By each of these the server rolls back a
+/// transaction that its last user has left open.
 #[derive(Clone, Debug, Default, Eq, PartialEq)]
 #[cfg_attr(feature = "serde", derive(serde::Deserialize, serde::Serialize))]
 pub enum RecyclingMethod {
-    /// Only whether it is known to be closed, which asks nobody. One whose server has gone a moment ago may be handed out.
+    /// Only whether it is known to be closed, and no answer is waited for. One whose server has gone a moment ago may be handed out.
     #[default]
     Fast,
     /// The server has to answer.
     Verified,
-    /// The server has to end what the session has open: a transaction, cursors, locks, temporary tables, settings, what it
-    /// listens to. Its statements stay.
+    /// The server has to end what the session has open: cursors, locks, temporary tables, settings, what it listens to. Its
+    /// statements stay.
     Clean,
     /// The server has to carry out this text.
     Custom(String),
 }
 
-/// Statements that have nothing to end do nothing. `BEGIN` is there since a `ROLLBACK` alone is a warning in the server's log.
-const CLEAN: &str = "BEGIN; ROLLBACK; CLOSE ALL; SET SESSION AUTHORIZATION DEFAULT; RESET ALL; UNLISTEN *; \
+/// Statements that have nothing to end do nothing.
+const CLEAN: &str = "CLOSE ALL; SET SESSION AUTHORIZATION DEFAULT; RESET ALL; UNLISTEN *; \
     SELECT pg_advisory_unlock_all(); DISCARD TEMP; DISCARD SEQUENCES;";
 
 impl RecyclingMethod {

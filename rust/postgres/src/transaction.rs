@@ -35,6 +35,8 @@ impl<'a> Transaction<'a> {
         self.statement_cache.get_or(query, types, self.transaction.prepare_typed(query, types)).await
     }
 
+    watched_calls!(transaction);
+
     /// Ends it, and keeps what it did.
     ///
     /// # Errors

@@ -104,3 +104,24 @@ fn a_configuration_is_read_and_written() {
     let config: Config = serde_json::from_str("{}").expect("a configuration");
     assert!(config.pool.is_none() && config.get_pg_config().is_err());
 }
+
+#[cfg(feature = "serde")]
+#[test]
+fn a_key_that_is_not_known_is_refused_where_it_is_read_strictly() {
+    let read = |text: &str| Config::read_strictly(&mut serde_json::Deserializer::from_str(text));
+    let whole = r#"{"dbname":"shop","manager":{"recycling_method":"Clean"},
+        "pool":{"max_size":16,"timeouts":{"wait":{"secs":1,"nanos":0}},"queue_mode":"Lifo"}}"#;
+    let config = read(whole).expect("each key is known");
+    assert_eq!((config.dbname.as_deref(), config.get_pool_config().max_size), (Some("shop"), 16));
+    for (right, wrong, path) in [
+        ("dbname", "dbnam", "dbnam"),
+        ("recycling_method", "recycle", "manager.recycle"),
+        ("timeouts", "timeout", "pool.timeout"),
+        ("wait", "waits", "pool.timeouts.waits"),
+    ] {
+        let text = whole.replace(&format!("\"{right}\""), &format!("\"{wrong}\""));
+        let fault = read(&text).expect_err("a misspelt key").to_string();
+        assert!(fault.starts_with(&format!("{path}: ")), "{fault}");
+        assert!(serde_json::from_str::<Config>(&text).is_ok(), "else it passes in silence, as with the crate of that name");
+    }
+}

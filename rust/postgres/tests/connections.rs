@@ -192,11 +192,71 @@ async fn clean_ends_what_a_session_has_open() {
     let client = pool.get().await.expect("the connection");
     assert_eq!(text_of(&client, told).await, first);
     assert_eq!(text_of(&client, "SELECT (to_regclass('never') IS NULL)::text").await, "true");
-    // (what has failed can't be cleaned, and is given up)
-    client.batch_execute("BEGIN").await.expect("a transaction");
-    client.batch_execute("SELECT 1 / 0").await.expect_err("a division by zero");
-    drop(client);
-    assert_ne!(text_of(&pool.get().await.expect("a connection"), told).await, first);
+}
+
+#[tokio::test]
+async fn no_connection_is_handed_out_within_a_transaction() {
+    let custom = RecyclingMethod::Custom("SELECT 1".into());
+    let methods = [RecyclingMethod::Fast, RecyclingMethod::Verified, RecyclingMethod::Clean, custom];
+    let pid = "SELECT pg_backend_pid()::text";
+    for method in methods {
+        let pool = pool("begun", 1, method.clone());
+        let client = pool.get().await.expect("a connection");
+        let first = text_of(&client, pid).await;
+        client.batch_execute("BEGIN; CREATE TABLE never (n int)").await.expect("a transaction");
+        drop(client);
+        let client = pool.get().await.expect("the connection");
+        client.batch_execute("VACUUM pg_am").await.expect("a vacuum refuses to be in a transaction");
+        assert_eq!(text_of(&client, "SELECT (to_regclass('never') IS NULL)::text").await, "true");
+        // (and one that has failed, which refuses all but its end)
+        client.batch_execute("BEGIN").await.expect("a transaction");
+        client.batch_execute("SELECT 1 / 0").await.expect_err("a division by zero");
+        drop(client);
+        let client = pool.get().await.expect("the connection");
+        assert_eq!(text_of(&client, pid).await, first, "by {method:?} it is the same connection");
+    }
+}
+
+#[tokio::test]
+async fn a_connection_keeps_a_hundred_statements() {
+    let pool = pool("hundred", 1, RecyclingMethod::Fast);
+    let client = pool.get().await.expect("a connection");
+    let known = "SELECT count(*)::text FROM pg_prepared_statements WHERE statement LIKE 'SELECT 1 + %'";
+    for n in 0..100 {
+        client.prepare_cached(&format!("SELECT 1 + {n}")).await.expect("a statement");
+    }
+    client.prepare_cached("SELECT 1 + 0").await.expect("it is known");
+    client.prepare_cached("SELECT 1 + 100").await.expect("one more");
+    assert_eq!(client.statement_cache.size(), 100);
+    assert!(client.statement_cache.remove("SELECT 1 + 1", &[]).is_none(), "it was not asked for the longest");
+    assert!(client.statement_cache.remove("SELECT 1 + 0", &[]).is_some(), "it was asked for again");
+    assert_eq!(text_of(&client, known).await, "99", "the server forgets them too");
+}
+
+#[tokio::test]
+async fn a_statement_that_is_outdated_is_prepared_again() {
+    let pool = pool("outdated", 1, RecyclingMethod::Fast);
+    let mut client = pool.get().await.expect("a connection");
+    client.batch_execute("CREATE TEMP TABLE goods (name text); INSERT INTO goods VALUES ('tea')").await.expect("a table");
+    let goods = "SELECT * FROM goods";
+    let count = |rows: Vec<tokio_postgres::Row>| rows[0].len();
+    let statement = client.prepare_cached(goods).await.expect("a statement");
+    assert_eq!(count(client.query(&statement, &[]).await.expect("a row")), 1);
+    client.batch_execute("ALTER TABLE goods ADD price int").await.expect("a column more");
+    client.query(&statement, &[]).await.expect_err("its rows are of another kind");
+    assert_eq!(client.statement_cache.size(), 0);
+    let statement = client.prepare_cached(goods).await.expect("a statement");
+    assert_eq!(count(client.query(&statement, &[]).await.expect("a row")), 2);
+    // (as another part of the program may do, and within a transaction, by a function that is lent either)
+    client.batch_execute("DEALLOCATE ALL").await.expect("the server forgets them");
+    let transaction = client.transaction().await.expect("it begins");
+    GenericClient::query_opt(&transaction, &statement, &[]).await.expect_err("the server has it no more");
+    assert_eq!(transaction.statement_cache.size(), 0);
+    drop(transaction);
+    let statement = client.prepare_cached(goods).await.expect("a statement");
+    client.query_one("SELECT 1 / 0", &[]).await.expect_err("a division by zero");
+    client.execute(&statement, &[]).await.expect("other faults leave it as it is");
+    assert_eq!(client.statement_cache.size(), 1);
 }
 
 #[tokio::test]
