@@ -9,8 +9,9 @@ pool. It notes of each reply whether an object was handed out and whether a part
 out or a party that goes on; some name others. At its end each script asks what was counted, before a closing and after it. The replies
 are those of poolrun, none is written by hand.
 
-`rt try` runs whole scripts alone. So it runs the lines that the stored replies choose, and runs again as long as the replies of a run
-choose others: once, if replies have only other words; as often as a script is long, if all is new. With POOLRUN once is enough.
+`rt try` runs whole scripts alone. So it runs the lines that the stored replies choose, and those scripts again whose replies choose
+others. Once is enough if replies have only other words; a script of which all is new takes as many runs as it has lines. Each run
+builds the program in two minutes of a processor, and a script takes a fifth of a second. With POOLRUN a script is played once.
 """
 import os
 import random
@@ -211,14 +212,13 @@ def tried(scripts):
 
 def all_tried(count):
     """Returns the scripts of all kinds, by their names, once they are the ones that their replies choose."""
-    seeds = {f"{name}_{seed}": (name, seed) for name in KINDS for seed in range(count)}
+    left = {f"{name}_{seed}": (name, seed) for name in KINDS for seed in range(count)}
     known = {f"{name}_{seed}": told for name in KINDS for seed, told in enumerate(stored(name))}
-    while True:
-        known = tried({key: recalled(*seed, known.get(key, [])) for key, seed in seeds.items()})
-        others = sum(recalled(*seed, known[key]) != known[key] for key, seed in seeds.items())
-        if not others:
-            return known
-        print(f"{others} scripts have other lines now: they are tried again", flush=True)
+    while left:
+        known |= tried({key: recalled(*seed, known.get(key, [])) for key, seed in left.items()})
+        left = {key: seed for key, seed in left.items() if recalled(*seed, known[key]) != known[key]}
+        print(f"{len(left)} scripts have other lines now", flush=True)
+    return known
 
 
 def main():
