@@ -48,6 +48,13 @@ module _ {K Q O : Type 0} where
   PollsAsked polls shared Ended asked turn asked' = asked' ≡ asked
   PollsAsked polls _ _ asked turn asked' = ⊤
 
+module _ {S K Q L : Type 0} where
+  -- What is left of a request that was given up. One that had ended leaves nothing.
+  abbrev pub IsLeft : (S → Q → L → Type 0) → Option S → Stage K → Q → Option L → Type 0
+  IsLeft cancels (Some shared) (Asking kept) asked (Some left) = cancels shared asked left
+  IsLeft cancels shared (Asking kept) asked left = ⊥
+  IsLeft cancels shared _ asked left = left ≡ None
+
 abbrev pub IsAsking : {K : Type 0} → Stage K → Type 0
 IsAsking (Asking kept) = ⊤
 IsAsking _ = ⊥

@@ -1,6 +1,6 @@
 //! Futures that ask something of what is shared: one with a handle of its own, and one that borrows a handle.
 ghost use Rattle.std.specs.Prelude.{◌≡◌, ◌⊎◌, ⊤, Some, None, IfOk, IfErr, IfSome};
-ghost use Rattle.deadpool_lock.specs.Asked.{Asks, Gives, HasHandle, IsAsking, IsRefused, PollsAsked, Turns};
+ghost use Rattle.deadpool_lock.specs.Asked.{Asks, Gives, HasHandle, IsAsking, IsLeft, IsRefused, PollsAsked, Turns};
 ghost use Rattle.futures.specs.Poll.{IfReady, OnPending};
 ghost use Rattle.futures.specs.Task.{Covers, Hears, IsArmed, Keeps};
 ghost use Rattle.futures.specs.declared.task.Poll.{Poll};
@@ -23,6 +23,9 @@ pub trait Request {
 
     type Output;
 
+    /// What is left of it once it was given up: mostly the name in which it made its last step.
+    type Left: Drop;
+
     // Holds of it at a stage of its future.
     ghost fits: { StageOf Self.Kept → Self → Type 0 } = { λ _ _. ⊤ };
 
@@ -34,6 +37,9 @@ pub trait Request {
 
     // Relates it before a poll, what the poll comes to, and it after the poll.
     ghost polls: { Self.Shared → Self → Poll Self.Output → Self → Type 0 } = { λ _ _ _ _. ⊤ };
+
+    // Relates it, while it asks, to what is left of it once it was given up.
+    ghost cancels: { Self.Shared → Self → Self.Left → Type 0 } = { λ _ _ _. ⊤ };
 
     /// One poll, in a task that has registered with what is shared before. A poll that gives an output ends the stage,
     /// and may take what was kept there.
@@ -56,8 +62,9 @@ pub trait Request {
         ensures kept { Keeps cx.old cx.new };
 
     /// Is given up while it asks, and gives back what it holds.
-    fn cancel(self, kept: Self::Kept, shared: &Self::Shared)
-        requires { fits (Stage.Asking kept) self };
+    fn cancel(self, kept: Self::Kept, shared: &Self::Shared) -> Self::Left
+        requires { fits (Stage.Asking kept) self }
+        ensures { cancels shared.now self result };
 
     /// The output of one that never began.
     fn refuse(&mut self) -> Self::Output
@@ -143,11 +150,31 @@ impl<Q: Request> Owned<Q> {
         }
     }
 
+    /// Gives it up, as its drop does, and returns what is left of a request that has not ended.
+    #[inline(always)]
+    pub fn give_up(self) -> Option<Q::Left>
+        ensures left { IsLeft Q.cancels self.shared self.stage self.request result }
+    {
+        if matches!(self.stage, Stage::Asking(_)) {
+            return Some(self.cancel());
+        }
+        let Self {
+            handle,
+            stage: _,
+            request,
+            registration: _,
+        } = self;
+        request.leave();
+        drop(handle);
+        None
+    }
+
     // Gives up a request that has not ended, and then the handle.
     #[cold]
     #[inline(never)]
-    fn give_up(self)
+    fn cancel(self) -> Q::Left
         requires { IsAsking self.stage }
+        ensures left { IsLeft Q.cancels self.shared self.stage self.request (Some result) }
     {
         let Self {
             handle,
@@ -158,7 +185,7 @@ impl<Q: Request> Owned<Q> {
         let Some(handle) = handle else {
             unreachable!();
         };
-        request.cancel(stage.end(), handle.shared());
+        request.cancel(stage.end(), handle.shared())
     }
 }
 
@@ -262,19 +289,9 @@ impl<Q: Request> Future for Owned<Q> {
 }
 
 impl<Q: Request> Drop for Owned<Q> {
+    #[inline(always)]
     fn drop(self) {
-        if matches!(self.stage, Stage::Asking(_)) {
-            self.give_up();
-            return;
-        }
-        let Self {
-            handle,
-            stage: _,
-            request,
-            registration: _,
-        } = self;
-        request.leave();
-        drop(handle);
+        drop(self.give_up());
     }
 }
 
@@ -333,11 +350,30 @@ impl<'a, Q: Request> Borrowed<'a, Q> {
         mem::swap(&mut self.registration, registration);
     }
 
+    /// Gives it up, as its drop does, and returns what is left of a request that has not ended.
+    #[inline(always)]
+    pub fn give_up(self) -> Option<Q::Left>
+        ensures left { IsLeft Q.cancels self.entry.shared self.entry.stage self.entry.request result }
+    {
+        if matches!(self.stage, Stage::Asking(_)) {
+            return Some(self.cancel());
+        }
+        let Self {
+            handle: _,
+            stage: _,
+            request,
+            registration: _,
+        } = self;
+        request.leave();
+        None
+    }
+
     // Gives up a request that has not ended.
     #[cold]
     #[inline(never)]
-    fn give_up(self)
-        requires { IsAsking self.stage }
+    fn cancel(self) -> Q::Left
+        requires { IsAsking self.entry.stage }
+        ensures left { IsLeft Q.cancels self.entry.shared self.entry.stage self.entry.request (Some result) }
     {
         let Self {
             handle,
@@ -345,7 +381,7 @@ impl<'a, Q: Request> Borrowed<'a, Q> {
             request,
             registration: _,
         } = self;
-        request.cancel(stage.end(), handle.shared());
+        request.cancel(stage.end(), handle.shared())
     }
 }
 
@@ -385,17 +421,8 @@ impl<'a, Q: Request> Future for Borrowed<'a, Q> {
 }
 
 impl<'a, Q: Request> Drop for Borrowed<'a, Q> {
+    #[inline(always)]
     fn drop(self) {
-        if matches!(self.stage, Stage::Asking(_)) {
-            self.give_up();
-            return;
-        }
-        let Self {
-            handle: _,
-            stage: _,
-            request,
-            registration: _,
-        } = self;
-        request.leave();
+        drop(self.give_up());
     }
 }
