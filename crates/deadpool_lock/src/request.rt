@@ -372,7 +372,7 @@ impl<'a, Q: Request> Borrowed<'a, Q> {
     #[cold]
     #[inline(never)]
     fn cancel(self) -> Q::Left
-        requires { IsAsking self.entry.stage }
+        requires { IsAsking self.stage }
         ensures left { IsLeft Q.cancels self.entry.shared self.entry.stage self.entry.request (Some result) }
     {
         let Self {
