@@ -3,24 +3,27 @@ use Rattle.std.specs.Option.{option_or}
 use Rattle.std.specs.Prelude.{◌≡◌, ℕ, Option, Some, None, Result, Ok, Err, IfOk}
 use Rattle.futures.specs.declared.task.Poll.{Poll}
 use Rattle.futures.specs.declared.task.Poll.TheVariants as poll
+use Rattle.deadpool_chronicle.specs.History.{Knowing}
 use Rattle.deadpool_parts.specs.declared.errors.PoolError.{PoolError}
 use Rattle.deadpool_parts.specs.declared.moment.Moment.{Moment}
 use Rattle.deadpool_desk.specs.declared.desk.Desk.{Ghosts as DeskOf}
 use Rattle.deadpool_desk.specs.declared.slot.Slot.{Slot}
+use Rattle.deadpool_history.specs.declared.line.Line.{Line}
 use Rattle.deadpool_journal.specs.ByNumber.{number_in}
 use Rattle.deadpool_desk.specs.declared.step.Held.{Held}
 use Rattle.deadpool_lock.specs.declared.request.Stage.{Stage as Future}
 use Rattle.deadpool_lock.specs.declared.request.Stage.TheVariants.{Asking}
 use Rattle.deadpool_managed.specs.Holds.{held_at}
+use Rattle.deadpool_managed.specs.Outside.{May}
 use Rattle.deadpool_managed.specs.Phases.{Working, stage_of}
 use Rattle.deadpool_managed.specs.Stages.{Stage}
-use Rattle.deadpool_managed.specs.Steps.{Lent, PollsAt}
+use Rattle.deadpool_managed.specs.Steps.{CancelsAt, Lent, PollsAt}
 use Rattle.deadpool_managed.specs.declared.get.Turn.{Turn}
 use Rattle.deadpool_managed.specs.declared.get.Turn.TheVariants as turn
 use Rattle.deadpool_managed.specs.declared.kept.Kept.{Kept}
 use Rattle.deadpool_managed.specs.declared.work.Phase.TheVariants.{Unpolled}
 use Rattle.deadpool_shared.specs.Calling.{CallsFromSeat}
-use Rattle.deadpool_shared.specs.Counts.{Holder, IsKnown, counts_of, had}
+use Rattle.deadpool_shared.specs.Counts.{Holder, IsKnown, caller_of, counts_of, had}
 use Rattle.deadpool_shared.specs.Waits.{WaitsOn, is_queued, nanos_waited}
 use Rattle.deadpool_shared.specs.declared.waiting.Waiting.{Waiting}
 use Rattle.deadpool_shared.specs.declared.waiting.Waiting.TheVariants.{Never}
@@ -85,3 +88,10 @@ module _ {O W V E : Type 0} (comes_from : O → W → Type 0) (slot_of : O → S
       (now : Moment) × ((came : Turn V E) × ((after : Option Holder)
       × (PollsAt seat_desk (lent now) holder stage after stage' came
       × WaitsOn now (is_queued stage') waiting waiting' × Ends came after waiting' left polled)))
+
+module _ {V E C R S F A : Type 0} where
+  -- A get that asks is given up between threads: its call is that of one cancel of a get's definition, by which it
+  -- leaves the queue or gives back what it holds. What is left of it is its caller, if it was handed out shares.
+  abbrev pub CancelsTo : May V E C R S F A → Option Holder → Stage V C R S → Option (Knowing Line) → Type 0
+  CancelsTo may holder stage left =
+      (after : Option Holder) × (CancelsAt seat_desk may holder stage after × (left ≡ caller_of after))

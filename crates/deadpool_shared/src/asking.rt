@@ -1,20 +1,24 @@
 //! What a get asks of its pool.
 ghost use Rattle.std.specs.Prelude.{◌≡◌, Err};
 ghost use Rattle.futures.specs.Task.{Keeps};
+ghost use Rattle.deadpool_managed.specs.Outside.{may};
 ghost use Rattle.deadpool_managed.specs.Steps.{lent};
 ghost use Rattle.deadpool_parts.specs.declared.errors.PoolError.TheVariants.{OutOfMemory};
 ghost use Rattle.deadpool_shared.specs.Counts.{counts_of, had};
-ghost use Rattle.deadpool_shared.specs.Gets.{GivesReady, PollsFrom, getting, held_while, stage_in};
+ghost use Rattle.deadpool_shared.specs.Gets.{CancelsTo, GivesReady, PollsFrom};
+ghost use Rattle.deadpool_shared.specs.Gets.{getting, held_while, stage_in};
 ghost use Rattle.deadpool_shared.specs.Waits.{is_queued};
 ghost use Rattle.deadpool_managed.specs.Phases.{stage_of};
 
-use crate::ledgers::Ledgers;
+use crate::ledgers::{History, Ledgers};
 use crate::object::{Checkout, Object};
 use crate::seat::Seat;
 use crate::shared::Shared;
 use crate::shares::Shares;
 use crate::timeouts::HasTimeouts;
 use crate::waiting::Waiting;
+use deadpool_chronicle::Caller;
+use deadpool_history::Line;
 use deadpool_lock::{Home, Registration, Request, Stage, wake_at};
 use deadpool_managed::{AsyncHook, Came, Clock, Manager, PoolError, Progress, StageKind, SyncHook};
 use futures::task::{Context, Poll};
@@ -111,6 +115,9 @@ where
 
     type Output = Result<W, PoolError<M::Error>>;
 
+    // Its caller, if it was handed out shares.
+    type Left = Option<Caller<Line, History<L>>>;
+
     // While it asks it holds what its stage does, and otherwise nothing.
     ghost fits = { λ stage get. had get.shares ≡ counts_of (held_while stage (stage_in get)) };
 
@@ -124,6 +131,10 @@ where
         (λ now. lent M.Manager F.SyncHook A.AsyncHook
         shared.environment now (D.chosen get.timeouts shared.timeouts))
         get.shares (stage_in get) get.waiting left.shares (stage_in left) left.waiting turn };
+
+    ghost cancels = { λ shared get left. CancelsTo
+        (may M.Manager F.SyncHook A.AsyncHook shared.environment.manager)
+        get.shares (stage_in get) left };
 
     #[inline(always)]
     fn poll(
@@ -167,7 +178,11 @@ where
         Poll::Ready(Ok(W::from(Object { out, slot, waited })))
     }
 
-    fn cancel(self, _home: Home<Shared<M, F, A, C, R, L>>, shared: &Shared<M, F, A, C, R, L>) {
+    fn cancel(
+        self,
+        _home: Home<Shared<M, F, A, C, R, L>>,
+        shared: &Shared<M, F, A, C, R, L>,
+    ) -> Option<Caller<Line, History<L>>> {
         let Self {
             timeouts: _,
             mut progress,
@@ -179,9 +194,10 @@ where
         let (mut registration, mut departure) = (Registration::new(), None);
         let mut seat = Seat::new(shared, shares, &mut registration, &mut departure);
         progress.cancel(&mut seat, &shared.environment);
-        seat.leave();
+        let caller = seat.leave();
         drop(progress);
         shared.has_departed(departure);
+        caller
     }
 
     fn refuse(&mut self) -> Result<W, PoolError<M::Error>> {

@@ -99,6 +99,27 @@ impl<'a, M: Manager, F: SyncHook<M>, A: AsyncHook<M>, C: Clock, R: Wait + Drop, 
             is_over: false,
         }
     }
+
+    /// Waits no longer, as its drop does, and gives the caller of a drain that was polled, which the history has its
+    /// calls of.
+    pub fn give_up(self) -> Option<Caller<Line, History<L>>>
+        ensures { result ≡ self.entry.caller }
+    {
+        let Self {
+            handle,
+            limit: _,
+            begun,
+            mut ticket,
+            alarm: _,
+            registration: _,
+            is_over: _,
+        } = self;
+        if ticket.is_some() {
+            let spare = handle.shared().lock.look().leave_drain(&mut ticket);
+            drop(spare);
+        }
+        begun.map(|begun| begun.caller)
+    }
 }
 
 impl<'a, M: Manager, F: SyncHook<M>, A: AsyncHook<M>, C: Clock, R: Wait + Drop, L: Ledgers> Future
@@ -209,19 +230,7 @@ fn poll_by<M: Manager, F: SyncHook<M>, A: AsyncHook<M>, C: Clock, R: Wait + Drop
 impl<'a, M: Manager, F: SyncHook<M>, A: AsyncHook<M>, C: Clock, R: Wait + Drop, L: Ledgers> Drop
     for Drain<'a, M, F, A, C, R, L> {
     fn drop(self) {
-        let Self {
-            handle,
-            limit: _,
-            begun: _,
-            mut ticket,
-            alarm: _,
-            registration: _,
-            is_over: _,
-        } = self;
-        if ticket.is_some() {
-            let spare = handle.shared().lock.look().leave_drain(&mut ticket);
-            drop(spare);
-        }
+        drop(self.give_up());
     }
 }
 
