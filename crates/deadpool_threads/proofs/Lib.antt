@@ -1,2 +1,3 @@
 -- What the proofs of this crate stand on.
+mod Each
 mod GoesBack

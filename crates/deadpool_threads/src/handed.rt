@@ -23,7 +23,7 @@ pub trait BlockingUser<
     type Output;
 
     // Holds of each output that may come of it.
-    ghost may_give: { Self → Self.Output → Type 0 } = { λ _ _. ⊤ };
+    ghost returns: { Self → Self.Output → Type 0 } = { λ _ _. ⊤ };
 
     /// Uses the pool.
     fn run<L: Ledgers>(
@@ -32,7 +32,7 @@ pub trait BlockingUser<
         blocking: &mut Blocking,
         pool: &Pool<M, F, A, C, R, L>,
     ) -> Self::Output
-        ensures { may_give self result };
+        ensures { returns self result };
 }
 
 /// A user that is handed what its thread waits by, which is made first. `Err` says that it could not be made, and the
@@ -50,9 +50,9 @@ impl<
 > PoolUser<M, F, A, C, R> for Handed<U> {
     type Output = io::Result<U::Output>;
 
-    fn run<L: Ledgers>(self, rt: &R, pool: &Pool<M, F, A, C, R, L>) -> io::Result<U::Output>
-        ensures { IfOk result (U.may_give self.0) }
-    {
+    ghost returns = { λ handed ended. IfOk ended (U.returns handed.0) };
+
+    fn run<L: Ledgers>(self, rt: &R, pool: &Pool<M, F, A, C, R, L>) -> io::Result<U::Output> {
         let Handed(user) = self;
         let mut blocking = Blocking::new(rt)?;
         Ok(user.run(rt, &mut blocking, pool))

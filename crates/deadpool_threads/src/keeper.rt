@@ -1,4 +1,5 @@
 //! Who keeps a pool while others use it.
+ghost use Rattle.std.specs.Prelude.{⊤};
 
 use deadpool_managed::{AsyncHook, Manager, SyncHook};
 use deadpool_parts::Clock;
@@ -12,8 +13,12 @@ pub trait Keeper<M: Manager, F: SyncHook<M>, A: AsyncHook<M>, C: Clock, R: Wait 
     /// What comes of it.
     type Output;
 
+    // Holds of each output that may come of it.
+    ghost returns: { Self → Self.Output → Type 0 } = { λ _ _. ⊤ };
+
     /// Keeps the pool, and returns once the shift is over.
-    fn keep<L: Ledgers>(self, rt: &R, pool: &Pool<M, F, A, C, R, L>, shift: &Shift) -> Self::Output;
+    fn keep<L: Ledgers>(self, rt: &R, pool: &Pool<M, F, A, C, R, L>, shift: &Shift) -> Self::Output
+        ensures { returns self result };
 }
 
 /// For how long a keeper keeps a pool: until all workers have returned.

@@ -1,10 +1,12 @@
 //! A pool that several threads use, and one keeps.
 ghost use Rattle.std.specs.Prelude.{◌≡◌, ◌↔◌, true, vec_len, Err, IfOk, IfErr};
+ghost use Rattle.std.specs.List.{AllZip};
 ghost use Rattle.deadpool_parts.specs.declared.errors.BuildError.TheVariants.{NoRuntimeSpecified, OutOfMemory};
 ghost use Rattle.deadpool_builder.specs.Building.{lacks_any_runtime};
 
 use crate::host::Host;
 use crate::keeper::{Keeper, Shift};
+use crate::promised::OfKeeper;
 use crate::threads::in_threads;
 use crate::user::PoolUser;
 use deadpool_builder::PoolBuilder;
@@ -46,6 +48,9 @@ where
     ensures refused { (result ≡ Err NoRuntimeSpecified)
         ↔ (lacks_any_runtime builder.runtime builder.timeouts ≡ true) }
     ensures each { IfOk result (λ outputs. vec_len outputs.0 ≡ vec_len workers) }
+    ensures workers { IfOk result (λ outputs. AllZip W.returns workers.items outputs.0.items) }
+    ensures keeper { IfOk result (λ outputs. K.returns keeper outputs.1) }
+    ensures last { IfOk result (λ outputs. U.returns last outputs.2) }
 {
     with_keeper_by::<M, F, A, C, R, W, K, U, Brand>(
         builder,
@@ -88,6 +93,9 @@ where
     ensures refused { (result ≡ Err NoRuntimeSpecified)
         ↔ (lacks_any_runtime builder.runtime builder.timeouts ≡ true) }
     ensures each { IfOk result (λ outputs. vec_len outputs.0 ≡ vec_len workers) }
+    ensures workers { IfOk result (λ outputs. AllZip W.returns workers.items outputs.0.items) }
+    ensures keeper { IfOk result (λ outputs. K.returns keeper outputs.1) }
+    ensures last { IfOk result (λ outputs. U.returns last outputs.2) }
 {
     let pool: Pool<M, F, A, C, R, L> = builder.build(blanks, rt)?;
     let (outputs, kept) = kept_in_threads(&rt, workers, keeper, &pool)?;
@@ -120,13 +128,17 @@ where
     A::State: Send + 'static,
     C::Alarm: Send + 'static,
     ensures each { IfOk result (λ outputs. vec_len outputs.0 ≡ vec_len workers) }
+    ensures workers { IfOk result (λ outputs. AllZip W.returns workers.items outputs.0.items) }
+    ensures keeper { IfOk result (λ outputs. K.returns keeper outputs.1) }
     ensures short { IfErr result (λ cause. cause ≡ OutOfMemory) }
 {
     let rt = *rt;
     let shift = Shift::begin(rt.alloc())?;
     let theirs = Arc::try_clone(&shift)?;
     let kept = pool.clone()?;
-    let Ok(thread) = thread::spawn(&rt, move || keeper.keep(&rt, &kept, &theirs)) else {
+    let promise = OfKeeper::new(&keeper);
+    let keeping = move || keeper.keep(&rt, &kept, &theirs);
+    let Ok(thread) = thread::spawn_with(&rt, promise, keeping) else {
         return Err(BuildError::OutOfMemory);
     };
     let outputs = in_threads(&rt, workers, pool);

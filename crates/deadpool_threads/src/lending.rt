@@ -1,5 +1,5 @@
 //! A pool that is built for one user.
-ghost use Rattle.std.specs.Prelude.{◌≡◌, ◌↔◌, true, Err};
+ghost use Rattle.std.specs.Prelude.{◌≡◌, ◌↔◌, true, Err, IfOk};
 ghost use Rattle.deadpool_parts.specs.declared.errors.BuildError.TheVariants.{NoRuntimeSpecified};
 ghost use Rattle.deadpool_builder.specs.Building.{lacks_any_runtime};
 
@@ -28,6 +28,7 @@ where
     M::Error: Send,
     ensures refused { (result ≡ Err NoRuntimeSpecified)
         ↔ (lacks_any_runtime builder.runtime builder.timeouts ≡ true) }
+    ensures user { IfOk result (U.returns user) }
 {
     with_pool_by::<M, F, A, C, R, U, Brand>(builder, rt, user, Blanks::new())
 }
@@ -52,6 +53,7 @@ where
     requires opens { blanks ≡ L.names }
     ensures refused { (result ≡ Err NoRuntimeSpecified)
         ↔ (lacks_any_runtime builder.runtime builder.timeouts ≡ true) }
+    ensures user { IfOk result (U.returns user) }
 {
     let pool: Pool<M, F, A, C, R, L> = builder.build(blanks, rt)?;
     Ok(user.run(&rt, &pool))

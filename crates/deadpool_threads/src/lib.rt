@@ -11,6 +11,7 @@ mod keeper;
 mod keeping;
 mod lending;
 mod plain;
+mod promised;
 mod sweeper;
 mod threads;
 mod trying;

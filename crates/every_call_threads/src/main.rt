@@ -5,6 +5,7 @@
 
 mod keeper;
 mod numbers;
+mod sheets;
 mod timer;
 mod unmanaged;
 mod user;
@@ -15,5 +16,6 @@ fn main(rt: HostRuntime) -> io::Result<()> {
     user::calls(rt)?;
     keeper::calls(rt)?;
     unmanaged::calls(rt)?;
-    timer::calls(rt)
+    timer::calls(rt)?;
+    sheets::calls(rt)
 }

@@ -1,5 +1,6 @@
 //! Four threads share two numbers.
 #![tactic(auto)]
+ghost use Rattle.std.specs.Prelude.{◌≡◌, IfOk};
 
 use deadpool::NoTime;
 use deadpool::managed::{Ledgers, Metrics, NoHook, PoolBuilder, PoolError, RecycleResult};
@@ -27,23 +28,28 @@ impl PlainManager for Zeros {
 
 type Numbers<R, L> = PlainPool<Plain<Zeros>, R, L>;
 
-/// Gets a number a hundred times and adds one to it.
+/// Gets a number a hundred times and adds one to it, and says how many ones it added.
 #[derive(Drop)]
 struct AddOnes;
 
 impl<R: Host> PoolUser<Plain<Zeros>, NoHook, NoHook, NoTime, R> for AddOnes {
-    type Output = Result<(), PoolError<()>>;
+    type Output = Result<u64, PoolError<()>>;
 
-    fn run<L: Ledgers>(self, rt: &R, pool: &Numbers<R, L>) -> Result<(), PoolError<()>> {
+    // Proved of each that ends well.
+    ghost returns = { λ _ ended. IfOk ended (λ ones. ones ≡ 100) };
+
+    fn run<L: Ledgers>(self, rt: &R, pool: &Numbers<R, L>) -> Result<u64, PoolError<()>> {
         let Ok(mut waiter) = Blocking::new(rt) else {
             return Err(PoolError::OutOfMemory);
         };
-        for _one in 0..100 {
+        let mut ones = 0;
+        for one in 0..100 {
             // It waits while both numbers are out, and gives its own back at the end of the turn.
             let mut number = waiter.get(rt, pool)?;
             *number = number.saturating_add(1);
+            ones = one + 1;
         }
-        Ok(())
+        Ok(ones)
     }
 }
 
