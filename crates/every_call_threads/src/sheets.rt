@@ -64,8 +64,9 @@ fn write<R: Wait + Drop, L: Ledgers>(rt: &R, waiter: &mut Blocking, pool: &Sheet
     ensures { IfOk result (λ lines. lines ≡ 1) }
 {
     let mut sheet = waiter.get(rt, pool)?;
-    *sheet += 1;
-    Ok(*sheet)
+    let lines = *sheet + 1;
+    *sheet = lines;
+    Ok(lines)
 }
 
 // The lines of all, if each ended well.
