@@ -5,11 +5,13 @@ use Rattle.futures.specs.declared.task.Poll.TheVariants.{Ready, Pending}
 use Rattle.deadpool_parts.specs.declared.moment.Moment.{Moment}
 use Rattle.deadpool_parts.specs.declared.moment.Runtime.{Runtime}
 use Rattle.std.specs.declared.time.Duration.{Duration}
+use Rattle.deadpool_unmanaged.specs.Adds as adds
 use Rattle.deadpool_unmanaged.specs.declared.add.AddStage.{AddStage}
 use Rattle.deadpool_unmanaged.specs.declared.add.AddStage.TheVariants as add_stage
 use Rattle.deadpool_unmanaged.specs.declared.error.PoolError.{PoolError}
 use Rattle.deadpool_unmanaged.specs.declared.get.GetStage.{GetStage}
 use Rattle.deadpool_unmanaged.specs.declared.get.GetStage.TheVariants as get_stage
+use Rattle.deadpool_unmanaged_history.specs.Polls.{CancelsAdd, CancelsGet}
 use Rattle.deadpool_unmanaged_journal.specs.declared.entry.Entry.{Entry}
 use Rattle.deadpool_unmanaged_shared.specs.Calling.{CallsOrRefusesAdd, CallsOrRefusesGet, CallsTake}
 use Rattle.deadpool_unmanaged_shared.specs.Calling.{IsSupplied}
@@ -71,3 +73,15 @@ PollsAddFrom is_new calls add polled left =
     (c : _) × ((c' : _)
     × (IsSupplied is_new add.caller c × CallsOrRefusesAdd calls add.stage polled left.stage c c'
     × (left.caller ≡ Some c')))
+
+module _ {T C : Type 0} (is_new : C → Type 0) (calls : Entry T → C → C → Type 0) where
+  -- A get or a removal that is given up between threads leaves the queue, by one step of its caller's, if it is there.
+  -- Its caller is left of it, a new one if it had none.
+  abbrev pub CancelsFrom : Get C → C → Type 0
+  CancelsFrom get left = (c : C) × (IsSupplied is_new get.caller c × CancelsGet calls get.stage c left)
+
+  -- the same of an add, of which its object is left too
+  abbrev pub CancelsAddFrom : Add T C → Option T × C → Type 0
+  CancelsAddFrom add left =
+      (left.0 ≡ adds.held_by add.stage)
+      × ((c : C) × (IsSupplied is_new add.caller c × CancelsAdd calls add.stage c left.1))

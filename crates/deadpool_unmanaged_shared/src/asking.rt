@@ -3,8 +3,8 @@ ghost use Rattle.std.specs.Prelude.{◌≡◌, Some, Err, IfOk, IfErr, IfSome};
 ghost use Rattle.deadpool_lock.specs.Asked.{IfRefused};
 ghost use Rattle.deadpool_unmanaged.specs.Adds.{held_by, IsUnpolled};
 ghost use Rattle.deadpool_unmanaged.specs.declared.error.PoolError.TheVariants.{OutOfMemory};
-ghost use Rattle.deadpool_unmanaged_shared.specs.Asking.{PollsAddFrom, PollsFrom, PollsToRemove};
-ghost use Rattle.deadpool_unmanaged_shared.specs.Asking.{adding, getting};
+ghost use Rattle.deadpool_unmanaged_shared.specs.Asking.{CancelsAddFrom, CancelsFrom, PollsAddFrom, PollsFrom};
+ghost use Rattle.deadpool_unmanaged_shared.specs.Asking.{PollsToRemove, adding, getting};
 
 use crate::object::Object;
 use crate::shared::Shared;
@@ -58,12 +58,17 @@ impl<T: Drop, C: Clock, R: Wait + Drop, S: KeepsState<T>> Request for Getting<T,
 
     type Output = Result<Object<T, C, R, S>, PoolError>;
 
+    // The caller that gave it up.
+    type Left = S::Caller;
+
     ghost gives = { λ _ home ended. IfOk ended (λ object. object.home ≡ home) };
 
     ghost refuses = { λ _ ended. ended ≡ Err OutOfMemory };
 
     ghost polls = { λ shared get turn left. PollsFrom (λ object. object.value) (λ object. object.caller)
         S.is_new S.calls shared.runtime get turn left };
+
+    ghost cancels = { λ _ get left. CancelsFrom S.is_new S.calls get left };
 
     #[inline(always)]
     fn poll(
@@ -104,7 +109,7 @@ impl<T: Drop, C: Clock, R: Wait + Drop, S: KeepsState<T>> Request for Getting<T,
         }
     }
 
-    fn cancel(self, _home: Home<Shared<T, C, R, S>>, shared: &Shared<T, C, R, S>) {
+    fn cancel(self, _home: Home<Shared<T, C, R, S>>, shared: &Shared<T, C, R, S>) -> S::Caller {
         let Self {
             state,
             caller,
@@ -116,6 +121,7 @@ impl<T: Drop, C: Clock, R: Wait + Drop, S: KeepsState<T>> Request for Getting<T,
         let spare = step.kept().cancel_get(&mut caller, state);
         shared.lock.end(step);
         drop(spare);
+        caller
     }
 
     fn refuse(&mut self) -> Result<Object<T, C, R, S>, PoolError> {
@@ -158,6 +164,8 @@ impl<T: Drop, C: Clock, R: Wait + Drop, S: KeepsState<T>> Request for Removing<T
 
     type Output = Result<T, PoolError>;
 
+    type Left = S::Caller;
+
     ghost refuses = { λ _ ended. ended ≡ Err OutOfMemory };
 
     ghost use Rattle.deadpool_unmanaged_shared.specs.declared.object.Object.{Object as Out};
@@ -165,6 +173,8 @@ impl<T: Drop, C: Clock, R: Wait + Drop, S: KeepsState<T>> Request for Removing<T
     ghost polls = { λ shared get turn left. PollsToRemove
         (λ (o : Out T C R S C.Alarm S.Caller). o.value) (λ (o : Out T C R S C.Alarm S.Caller). o.caller)
         S.is_new S.calls shared.runtime get turn left };
+
+    ghost cancels = { λ _ get left. CancelsFrom S.is_new S.calls get left };
 
     #[inline(always)]
     fn poll(
@@ -185,9 +195,9 @@ impl<T: Drop, C: Clock, R: Wait + Drop, S: KeepsState<T>> Request for Removing<T
         }
     }
 
-    fn cancel(self, home: Home<Shared<T, C, R, S>>, shared: &Shared<T, C, R, S>) {
+    fn cancel(self, home: Home<Shared<T, C, R, S>>, shared: &Shared<T, C, R, S>) -> S::Caller {
         let Self { get } = self;
-        get.cancel(home, shared);
+        get.cancel(home, shared)
     }
 
     fn refuse(&mut self) -> Result<T, PoolError> {
@@ -235,6 +245,9 @@ impl<T: Drop, C: Clock, R: Wait + Drop, S: KeepsState<T>> Request for Adding<T, 
 
     type Output = Result<(), (T, PoolError)>;
 
+    // Its object, and the caller that gave it up.
+    type Left = (Option<T>, S::Caller);
+
     // One that was refused was not polled.
     ghost fits = { λ stage add. IfRefused stage (IsUnpolled add.stage) };
 
@@ -244,6 +257,8 @@ impl<T: Drop, C: Clock, R: Wait + Drop, S: KeepsState<T>> Request for Adding<T, 
     ghost refuses = { λ add ended. IfSome (held_by add.stage) (λ value. ended ≡ Err (value, OutOfMemory)) };
 
     ghost polls = { λ _ add turn left. PollsAddFrom S.is_new S.calls add turn left };
+
+    ghost cancels = { λ _ add left. CancelsAddFrom S.is_new S.calls add left };
 
     fn poll(
         &mut self,
@@ -266,7 +281,7 @@ impl<T: Drop, C: Clock, R: Wait + Drop, S: KeepsState<T>> Request for Adding<T, 
         polled
     }
 
-    fn cancel(self, _kept: (), shared: &Shared<T, C, R, S>) {
+    fn cancel(self, _kept: (), shared: &Shared<T, C, R, S>) -> (Option<T>, S::Caller) {
         let Self {
             state,
             caller,
@@ -277,7 +292,7 @@ impl<T: Drop, C: Clock, R: Wait + Drop, S: KeepsState<T>> Request for Adding<T, 
         let (value, spare) = step.kept().cancel_add(&mut caller, state);
         shared.lock.end(step);
         drop(spare);
-        drop(value);
+        (value, caller)
     }
 
     fn refuse(&mut self) -> Result<(), (T, PoolError)> {

@@ -68,9 +68,15 @@ impl<T: Drop, C: Clock, R: Wait + Drop, S: KeepsState<T>> Request for Draining<T
 
     type Output = Result<Status, DrainError>;
 
+    // Its caller, if it was polled.
+    type Left = Option<S::Caller>;
+
     ghost gives = { λ drain _ ended. EndsEmpty drain.is_limited ended };
 
     ghost polls = { λ _ drain turn left. PollsDrainFrom S.is_new S.calls drain turn left };
+
+    // That it waits no longer is no step.
+    ghost cancels = { λ _ drain left. left ≡ drain.caller };
 
     fn poll(
         &mut self,
@@ -105,11 +111,11 @@ impl<T: Drop, C: Clock, R: Wait + Drop, S: KeepsState<T>> Request for Draining<T
         polled
     }
 
-    fn cancel(self, _kept: (), shared: &Shared<T, C, R, S>) {
+    fn cancel(self, _kept: (), shared: &Shared<T, C, R, S>) -> Option<S::Caller> {
         let Self {
             limit: _,
             begun: _,
-            caller: _,
+            caller,
             mut ticket,
             alarm: _,
             of: _,
@@ -118,6 +124,7 @@ impl<T: Drop, C: Clock, R: Wait + Drop, S: KeepsState<T>> Request for Draining<T
             let spare = shared.lock.look().leave_drain(&mut ticket);
             drop(spare);
         }
+        caller
     }
 
     // `drain` makes none that is refused: nothing is kept for its output. Such a one would have seen no object.

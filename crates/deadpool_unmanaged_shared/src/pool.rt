@@ -24,24 +24,27 @@ use std::marker::Model;
 use std::sync::Wait;
 use std::time::Duration;
 
-/// A get as a future. Dropping it gives back what it was granted.
+/// A get as a future. Dropping it gives back what it was granted. So does `give_up`, which returns its caller.
 pub type Get<T, C, R, S = Core<T>> = Owned<Getting<T, C, R, S>>;
 
-/// A get as a future that borrows a handle of its pool, and is none itself. Dropping it gives back what it was granted.
+/// A get as a future that borrows a handle of its pool, and is none itself. It is given up as a `Get` is.
 pub type GetRef<'a, T, C, R, S = Core<T>> = Borrowed<'a, Getting<T, C, R, S>>;
 
-/// A get as a future, whose object leaves the pool for good.
+/// A get as a future, whose object leaves the pool for good. It is given up as a `Get` is.
 pub type Remove<T, C, R, S = Core<T>> = Owned<Removing<T, C, R, S>>;
 
-/// An add as a future. Dropping it drops its object, and gives back the room that it was granted.
+/// An add as a future. Dropping it drops its object, and gives back the room that it was granted. `give_up` gives the
+/// room back too, and returns the object and its caller. If there was no memory for its handle, it drops the object and
+/// returns nothing.
 pub type Add<T, C, R, S = Core<T>> = Owned<Adding<T, C, R, S>>;
 
-/// An add as a future that borrows a handle of its pool, and is none itself. Dropping it is as for an `Add`.
+/// An add as a future that borrows a handle of its pool, and is none itself. It is given up as an `Add` is.
 pub type AddRef<'a, T, C, R, S = Core<T>> = Borrowed<'a, Adding<T, C, R, S>>;
 
 /// A drain as a future that borrows a handle of its pool, and is none itself: its first poll closes the pool, and it
 /// ends with the pool's status once no object is left, idle or out, and none that came back is still to be dropped.
-/// Then the pool stays empty. Dropping it waits no longer; the pool stays closed. After its end it stays pending.
+/// Then the pool stays empty. Dropping it waits no longer; the pool stays closed. `give_up` does the same, and
+/// returns the caller that it had. After its end it stays pending.
 pub type Drain<'a, T, C, R, S = Core<T>> = Borrowed<'a, Draining<T, C, R, S>>;
 
 /// A handle of a pool whose objects are those that its users add. The last handle that is dropped takes the idle
