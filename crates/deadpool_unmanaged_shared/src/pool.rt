@@ -212,11 +212,7 @@ impl<T: Drop, C: Clock, R: Wait + Drop, S: KeepsState<T>> Pool<T, C, R, S> {
     pub fn add(&self, value: T) -> Add<T, C, R, S>
         ensures { OwnAsks self.now tt (adding value) result }
     {
-        let begun = match self.inner.clone() {
-            Ok(handle) => Ok((handle, ())),
-            Err(AllocError) => Err(AllocError),
-        };
-        Owned::new(begun, Adding::new(value))
+        Owned::new(self.begin_add(), Adding::new(value))
     }
 
     /// An add, which waits for room without an end, and borrows this handle. If it is refused the object comes back.
@@ -352,5 +348,13 @@ impl<T: Drop, C: Clock, R: Wait + Drop, S: KeepsState<T>> Pool<T, C, R, S> {
     {
         let home = self.inner.uncounted()?;
         Ok((self.inner.clone()?, home))
+    }
+
+    // What a new add has, if there is memory for it.
+    #[inline(always)]
+    fn begin_add(&self) -> Result<(Handle<Shared<T, C, R, S>>, ()), AllocError>
+        ensures { IfOk result (λ begun. begun.0 ≡ self.now) }
+    {
+        Ok((self.inner.clone()?, ()))
     }
 }

@@ -1,5 +1,5 @@
 //! Futures that are given up before their first poll.
-ghost use Rattle.std.specs.Prelude.{◌≡◌, IfSome, IsSome, Some};
+ghost use Rattle.std.specs.Prelude.{◌≡◌, Some, None};
 
 use crate::Numbers;
 use crate::host::Host;
@@ -38,6 +38,12 @@ fn caller_of_a_drain<R: Host, S: KeepsState<u64>>(pool: &Numbers<R, S>) -> Optio
 
 /// Prints what is left of them.
 pub fn calls<R: Host + Print, S: KeepsState<u64>>(rt: &R, pool: &Numbers<R, S>) -> io::Result<()> {
-    println!(rt; "given up: {:?}", (number(pool), own_number(pool), callers(pool)))?;
-    println!(rt; "a drain leaves its caller: {}", caller_of_a_drain(pool).is_some())
+    println!(rt;
+        "given up: {:?}",
+        (number(pool), own_number(pool), callers(pool))
+    )?;
+    println!(rt;
+        "a drain leaves its caller: {}",
+        caller_of_a_drain(pool).is_some()
+    )
 }

@@ -7,6 +7,7 @@ mod adds;
 mod callers;
 mod drains;
 mod gets;
+mod given_up;
 mod histories;
 mod host;
 mod recorded;
@@ -26,6 +27,7 @@ pub fn all<R: Host + Print, S: KeepsState<u64>>(rt: &R, pool: &Numbers<R, S>) ->
     adds::calls(rt, pool)?;
     gets::calls(rt, pool)?;
     callers::calls(rt, pool)?;
+    given_up::calls(rt, pool)?;
     drains::calls(rt, pool)
 }
 
