@@ -1,5 +1,6 @@
 -- What a step adds to the history, as its caller sees it.
 use Rattle.std.specs.Prelude.{◌≡◌, ◌⊎◌, ⊤, true, ℕ, Option, Some, None, Result, Ok, Err}
+use mathlib.Core.List.{IsPrefix}
 use Rattle.deadpool_chronicle.specs.History.{Knowing}
 use Rattle.deadpool_desk.specs.declared.owner_step.OwnerReply.TheVariants as owner_reply
 use Rattle.deadpool_desk.specs.declared.owner_step.OwnerStep.TheVariants as owner_step
@@ -7,11 +8,13 @@ use Rattle.deadpool_desk.specs.declared.step.Reply.{Reply}
 use Rattle.deadpool_desk.specs.declared.step.Reply.TheVariants.{Exhausted, OutOfMemory, Unknown}
 use Rattle.deadpool_desk.specs.declared.step.Step.{Step}
 use Rattle.deadpool_desk.specs.declared.step.Step.TheVariants.{Ask, Enter, Withdraw}
-use Rattle.deadpool_history.specs.History.{HasCalled}
+use Rattle.deadpool_history.specs.History.{HasCalled, History, IsTallyOf}
 use Rattle.deadpool_history.specs.declared.line.Line.{Line}
 use Rattle.deadpool_journal.specs.declared.entry.Entry.{Entry}
 use Rattle.deadpool_journal.specs.declared.entry.Entry.TheVariants.{Made, Owner}
-use Rattle.deadpool_shared.specs.Counts.{Holder, IsNewHolder}
+use Rattle.deadpool_journal.specs.declared.tally.Tally.{Tally}
+use Rattle.deadpool_parts.specs.declared.status.Status.{Status}
+use Rattle.deadpool_shared.specs.Counts.{Holder, IsNewCaller, IsNewHolder}
 use Rattle.deadpool_shared.specs.Locked.{may_wait}
 
 -- the reply to a get that may wait, whose waker finds no memory: no step is made
@@ -52,3 +55,16 @@ CallsFromSeat step number reply h h' =
 abbrev pub IsResize : {A E : Type 0} → ℕ → Result A E → Entry → Type 0
 IsResize limit (Ok done) e = e ≡ Owner (owner_step.Resize limit) owner_reply.Done
 IsResize limit (Err refused) e = e ≡ Owner (owner_step.Resize limit) owner_reply.OutOfMemory
+
+-- the caller has asked for this status
+abbrev pub AsksStatus : Status → Knowing Line → Knowing Line → Type 0
+AsksStatus status c c' = HasCalled (λ e. e ≡ Owner owner_step.Status (owner_reply.Stands status)) c c'
+
+-- and the history that it has seen then has this tally
+abbrev pub AsksTally : Tally → Status → Knowing Line → Knowing Line → Type 0
+AsksTally tally status c c' = AsksStatus status c c' × IsTallyOf c'.seen tally
+
+-- These calls were made in the name of a new caller, which had seen how the pool opened.
+abbrev pub ByNewCaller : History → (Knowing Line → Knowing Line → Type 0) → Type 0
+ByNewCaller opening calls =
+    (c : Knowing Line) × ((c' : Knowing Line) × (IsNewCaller c × IsPrefix opening c.seen × calls c c'))

@@ -4,6 +4,7 @@ ghost use Rattle.std.specs.Option.{option_map};
 ghost use Rattle.futures.specs.Poll.{IfReady, OnPending};
 ghost use Rattle.futures.specs.declared.task.Poll.TheVariants.{Ready};
 ghost use Rattle.futures.specs.Task.{Covers, Keeps};
+ghost use Rattle.deadpool_shared.specs.Calling.{ByNewCaller};
 ghost use Rattle.deadpool_shared.specs.Drains.{CallsOfDrain, EndsEmpty, PollsDrain};
 
 use crate::ledgers::{History, Ledgers};
@@ -277,9 +278,11 @@ impl<M: Manager, F: SyncHook<M>, A: AsyncHook<M>, C: Clock, R: Wait + Drop, L: L
     /// Closes the pool, and does not wait: `Timeout` says that something is left in it, with the status, and
     /// `Departing` that what has left is still to be dropped.
     pub fn try_drain(&self) -> Result<Status, DrainError>
-        ensures { EndsEmpty true result }
+        ensures ends { EndsEmpty true result }
+        ensures calls { ByNewCaller self.now.opening.log (CallsOfDrain true (Ready result)) }
     {
-        self.try_drain_by(&mut self.handle().shared().caller())
+        let mut caller = self.handle().shared().caller();
+        self.try_drain_by(&mut caller)
     }
 
     /// `try_drain` by a caller that the history has its calls of: the close, and the status that it gives.

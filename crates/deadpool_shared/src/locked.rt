@@ -133,6 +133,18 @@ impl<T: Drop, L: Ledgers> Locked<T, L> {
         recorded.admit(first)
     }
 
+    /// A caller that has made no step yet, and has seen what was seen earlier. It is no step.
+    pub fn admit_after(&mut self, earlier: &Beginning<Line, History<L>>) -> Caller<Line, History<L>>
+        ensures caller { IsNewCaller result }
+        ensures earlier { IsPrefix earlier.now.log result.seen }
+        ensures recorded { self.new.recorded ≡ self.old.recorded }
+        ensures wakers { self.new.wakers ≡ self.old.wakers }
+    {
+        let mut caller = self.admit();
+        self.audit(&mut caller, earlier);
+        caller
+    }
+
     /// Makes a step of a get or an object, whose shares are those of what it holds, and gives the reply. A get that
     /// would be queued, whose waker finds no memory, makes no step. If it is queued its waker is kept; the one that was
     /// kept and is not any more is given out. What the step lets go of counts as departing from then on.

@@ -11,7 +11,7 @@ ghost use Rattle.deadpool_journal.specs.Tally.{AreBalanced};
 ghost use Rattle.deadpool_journal.specs.declared.entry.Entry.TheVariants as entry;
 ghost use Rattle.deadpool_lock.specs.Asked.{BorrowingAsks, OwnAsks};
 ghost use Rattle.deadpool_builder.specs.Building.{newly};
-ghost use Rattle.deadpool_shared.specs.Calling.{IsResize};
+ghost use Rattle.deadpool_shared.specs.Calling.{AsksStatus, AsksTally, ByNewCaller, IsResize};
 ghost use Rattle.deadpool_shared.specs.Counts.{IsNewCaller};
 ghost use Rattle.deadpool_shared.specs.Gets.{getting};
 
@@ -313,7 +313,9 @@ impl<M: Manager, F: SyncHook<M>, A: AsyncHook<M>, C: Clock, R: Wait + Drop, L: L
     }
 
     /// How the pool stands, all at one moment.
-    pub fn status(&self) -> Status {
+    pub fn status(&self) -> Status
+        ensures { ByNewCaller self.now.opening.log (AsksStatus result) }
+    {
         self.handle.shared().status()
     }
 
@@ -328,7 +330,8 @@ impl<M: Manager, F: SyncHook<M>, A: AsyncHook<M>, C: Clock, R: Wait + Drop, L: L
     /// How often each thing has happened since the pool was opened, and how the pool stands, all at one moment. The
     /// books balance: each object that was created is in the pool, or is counted where it was given up.
     pub fn tally(&self) -> (Tally, Status)
-        ensures { AreBalanced result.1.size result.0 }
+        ensures call { ByNewCaller self.now.opening.log (AsksTally result.0 result.1) }
+        ensures balances { AreBalanced result.1.size result.0 }
     {
         self.handle.shared().tally()
     }

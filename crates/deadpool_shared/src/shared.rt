@@ -10,6 +10,7 @@ ghost use Rattle.deadpool_history.specs.History.{IsTallyOf, LeavesIdle};
 ghost use Rattle.deadpool_journal.specs.Copies.{HasSteps};
 ghost use Rattle.deadpool_journal.specs.Tally.{AreBalanced};
 ghost use Rattle.deadpool_journal.specs.declared.entry.Entry.TheVariants as entry;
+ghost use Rattle.deadpool_shared.specs.Calling.{AsksStatus, AsksTally, ByNewCaller};
 ghost use Rattle.deadpool_shared.specs.Counts.{IsNewCaller};
 
 use crate::ledgers::{History, Ledgers};
@@ -58,10 +59,7 @@ impl<M: Manager, F: SyncHook<M>, A: AsyncHook<M>, C: Clock, R: Wait + Drop, L: L
         ensures new { IsNewCaller result }
         ensures opened { IsPrefix self.now.opening.log result.seen }
     {
-        let mut locked = self.lock.look();
-        let mut caller = locked.admit();
-        locked.audit(&mut caller, &self.opening);
-        caller
+        self.lock.look().admit_after(&self.opening)
     }
 
     /// What was seen earlier is a beginning of what the caller has seen then. It is no step.
@@ -153,9 +151,11 @@ impl<M: Manager, F: SyncHook<M>, A: AsyncHook<M>, C: Clock, R: Wait + Drop, L: L
     }
 
     /// The same by a new caller.
-    pub fn status(&self) -> Status {
+    pub fn status(&self) -> Status
+        ensures { ByNewCaller self.now.opening.log (AsksStatus result) }
+    {
         let mut locked = self.lock.look();
-        let mut caller = locked.admit();
+        let mut caller = locked.admit_after(&self.opening);
         match locked.make_for_owner(&mut caller, &OwnerStep::Status) {
             OwnerReply::Stands(status) => status,
             _ => unreachable!(),
@@ -175,10 +175,11 @@ impl<M: Manager, F: SyncHook<M>, A: AsyncHook<M>, C: Clock, R: Wait + Drop, L: L
 
     /// The same by a new caller.
     pub fn tally(&self) -> (Tally, Status)
-        ensures { AreBalanced result.1.size result.0 }
+        ensures call { ByNewCaller self.now.opening.log (AsksTally result.0 result.1) }
+        ensures balances { AreBalanced result.1.size result.0 }
     {
         let mut locked = self.lock.look();
-        let mut caller = locked.admit();
+        let mut caller = locked.admit_after(&self.opening);
         locked.tally(&mut caller)
     }
 
