@@ -95,8 +95,8 @@ fn written<R: Host>(
     ensures last { IfOk result (λ told. IfOk told.1 (λ lines. lines ≡ last.lines)) }
 {
     let builder = PoolBuilder::new(rt.alloc(), Plain(Blanks), NoTime);
-    let (ended, ended_last) = with_threads(builder, rt, writers, last)?;
-    Ok((total_of(ended), ended_last))
+    let outputs = with_threads(builder, rt, writers, last)?;
+    Ok((total_of(outputs.0), outputs.1))
 }
 
 /// Prints what was written.
