@@ -16,8 +16,10 @@ use std::thread;
 use std::thread::PromisedHandle;
 
 // A worker's thread, which is still to be joined.
-type Thread<M, F, A, C, R, W> =
-    PromisedHandle<<W as PoolUser<M, F, A, C, R>>::Output, OfWorker<M, F, A, C, R, W>>;
+type Thread<M, F, A, C, R, W> = PromisedHandle<
+    <W as PoolUser<M, F, A, C, R>>::Output,
+    OfWorker<M, F, A, C, R, W>,
+>;
 
 /// Builds a pool with ledgers of its own, and starts a thread for each of these workers, which uses it. Once all have
 /// returned, it is lent to the last user, on this thread. `OutOfMemory` also says that a thread was not started; those

@@ -1,5 +1,6 @@
 //! Four threads share two numbers.
 #![tactic(auto)]
+
 ghost use Rattle.std.specs.Prelude.{◌≡◌, IfOk};
 
 use deadpool::NoTime;

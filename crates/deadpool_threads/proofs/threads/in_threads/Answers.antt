@@ -12,10 +12,10 @@ returns-in-Ok-clause-each g c =
     (λ given. AllZip (λ t o. g.W.PoolUser.returns t.promise.worker.value o) threads (vec_items given))
     (λ given. vec_len given ≡ vec_len c.args.workers)
     (λ given zipped.
-      given.ok.0
-      ∙ AllZip-long _ threads (vec_items given) zipped
-      ∙ AllZip-long _ workers threads c.in-Ok.ensures.workers
-      ∙ sym c.args.workers.ok.0)
+    given.ok.0
+    ∙ AllZip-long _ threads (vec_items given) zipped
+    ∙ AllZip-long _ workers threads c.in-Ok.ensures.workers
+    ∙ sym c.args.workers.ok.0)
     c.joined.result c.joined.ensures.threads
 
 pub returns-in-Ok-clause-workers : goal.returns-in-Ok-clause-workers
@@ -25,7 +25,7 @@ returns-in-Ok-clause-workers g c =
     (λ given. AllZip (λ t o. g.W.PoolUser.returns t.promise.worker.value o) threads (vec_items given))
     (λ given. AllZip g.W.PoolUser.returns workers (vec_items given))
     (λ given zipped.
-      zip_through (λ w t. t.promise.worker.value ≡ w) (λ t o. g.W.PoolUser.returns t.promise.worker.value o)
-      g.W.PoolUser.returns (λ w t o is may. subst (λ x. g.W.PoolUser.returns x o) is may)
-      workers threads (vec_items given) c.in-Ok.ensures.workers zipped)
+    zip_through (λ w t. t.promise.worker.value ≡ w) (λ t o. g.W.PoolUser.returns t.promise.worker.value o)
+    g.W.PoolUser.returns (λ w t o is may. subst (λ x. g.W.PoolUser.returns x o) is may)
+    workers threads (vec_items given) c.in-Ok.ensures.workers zipped)
     c.joined.result c.joined.ensures.threads

@@ -22,9 +22,9 @@ loop-end-preserved c =
     record {
       left = left_less before after c.in-Some.end _ _ was.left step.0 step.1;
       adds = (λ told zipped.
-        subst (λ total. Adds told total after) (sym c.in_ok-total.ensures.1)
-        (adds_more told c.loop-end.total c.in-Ok.lines before after
-        (step.0 ∙ ap (λ end. end ∷ after) c.in-Ok.is) (was.adds told zipped)));
+          subst (λ total. Adds told total after) (sym c.in_ok-total.ensures.1)
+          (adds_more told c.loop-end.total c.in-Ok.lines before after
+          (step.0 ∙ ap (λ end. end ∷ after) c.in-Ok.is) (was.adds told zipped)));
     }
 
 pub returns : goal.returns

@@ -10,6 +10,6 @@ returns-clause-writers g c =
     if_some_so (λ total. (told : List ℕ) → AllZip IsAsTold told ends → total ≡ sum told)
     (λ lines. lines ≡ sum (map (λ w. w.lines) writers))
     (λ total adds.
-      adds (map (λ w. w.lines) writers)
-      (as_each_was_told (λ w. w.lines) writers ends c.in_ok-outputs.ensures.workers))
+    adds (map (λ w. w.lines) writers)
+    (as_each_was_told (λ w. w.lines) writers ends c.in_ok-outputs.ensures.workers))
     c.total_of.result c.total_of.ensures
