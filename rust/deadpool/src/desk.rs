@@ -1,12 +1,13 @@
 //! What the lock, the queue and the handles ask of a core, under one name for both pools.
 //!
 //! The steps of gets, objects and adds are no part of it: each pool makes those of its own core.
-use crate::cores::desk::{OwnerDesk, QueueMode, Slot};
+use crate::cells::Answer;
+use crate::cores::desk::{Desk as _, OwnerDesk, QueueMode, Slot};
 use crate::cores::gate::gate::Ticket;
 use crate::cores::parts::Status;
 use crate::cores::unmanaged_journal::Nameless;
 use crate::cores::{desk, journal, unmanaged_journal};
-use crate::parcel::Parcel;
+use crate::parcel::{Boxed, Parcel};
 use crate::rattle::Global;
 use std::alloc::{Layout, handle_alloc_error};
 
@@ -30,6 +31,14 @@ pub(crate) trait Desk {
     fn next_add(&mut self) -> Option<Ticket> {
         None
     }
+    /// The answer to a get that is due, if an object is idle for it. It has left the queue then.
+    fn hand_over(&mut self, _: Ticket) -> Option<Answer<Self::Value>> {
+        None
+    }
+    /// An object comes back that was handed over, and not found. What the pool has no use for is to be detached.
+    fn come_back(&mut self, slot: Slot<Parcel<Self::Value>>) -> Option<Boxed<Self::Value>> {
+        slot.value.take()
+    }
     /// The idle object at a position, counted from the front.
     fn idle(&self, at: usize) -> Option<&Parcel<Self::Value>>;
     fn shut(&mut self);
@@ -45,11 +54,11 @@ pub(crate) trait Desk {
 }
 
 /// Has a core be a desk: where the steps of its owner are from, which calls name those that are due, where the parcel of an idle
-/// object is, what is asked for it and for the handles, and how one is made.
+/// object is, what is asked for it and for the handles, how one is made, and what it does otherwise.
 macro_rules! desk_of {
     (
         $core:ident, steps of $steps:ident, $next_get:ident $(and $next_add:ident)?, $parcel:ident in $idle:pat,
-        $desk:ident: $state:expr, new $empty:expr
+        $desk:ident: $state:expr, new $empty:expr, also { $($own:tt)* }
     ) => {
         impl<V> Desk for $core<Parcel<V>> {
             type Value = V;
@@ -111,14 +120,31 @@ macro_rules! desk_of {
             fn uncount_handle(&mut self) {
                 self.make_for_owner(&$steps::OwnerStep::DropHandle);
             }
+
+            $($own)*
         }
     };
 }
 desk_of!(
     Managed, steps of desk, take_wake, value in Slot { value, .. },
-    desk: desk, new Self::new(Global, 0, QueueMode::Fifo, 0, 0)
+    desk: desk, new Self::new(Global, 0, QueueMode::Fifo, 0, 0), also {
+        #[inline]
+        fn hand_over(&mut self, ticket: Ticket) -> Option<Answer<V>> {
+            // (in a closed pool none is idle)
+            self.idle_at(0)?;
+            let mut hand = None;
+            let reply = self.make(&desk::Step::Ask { ticket, expired: false }, &mut hand);
+            Some(Answer { reply, hand })
+        }
+
+        fn come_back(&mut self, slot: Slot<Parcel<V>>) -> Option<Boxed<V>> {
+            let mut hand = Some(slot);
+            self.make(&desk::Step::Back, &mut hand);
+            hand?.value.take()
+        }
+    }
 );
 desk_of!(
     Unmanaged, steps of unmanaged_journal, take_get_wake and take_add_wake, parcel in parcel,
-    desk: desk.core, new Self::new(Global, 0, 0)
+    desk: desk.core, new Self::new(Global, 0, 0), also {}
 );

@@ -50,6 +50,7 @@
 #![cfg_attr(not(all(feature = "managed", feature = "unmanaged")), allow(dead_code, unused_imports, unused_macros))]
 
 mod blocking;
+mod cells;
 #[allow(
     clippy::pedantic,
     clippy::new_without_default,

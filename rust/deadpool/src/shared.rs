@@ -1,6 +1,8 @@
 //! What the handles of a pool have in common, what stands under its lock, and how a step is made there.
 use crate::Status;
+use crate::cells::Cells;
 use crate::desk::Desk;
+use crate::parcel::Boxed;
 use crate::wakers::Wakers;
 use std::fmt;
 use std::hint::spin_loop;
@@ -18,7 +20,7 @@ const FEW: usize = 4;
 const MANY: usize = 32;
 
 /// Takes the waker of the next one that is due.
-type Due<D> = fn(&mut State<D>) -> Option<Waker>;
+type Due<D> = fn(&mut State<D>, &Cells<<D as Desk>::Value>) -> Option<Waker>;
 
 /// What stands under a pool's lock.
 ///
@@ -35,6 +37,8 @@ pub(crate) struct State<D> {
     /// Those that wait until the pool has ended, and those that wait until it is drained.
     pub(crate) keepers: Wakers,
     pub(crate) drains: Wakers,
+    /// The number of the last get that had to wait.
+    last: u64,
     /// How many have let go of something that is still to be detached or dropped.
     departing: usize,
     /// Whether code of a user's runs under the lock.
@@ -44,7 +48,7 @@ pub(crate) struct State<D> {
 impl<D: Desk> State<D> {
     fn new(desk: D) -> Self {
         let [gets, adds, keepers, drains] = [(); 4].map(|()| Wakers::default());
-        State { desk, gets, adds, keepers, drains, departing: 0, is_lent: false }
+        State { desk, gets, adds, keepers, drains, last: 0, departing: 0, is_lent: false }
     }
 
     /// What a step lets go of is still to be detached or dropped. A drain waits for it.
@@ -55,6 +59,11 @@ impl<D: Desk> State<D> {
     /// Whether nothing is left of a pool that has ended, nor of what has left it.
     pub(crate) fn is_drained(&self) -> bool {
         self.departing == 0 && self.desk.is_drained()
+    }
+
+    /// The values of so many idle objects, from the front on, which the next step drops.
+    fn idle_values(&self, count: usize) -> Vec<Boxed<D::Value>> {
+        (0..count).map_while(|at| self.desk.idle(at)?.take()).collect()
     }
 
     /// Has code of a user's run under the lock, between two steps. If it panics the state is whole.
@@ -79,16 +88,27 @@ impl<D: Desk> State<D> {
         }));
     }
 
-    /// The next one that is due to be woken.
-    fn due(&mut self) -> Option<Waker> {
+    /// The number of a get that has to wait, which no other one has.
+    pub(crate) fn next_number(&mut self) -> u64 {
+        self.last += 1;
+        self.last
+    }
+
+    /// The next one that is due to be woken. A get is handed its object over, if one is idle.
+    fn due(&mut self, cells: &Cells<D::Value>) -> Option<Waker> {
         let State { desk, gets, adds, .. } = self;
-        let get = from_fn(|| desk.next_get()).find_map(|ticket| gets.take(ticket.number()));
-        get.or_else(|| from_fn(|| desk.next_add()).find_map(|ticket| adds.take(ticket.number())))
+        while let Some(ticket) = desk.next_get() {
+            if let Some((waker, number)) = gets.take_numbered(ticket.number()) {
+                cells.put(number, || desk.hand_over(ticket));
+                return Some(waker);
+            }
+        }
+        from_fn(|| desk.next_add()).find_map(|ticket| adds.take(ticket.number()))
     }
 
     /// The next one that is due in a pool that has ended.
-    fn due_at_end(&mut self) -> Option<Waker> {
-        let turn = self.due().or_else(|| self.keepers.pop());
+    fn due_at_end(&mut self, cells: &Cells<D::Value>) -> Option<Waker> {
+        let turn = self.due(cells).or_else(|| self.keepers.pop());
         turn.or_else(|| if self.is_drained() { self.drains.pop() } else { None })
     }
 }
@@ -103,6 +123,9 @@ pub(crate) struct Shared<C, D: Desk> {
     handles: OnceLock<Weak<Counted<C, D>>>,
     /// Whether it has closed or no handle is left. It is set under the lock.
     has_ended: AtomicBool,
+    pub(crate) cells: Cells<D::Value>,
+    /// Tells the manager of an object that leaves the pool.
+    detach: fn(&C, &mut D::Value),
 }
 
 impl<C, D: Desk> Shared<C, D> {
@@ -175,6 +198,8 @@ impl<C, D: Desk> Shared<C, D> {
         let broken = replace(&mut *state, State::new(D::closed()));
         self.has_ended.store(true, Ordering::Relaxed);
         drop(state);
+        // (a panic of a drop ends no other: another one is under way)
+        self.cells.end(|slot| _ = catch_unwind(AssertUnwindSafe(|| drop(slot.value.take()))));
         broken.abandon();
     }
 
@@ -233,7 +258,7 @@ impl<C, D: Desk> Shared<C, D> {
         let mut some = [const { None }; MOST];
         let mut places = some.iter_mut();
         let are_all = places.any(|place| {
-            *place = due(&mut state);
+            *place = due(&mut state, &self.cells);
             place.is_none()
         });
         drop(state);
@@ -273,15 +298,23 @@ impl<C, D: Desk> Shared<C, D> {
         self.has_ended.load(Ordering::Relaxed)
     }
 
-    /// Makes a step that drops all idle objects, if it is the one that ends the pool.
+    /// Makes a step that drops all idle objects, if it is the one that ends the pool. What was handed over and not found is idle again
+    /// then, or surplus.
     fn end(&self, ends: impl Fn(&D) -> bool, step: impl FnOnce(&mut D)) {
-        let count = |desk: &D| if ends(desk) { usize::MAX } else { 0 };
-        self.give_up(count, |desk| {
-            if ends(desk) {
+        let mut tells = self.telling_end();
+        let (mut gone, mut surplus) = (Vec::new(), Vec::new());
+        self.step(|state| {
+            if ends(&state.desk) {
                 self.has_ended.store(true, Ordering::Relaxed);
+                self.cells.end(|slot| surplus.extend(state.desk.come_back(slot)));
+                gone = state.idle_values(usize::MAX);
             }
-            step(desk);
+            if !(gone.is_empty() && surplus.is_empty()) {
+                tells.depart(state);
+            }
+            step(&mut state.desk);
         });
+        surplus.iter_mut().for_each(|value| (self.detach)(&self.setup, value));
     }
 
     /// Makes a step that drops idle objects: so many, from the front on. Their values are dropped without the lock. Then those that
@@ -290,7 +323,7 @@ impl<C, D: Desk> Shared<C, D> {
         let mut tells = self.telling_end();
         let (reply, gone) = self.step(|state| {
             let count = count(&state.desk);
-            let gone: Vec<_> = (0..count).map_while(|at| state.desk.idle(at)?.take()).collect();
+            let gone = state.idle_values(count);
             if !gone.is_empty() {
                 tells.depart(state);
             }
@@ -368,13 +401,15 @@ struct Counted<C, D: Desk> {
 }
 
 impl<C, D: Desk> Handle<C, D> {
-    /// The first handle of a new pool.
-    pub(crate) fn new(setup: C, desk: D, counts_each: bool) -> Self {
+    /// The first handle of a new pool. Where each handle is counted, each step of a get is one that the get makes.
+    pub(crate) fn new(setup: C, desk: D, counts_each: bool, detach: fn(&C, &mut D::Value)) -> Self {
         let shared = Arc::new(Shared {
             setup,
             state: Mutex::new(State::new(desk)),
             handles: OnceLock::new(),
             has_ended: AtomicBool::new(false),
+            cells: Cells::new(!counts_each),
+            detach,
         });
         let counted = Arc::new(Counted { shared, is_each: counts_each });
         if !counts_each {

@@ -12,7 +12,7 @@ const GROUP: usize = 64;
 /// The wakers in one group of places. One that has never had a waker has no memory.
 #[derive(Default)]
 struct Group {
-    wakers: Vec<Option<Waker>>,
+    wakers: Vec<Option<(Waker, u64)>>,
     /// How many there are.
     count: usize,
 }
@@ -31,17 +31,22 @@ pub(crate) struct Wakers {
 impl Wakers {
     /// Keeps a waker, and gives back the one that it replaces.
     pub(crate) fn keep(&mut self, at: usize, waker: &Waker) -> Result<Option<Waker>, OutOfMemory> {
+        self.keep_of(0, at, waker)
+    }
+
+    /// The same of a get with this number.
+    pub(crate) fn keep_of(&mut self, number: u64, at: usize, waker: &Waker) -> Result<Option<Waker>, OutOfMemory> {
         let (of, at) = (at / GROUP, at % GROUP);
         if self.groups.get(of).is_none_or(|group| group.wakers.is_empty()) {
             self.reserve(of)?;
         }
         let group = &mut self.groups[of];
         match &mut group.wakers[at] {
-            Some(kept) if kept.will_wake(waker) => Ok(None),
+            Some((kept, _)) if kept.will_wake(waker) => Ok(None),
             place => {
-                let replaced = place.replace(waker.clone());
+                let replaced = place.replace((waker.clone(), number));
                 group.count += usize::from(replaced.is_none());
-                Ok(replaced)
+                Ok(replaced.map(|(waker, _)| waker))
             }
         }
     }
@@ -59,14 +64,19 @@ impl Wakers {
     }
 
     pub(crate) fn take(&mut self, at: usize) -> Option<Waker> {
+        Some(self.take_numbered(at)?.0)
+    }
+
+    /// The same, with the number of its get.
+    pub(crate) fn take_numbered(&mut self, at: usize) -> Option<(Waker, u64)> {
         let of = at / GROUP;
         let group = self.groups.get_mut(of)?;
-        let waker = group.wakers.get_mut(at % GROUP)?.take()?;
+        let taken = group.wakers.get_mut(at % GROUP)?.take()?;
         group.count -= 1;
         if group.count == 0 {
             self.has_emptied(of);
         }
-        Some(waker)
+        Some(taken)
     }
 
     /// One group has become empty. The one that did so before gives its memory back, if it still is.

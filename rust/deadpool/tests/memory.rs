@@ -4,7 +4,7 @@ mod common;
 mod refusing;
 
 use common::refusals::{NO_MEMORY, has_no_memory};
-use common::{Numbers, Task, counts};
+use common::{Count, Numbers, Task, counts};
 use deadpool::managed::{Limits, Object, OutOfMemory, Pool};
 use deadpool::{Runtime, Sleep, Timers, unmanaged};
 use refusing::{at_each_allocation, left_in_use, refusing};
@@ -64,11 +64,17 @@ fn a_get_that_finds_no_memory_for_its_object_leaves_its_place() {
 fn a_get_that_finds_no_memory_to_wait_is_not_in_the_queue() {
     let mut told = 0;
     let refused = at_each_allocation(
-        || pool(0),
-        |pool, may_fail| {
-            let mut get = pin!(pool.get());
-            match poll_once(get.as_mut()) {
-                Poll::Pending => assert_eq!(pool.status().waiting, 1),
+        || (pool(0), Count::waker()),
+        |(pool, (waker, woken)), may_fail| {
+            let (mut get, before) = (pin!(pool.get()), woken.get());
+            match get.as_mut().poll(&mut Context::from_waker(waker)) {
+                // (one for which there is no cell is woken all the same)
+                Poll::Pending => {
+                    assert_eq!(pool.status().waiting, 1);
+                    pool.resize(1);
+                    assert_eq!(woken.get(), before + 1);
+                    pool.resize(0);
+                }
                 Poll::Ready(Err(refusal)) if may_fail && has_no_memory(&refusal) => {
                     assert_eq!(pool.status().waiting, 0);
                     told += 1;
@@ -77,8 +83,8 @@ fn a_get_that_finds_no_memory_to_wait_is_not_in_the_queue() {
             }
         },
     );
-    // (one that stays pending without memory for its waker would never be woken)
-    assert!(refused > 0 && told == refused, "{told} of {refused} refusals are told");
+    // (the refusal of a cell is told to nobody)
+    assert!(told > 0 && told + 1 == refused, "{told} of {refused} refusals are told");
 }
 
 #[test]

@@ -1,5 +1,6 @@
 //! How a pool is built.
 use super::hooks::Hooks;
+use super::object::Kept;
 use super::{Core, Handle, Hook, Manager, Object, Pool, PoolConfig, QueueMode, Settings, Timeouts};
 use crate::errors::error_texts;
 use crate::rattle::Global;
@@ -97,7 +98,8 @@ impl<M: Manager, W: From<Object<M>>> PoolBuilder<M, W> {
         #[cfg(not(feature = "refusals"))]
         let desk = desk.unwrap_or_else(|_| panic!("memory for a pool"));
         let setup = Setup { name, manager, hooks, timeouts, runtime };
-        Ok(Pool::of(Handle::new(setup, desk.bounded(max_waiting), self.entries > 0)))
+        let detach = |setup: &Setup<M>, kept: &mut Kept<M>| setup.manager.detach(&mut kept.value);
+        Ok(Pool::of(Handle::new(setup, desk.bounded(max_waiting), self.entries > 0, detach)))
     }
 
     /// Sets the name by which the pool is told from others: in its `Debug`, its tally, and the errors that [`Pool::named`] gives.

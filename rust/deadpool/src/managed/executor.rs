@@ -3,10 +3,16 @@
 //! The executor is trusted for two rules. **A step and its event are one**: its reply is told under the lock, and no code of a user's
 //! runs between. **All else is told before it is called**, and what takes the hand empties it before it calls. So whenever code of a
 //! user's runs, the order knows what is held, and what is left to do if that code never comes back.
-use super::object::Kept;
+//!
+//! The step `Ask` of a get in the queue may be made for it by the step that makes it due: then a cell has what the desk has answered
+//! (`cells`), and the get is out of the queue. The executor tells that reply when it would make the step.
+use super::object::{Kept, comes_back};
 use super::{Core, Manager, Shared};
+use crate::cells::Answer;
 use crate::cores::desk::{Desk, Reply, Slot, Step};
+use crate::cores::gate::gate::Ticket;
 use crate::cores::order::{Cause, Command, HookCounts, Order};
+use crate::desk::Desk as _;
 use crate::parcel::{Boxed, Parcel};
 use crate::shared::{State, go_on};
 use std::mem::replace;
@@ -22,11 +28,13 @@ pub(super) struct Executor<'a, M: Manager> {
     pub(super) kept: Option<Boxed<Kept<M>>>,
     /// Whether what a step let go of is still to be detached or dropped.
     departs: bool,
+    /// The number under which its get waits.
+    number: u64,
 }
 
 impl<'a, M: Manager> Executor<'a, M> {
     pub(super) fn new(pool: &'a Shared<M>, order: Order, kept: Option<Boxed<Kept<M>>>) -> Self {
-        Executor { pool, order, kept, departs: false }
+        Executor { pool, order, kept, departs: false, number: 0 }
     }
 
     #[inline(always)]
@@ -78,36 +86,80 @@ impl<'a, M: Manager> Executor<'a, M> {
         pool.step(|state| self.tell(state, &Step::Back, &mut brought))
     }
 
-    /// Makes a step that asks for a place. While its get waits, the pool has its waker.
+    /// Makes the first step of a get. If it has to wait, the pool has its waker, and it has a number.
+    #[inline(always)]
+    pub(super) fn enter(&mut self, step: &Step, waker: &Waker) -> Command {
+        let pool = self.pool;
+        let (command, _stale) = pool.step(|state| {
+            let command = self.tell(state, step, &mut None);
+            let Command::Wait(ticket) = command else { return (command, None) };
+            pool.cells.open(|| state.desk.status().max_size);
+            self.number = state.next_number();
+            self.waits(state, ticket, waker)
+        });
+        command
+    }
+
+    /// Makes the step by which a get in the queue asks, unless its answer is there.
     #[inline(always)]
     pub(super) fn ask(&mut self, step: &Step, waker: &Waker) -> Command {
         let pool = self.pool;
+        if let Some(answer) = pool.cells.take(self.number) {
+            return self.answered(step, answer);
+        }
         // (a waker that is replaced or not needed any more is dropped without the lock)
         let (command, _stale) = pool.step(|state| {
-            let command = self.tell(state, step, &mut None);
-            match (command, step) {
-                (Command::Wait(ticket), _) => match state.lent(|state| state.gets.keep(ticket.number(), waker)) {
-                    Ok(stale) => (command, stale),
-                    Err(_) => (self.order.unheard(), None),
-                },
-                (_, Step::Ask { ticket, .. }) => (command, state.gets.take(ticket.number())),
-                _ => (command, None),
+            if let Some(answer) = pool.cells.take(self.number) {
+                return (self.answered(step, answer), None);
+            }
+            match (self.tell(state, step, &mut None), step) {
+                (Command::Wait(ticket), _) => self.waits(state, ticket, waker),
+                (command, Step::Ask { ticket, .. }) => (command, state.gets.take(ticket.number())),
+                (command, _) => (command, None),
             }
         });
         command
     }
 
-    /// Makes the step that the order has. By one of them a get leaves the queue, with its waker.
+    /// The pool keeps the waker of a get that waits, if memory is found for it. Gives the one that it replaces.
+    #[inline(always)]
+    fn waits(&mut self, state: &mut State<Core<M>>, ticket: Ticket, waker: &Waker) -> (Command, Option<Waker>) {
+        match state.lent(|state| state.gets.keep_of(self.number, ticket.number(), waker)) {
+            Ok(stale) => (Command::Wait(ticket), stale),
+            Err(_) => (self.order.unheard(), None),
+        }
+    }
+
+    /// Tells a step that was made meanwhile, whose reply was in the cell of its get.
+    #[inline(always)]
+    fn answered(&mut self, step: &Step, Answer { reply, hand }: Answer<Kept<M>>) -> Command {
+        self.kept = hand.and_then(|slot| slot.value.take());
+        self.order.replied(&self.counts(), step, reply)
+    }
+
+    /// Makes the step that the order has.
     #[inline(never)]
     fn make_rarely(&mut self) -> Command {
-        let pool = self.pool;
         match self.order.step() {
-            Step::Withdraw { ticket } => {
-                let step = Step::Withdraw { ticket };
-                let take = |state: &mut State<Core<M>>| state.gets.take(ticket.number());
-                pool.step(|state| (self.tell(state, &step, &mut None), take(state))).0
-            }
+            Step::Withdraw { ticket } => self.withdraw(ticket),
             step => self.make(&step),
+        }
+    }
+
+    /// A get leaves the queue, with its waker. One that was answered meanwhile has left it: its object comes back.
+    fn withdraw(&mut self, ticket: Ticket) -> Command {
+        let (pool, step) = (self.pool, Step::Withdraw { ticket });
+        let left = pool.step(|state| match pool.cells.take(self.number) {
+            Some(answer) => Err(answer),
+            None => Ok((self.tell(state, &step, &mut None), state.gets.take(ticket.number()))),
+        });
+        match left {
+            Ok((command, _stale)) => command,
+            Err(Answer { hand, .. }) => {
+                let command = self.order.replied(&self.counts(), &step, Reply::Unknown);
+                hand.into_iter().for_each(|slot| comes_back(pool, slot.value.take()));
+                command
+            }
         }
     }
 

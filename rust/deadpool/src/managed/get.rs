@@ -75,7 +75,7 @@ impl<'a, M: Manager> Get<'a, M> {
             poll_again().await;
         }
         let step = Step::Enter { wait };
-        let command = poll_fn(|cx| Poll::Ready(self.executor.ask(&step, cx.waker()))).await;
+        let command = poll_fn(|cx| Poll::Ready(self.executor.enter(&step, cx.waker()))).await;
         if let Command::Wait(_) = command {
             self.waited = Waited::Since(Instant::now());
             if is_counted {

@@ -96,12 +96,18 @@ impl<M: Manager> Object<M> {
 impl<M: Manager> Drop for Object<M> {
     fn drop(&mut self) {
         if self.kept.is_some() {
-            let mut back = Executor::new(&self.pool, Order::returning(), self.kept.take());
-            let command = back.give_back();
-            if !back.order.is_over() {
-                back.execute_rarely(command);
-            }
+            comes_back(&self.pool, self.kept.take());
         }
+    }
+}
+
+/// An object comes back to its pool.
+#[inline]
+pub(super) fn comes_back<M: Manager>(pool: &Shared<M>, kept: Option<Boxed<Kept<M>>>) {
+    let mut back = Executor::new(pool, Order::returning(), kept);
+    let command = back.give_back();
+    if !back.order.is_over() {
+        back.execute_rarely(command);
     }
 }
 

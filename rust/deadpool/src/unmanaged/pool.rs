@@ -73,7 +73,7 @@ impl<T> Pool<T> {
     pub fn try_from_settings(settings: &Settings) -> Result<Self, OutOfMemory> {
         let Settings { config, max_waiting, journal } = *settings;
         let desk = Core::new(Global, config.max_size, journal).map_err(|_| OutOfMemory)?;
-        Ok(Pool { shared: Handle::new(config, desk.bounded(max_waiting), journal > 0) })
+        Ok(Pool { shared: Handle::new(config, desk.bounded(max_waiting), journal > 0, |_, _| ()) })
     }
 
     /// An object, within the configured timeout.
