@@ -22,8 +22,8 @@ fn main() {
         return;
     }
     let rounds = words.next().and_then(|word| word.parse().ok()).unwrap_or(25);
-    println!("| nanoseconds a turn, of {rounds} rounds | pool | least | median | ratio of the leasts |");
-    println!("|---|---|---|---|---|");
+    println!("| nanoseconds a turn | pool | median | half lie in | ratio to the first: median | half lie in |");
+    println!("|---|---|---|---|---|---|");
     let is_wanted = |name: &str| part == name || part == "all";
     if is_wanted("alone") {
         works::time(rounds);

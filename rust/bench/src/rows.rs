@@ -6,6 +6,9 @@ use std::task::{Context, Poll, Wake, Waker};
 use std::thread::{self, Thread};
 use std::time::Instant;
 
+/// Of fewer rounds a median says little.
+const LEAST_ROUNDS: usize = 9;
+
 /// The works of a row: each has a name, and says how many nanoseconds a turn of it took.
 #[derive(Default)]
 pub struct Row<'a>(Vec<(String, Box<dyn FnMut() -> f64 + 'a>)>);
@@ -15,21 +18,29 @@ impl<'a> Row<'a> {
         self.0.push((name.into(), Box::new(work)));
     }
 
-    /// Times each work so often, and writes of each the least, the median, and the ratio of its least to that of the first.
+    /// Times each work so often, and writes of each what it took, and the ratio of that to what the first took in the same round.
     pub fn time(mut self, name: &str, rounds: usize) {
         let count = self.0.len();
         let mut times = vec![Vec::new(); count];
-        for round in 0..rounds {
+        for round in 0..rounds.max(LEAST_ROUNDS) {
             for at in (0..count).map(|at| (at + round) % count) {
                 times[at].push(self.0[at].1());
             }
         }
-        times.iter_mut().for_each(|times| times.sort_by(f64::total_cmp));
         for ((peer, _), times_of) in self.0.iter().zip(&times) {
-            let (least, median) = (times_of[0], times_of[rounds / 2]);
-            println!("| {name} | {peer} | {least:.1} | {median:.1} | {:.2} |", least / times[0][0]);
+            let ratios = times_of.iter().zip(&times[0]).map(|(time, first)| time / first);
+            let ratios = spread(ratios.collect()).map(|ratio| format!("{ratio:.2}"));
+            let times = spread(times_of.clone()).map(|time| format!("{time:.1}"));
+            let [time, ratio] = [times, ratios].map(|[low, median, high]| format!("{median} | {low} to {high}"));
+            println!("| {name} | {peer} | {time} | {ratio} |");
         }
     }
+}
+
+/// The median, between the bounds of the middle half.
+fn spread(mut values: Vec<f64>) -> [f64; 3] {
+    values.sort_by(f64::total_cmp);
+    [1, 2, 3].map(|quarter| values[(values.len() - 1) * quarter / 4])
 }
 
 struct Unpark(Thread);

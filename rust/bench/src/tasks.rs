@@ -1,9 +1,11 @@
 //! Works of tasks, on an executor with some workers and one queue.
 use crate::pools::{Managed, each_managed};
 use crate::rows::Row;
+use std::cell::RefCell;
 use std::collections::VecDeque;
 use std::future::{Future, poll_fn};
 use std::pin::Pin;
+use std::rc::Rc;
 use std::sync::atomic::{AtomicUsize, Ordering};
 use std::sync::{Arc, Condvar, Mutex};
 use std::task::{Context, Poll, Wake, Waker};
@@ -124,10 +126,16 @@ fn some<M: Managed>(row: &mut Row, tasks: usize, yields: bool) {
     row.add(M::NAME, move || share(&pool, tasks, 24_000 / tasks, yields).0);
 }
 
-fn crowd<M: Managed>(name: &str, yields: bool) {
-    let (took, waits) = share(&M::new(10), 10_000, 20, yields);
-    let at = |part: f64| waits[((waits.len() - 1) as f64 * part) as usize] as f64 / 1e6;
-    println!("| {name} | {} | {took:.0} | half wait {:.3} ms | 99 of 100 {:.3} ms |", M::NAME, at(0.5), at(0.99));
+/// Adds a crowd to a row, and to another one how long 99 of 100 of its gets wait at most, which the first row finds.
+fn crowd<M: Managed>(row: &mut Row, waits_row: &mut Row, yields: bool) {
+    let most = Rc::new(RefCell::new(VecDeque::new()));
+    let found = most.clone();
+    row.add(M::NAME, move || {
+        let (took, waits) = share(&M::new(10), 10_000, 20, yields);
+        found.borrow_mut().push_back(waits[(waits.len() - 1) * 99 / 100] as f64);
+        took
+    });
+    waits_row.add(M::NAME, move || most.borrow_mut().pop_front().expect("a round of the first row"));
 }
 
 /// Some tasks share three objects.
@@ -144,8 +152,9 @@ pub fn time(rounds: usize) {
 /// Ten thousand tasks share ten objects.
 pub fn time_crowd(rounds: usize) {
     for (name, yields) in [("10,000 tasks", false), ("10,000 tasks, held over a yield", true)] {
-        for _ in 0..rounds {
-            each_managed!(crowd(name, yields));
-        }
+        let (mut row, mut waits) = (Row::default(), Row::default());
+        each_managed!(crowd(&mut row, &mut waits, yields));
+        row.time(&format!("managed, {name}"), rounds);
+        waits.time(&format!("managed, {name}: 99 of 100 wait at most"), rounds);
     }
 }

@@ -159,11 +159,14 @@ fn a_try_waits_for_no_place() {
 
 #[test]
 fn an_object_knows_how_long_its_get_has_waited() {
-    let slow = Hook::sync_fn(|_: &mut usize, _: &Metrics| {
-        thread::sleep(Duration::from_millis(3));
-        Ok(())
-    });
-    let pool: Pool<Numbers> = Pool::builder(Numbers::default()).max_size(1).pre_recycle(slow).build().expect("a pool");
+    let slow = || {
+        Hook::sync_fn(|_: &mut usize, _: &Metrics| {
+            thread::sleep(Duration::from_millis(3));
+            Ok(())
+        })
+    };
+    let builder = || Pool::builder(Numbers::default()).max_size(1).pre_recycle(slow());
+    let pool: Pool<Numbers> = builder().times_waits(true).build().expect("a pool");
     let held = block_on(pool.get()).expect("an object");
     assert_eq!(Object::waited(&held), Duration::ZERO);
     let (begun, mut waits) = (Instant::now(), Task::new(pool.get()));
@@ -176,6 +179,13 @@ fn an_object_knows_how_long_its_get_has_waited() {
     drop(held);
     // (the next get has not waited, whatever its hook takes)
     assert_eq!(Object::waited(&block_on(pool.get()).expect("an object")), Duration::ZERO);
+    // Where nobody asks, no wait is timed.
+    let pool: Pool<Numbers> = builder().build().expect("a pool");
+    let (held, mut waits) = (block_on(pool.get()).expect("an object"), Task::new(pool.get()));
+    assert!(waits.poll().is_pending());
+    thread::sleep(Duration::from_millis(2));
+    drop(held);
+    assert_eq!(Object::waited(&waits.ready().expect("the place is free")), Duration::ZERO);
 }
 
 #[test]

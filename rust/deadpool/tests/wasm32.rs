@@ -21,7 +21,7 @@ fn metrics_have_a_count_alone() {
 
 #[test]
 fn a_wait_is_not_measured() {
-    let pool: Pool<Numbers> = one().build().expect("a pool");
+    let pool: Pool<Numbers> = one().times_waits(true).build().expect("a pool");
     let held = block_on(pool.get()).expect("an object");
     let mut waits = Task::new(pool.get());
     assert!(waits.poll().is_pending());

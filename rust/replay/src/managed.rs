@@ -49,6 +49,8 @@ impl ManagedPlayer {
             .queue_mode(mode)
             .min_idle(min_idle)
             .max_waiting(max_waiting)
+            // (a pool with a journal hands nothing over: in a script each get asks for itself)
+            .journal(1)
             .pre_recycle(script.hook(2))
             .post_recycle(script.hook(3))
             .post_create(script.hook(4));

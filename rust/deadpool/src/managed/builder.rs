@@ -48,6 +48,7 @@ pub(super) struct Setup<M: Manager> {
     pub(super) hooks: Hooks<M>,
     pub(super) timeouts: Timeouts,
     pub(super) runtime: Option<Runtime>,
+    pub(super) times_waits: bool,
 }
 
 /// What a pool is built by.
@@ -60,6 +61,7 @@ pub struct PoolBuilder<M: Manager, W: From<Object<M>> = Object<M>> {
     hooks: Hooks<M>,
     min_idle: usize,
     entries: usize,
+    times_waits: bool,
     wrapper: PhantomData<fn() -> W>,
 }
 
@@ -73,6 +75,7 @@ impl<M: Manager, W: From<Object<M>>> PoolBuilder<M, W> {
             hooks: Hooks { post_create: Vec::new(), pre_recycle: Vec::new(), post_recycle: Vec::new() },
             min_idle: 0,
             entries: 0,
+            times_waits: false,
             wrapper: PhantomData,
         }
     }
@@ -87,7 +90,7 @@ impl<M: Manager, W: From<Object<M>>> PoolBuilder<M, W> {
     ///
     /// Without the feature `refusals`, if no memory is found.
     pub fn build(self) -> Result<Pool<M, W>, BuildError> {
-        let PoolBuilder { name, manager, settings, runtime, hooks, .. } = self;
+        let PoolBuilder { name, manager, settings, runtime, hooks, times_waits, .. } = self;
         let Settings { config: PoolConfig { max_size, timeouts, queue_mode }, max_waiting } = settings;
         if timeouts.is_any_set() && runtime.is_none() {
             return Err(BuildError::NoRuntimeSpecified);
@@ -97,7 +100,7 @@ impl<M: Manager, W: From<Object<M>>> PoolBuilder<M, W> {
         let desk = desk.map_err(|_| BuildError::OutOfMemory)?;
         #[cfg(not(feature = "refusals"))]
         let desk = desk.unwrap_or_else(|_| panic!("memory for a pool"));
-        let setup = Setup { name, manager, hooks, timeouts, runtime };
+        let setup = Setup { name, manager, hooks, timeouts, runtime, times_waits };
         let detach = |setup: &Setup<M>, kept: &mut Kept<M>| setup.manager.detach(&mut kept.value);
         Ok(Pool::of(Handle::new(setup, desk.bounded(max_waiting), self.entries > 0, detach)))
     }
@@ -134,6 +137,9 @@ impl<M: Manager, W: From<Object<M>>> PoolBuilder<M, W> {
             min_idle: usize => min_idle;
             /// Sets how many steps the pool's journal has room for, 0 at first. It is this crate's own.
             journal: usize => entries;
+            /// Sets whether a get that waits reads the clock, so that its object tells how long ([`Object::waited`]). At first it does
+            /// not. It is this crate's own.
+            times_waits: bool => times_waits;
         }
         lists {
             /// Adds a hook that sees a new object.

@@ -14,7 +14,7 @@ use crate::cores::gate::gate::Ticket;
 use crate::cores::order::{Cause, Command, HookCounts, Order};
 use crate::desk::Desk as _;
 use crate::parcel::{Boxed, Parcel};
-use crate::shared::{State, go_on};
+use crate::shared::State;
 use std::mem::replace;
 use std::panic::{AssertUnwindSafe, catch_unwind};
 use std::task::Waker;
@@ -233,18 +233,28 @@ impl<'a, M: Manager> Executor<'a, M> {
     /// Ends, as it is dropped or a call has panicked. A call that panics here ends no other: the first panic goes on at the end.
     #[cold]
     fn end(&mut self) {
-        let ended = self.end_once();
-        if ended.is_err() {
-            while !self.order.is_over() {
-                _ = self.end_once();
+        let Rest(executor) = &mut Rest(self);
+        if !thread::panicking() {
+            let command = executor.order.dropped();
+            // (a get in the queue ends by this step)
+            let command = if let Command::Make = command { executor.make_rarely() } else { command };
+            if !executor.order.is_over() {
+                executor.execute_rarely(command);
             }
-            go_on(ended);
         }
     }
+}
 
-    fn end_once(&mut self) -> thread::Result<()> {
-        let command = self.order.dropped();
-        catch_unwind(AssertUnwindSafe(|| _ = self.execute(command)))
+/// What is left of an order when a call has panicked. No panic of its calls goes on, as another one is under way.
+struct Rest<'a, 'b, M: Manager>(&'a mut Executor<'b, M>);
+
+impl<M: Manager> Drop for Rest<'_, '_, M> {
+    #[inline]
+    fn drop(&mut self) {
+        while !self.0.order.is_over() {
+            let command = self.0.order.dropped();
+            _ = catch_unwind(AssertUnwindSafe(|| _ = self.0.execute_rarely(command)));
+        }
     }
 }
 

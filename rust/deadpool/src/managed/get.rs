@@ -77,7 +77,9 @@ impl<'a, M: Manager> Get<'a, M> {
         let step = Step::Enter { wait };
         let command = poll_fn(|cx| Poll::Ready(self.executor.enter(&step, cx.waker()))).await;
         if let Command::Wait(_) = command {
-            self.waited = Waited::Since(Instant::now());
+            if self.executor.pool.setup.times_waits {
+                self.waited = Waited::Since(Instant::now());
+            }
             if is_counted {
                 has_to_wait();
             }

@@ -80,7 +80,8 @@ impl<M: Manager> Object<M> {
         &this.kept().metrics
     }
 
-    /// How long its get waited for a place: zero if it was served at once. What the manager and the hooks took is no part of it.
+    /// How long its get waited for a place: zero if it was served at once, and in a pool that was not built to [time
+    /// waits](super::PoolBuilder::times_waits). What the manager and the hooks took is no part of it.
     #[must_use]
     pub fn waited(this: &Self) -> Duration {
         this.kept().waited

@@ -162,6 +162,22 @@ fn those_under_way_are_woken_and_refused() {
 }
 
 #[test]
+fn what_was_handed_over_is_dropped_and_its_get_is_refused() {
+    for is_polled in [true, false] {
+        let (pool, told) = pool(1, 0);
+        let held = now(pool.get()).expect("an object");
+        let (mut waits, woken) = begun(pool.get());
+        drop(held);
+        break_step(&pool);
+        assert_eq!((told.counts(), woken.0.load(Ordering::SeqCst)), ([0, 1], 1));
+        assert!(!is_polled || matches!(now(waits.as_mut()), Err(PoolError::Closed)));
+        drop(waits);
+        assert_eq!(told.counts(), [0, 1]);
+        is_closed(&pool);
+    }
+}
+
+#[test]
 fn a_drain_of_a_broken_pool_ends() {
     let (pool, _) = pool(1, 0);
     let _held = now(pool.get()).expect("an object");
