@@ -67,6 +67,12 @@ impl Wakers {
         Some(self.take_numbered(at)?.0)
     }
 
+    /// The same, if it is that of the get with this number.
+    pub(crate) fn take_of(&mut self, number: u64, at: usize) -> Option<Waker> {
+        let kept = self.groups.get(at / GROUP)?.wakers.get(at % GROUP)?.as_ref()?;
+        if kept.1 == number { self.take(at) } else { None }
+    }
+
     /// The same, with the number of its get.
     pub(crate) fn take_numbered(&mut self, at: usize) -> Option<(Waker, u64)> {
         let of = at / GROUP;

@@ -149,9 +149,11 @@ impl<'a, M: Manager> Executor<'a, M> {
     /// A get leaves the queue, with its waker. One that was answered meanwhile has left it: its object comes back.
     fn withdraw(&mut self, ticket: Ticket) -> Command {
         let (pool, step) = (self.pool, Step::Withdraw { ticket });
-        let left = pool.step(|state| match pool.cells.take(self.number) {
-            Some(answer) => Err(answer),
-            None => Ok((self.tell(state, &step, &mut None), state.gets.take(ticket.number()))),
+        let left = pool.step(|state| {
+            // (one whose waker is there was answered nothing)
+            let waker = state.gets.take_of(self.number, ticket.number());
+            let answer = if waker.is_none() { pool.cells.take(self.number) } else { None };
+            answer.map_or_else(|| Ok((self.tell(state, &step, &mut None), waker)), Err)
         });
         match left {
             Ok((command, _stale)) => command,
