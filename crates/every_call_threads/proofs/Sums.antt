@@ -1,6 +1,6 @@
 -- What the numbers that each was told add up to.
-use Rattle.std.proofs.Common.{◌≡◌, ℕ, ◌+◌, List, [], ◌∷◌, map, sum, length, sym, subst, ap, ◌∙◌, arith}
-use Rattle.std.proofs.Common.{Result, Ok, Err, IfOk, Option, Some, None, IfSome}
+use Rattle.std.proofs.Common.{◌≡◌, ℕ, ◌+◌, List, [], ◌∷◌, map, sum, length, subst, ap, arith}
+use Rattle.std.proofs.Common.{Result, Ok, IfOk, Option, Some, None, IfSome}
 use Rattle.std.proofs.lemmas.List.Sums.{sum_by-cons}
 use Rattle.std.specs.List.{AllZip}
 

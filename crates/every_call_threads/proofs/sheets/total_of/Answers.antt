@@ -1,5 +1,5 @@
 -- Each turn adds what was told, and at the end all is added.
-use Rattle.std.proofs.Common.{◌≡◌, Ok, ◌∷◌, sym, subst, ap, ◌∙◌, rules, arith}
+use Rattle.std.proofs.Common.{◌∷◌, sym, subst, ap, ◌∙◌, rules, arith}
 use Rattle.std.specs.List.{AllZip}
 use Rattle.std.specs.Vec.Iter.{into_iter_items}
 use Rattle.every_call_threads.proofs.Sums.{IsAsTold, Adds, adds_more, adds_all, left_less}
