@@ -11,7 +11,8 @@ loop-thread-preserved g c =
     let done = vec_items c.loop-thread.outputs in let more = vec_items c.push.new.self in
     record {
       left =
-          left_less before rest c.in-Some.thread (into_iter_len c.loop-thread.thread-iterator) (into_iter_len c.next.new.self)
+          left_less before rest c.in-Some.thread (into_iter_len c.loop-thread.thread-iterator)
+          (into_iter_len c.next.new.self)
           was.left step.0 step.1;
       goes =
           goes_on (λ t o. g.W.PoolUser.returns t.promise.worker.value o) (vec_items c.args.threads)

@@ -11,7 +11,8 @@ loop-worker-preserved g c =
     let done = vec_items c.loop-worker.threads in let more = vec_items c.push.new.self in
     record {
       left =
-          left_less before rest c.in-Some.worker (into_iter_len c.loop-worker.worker-iterator) (into_iter_len c.next.new.self)
+          left_less before rest c.in-Some.worker (into_iter_len c.loop-worker.worker-iterator)
+          (into_iter_len c.next.new.self)
           was.left step.0 step.1;
       goes =
           goes_on (λ w t. t.promise.worker.value ≡ w) (vec_items c.args.workers)
