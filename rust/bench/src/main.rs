@@ -6,6 +6,7 @@
 
 mod cancels;
 mod counts;
+mod executor;
 mod fair;
 mod pools;
 mod rows;

@@ -1,99 +1,12 @@
-//! Works of tasks, on an executor with some workers and one queue.
+//! Works of tasks.
+use crate::executor::{Spawned, run, yield_now};
 use crate::pools::{Managed, each_managed};
 use crate::rows::Row;
 use std::cell::RefCell;
 use std::collections::VecDeque;
-use std::future::{Future, poll_fn};
-use std::pin::Pin;
 use std::rc::Rc;
-use std::sync::atomic::{AtomicUsize, Ordering};
-use std::sync::{Arc, Condvar, Mutex};
-use std::task::{Context, Poll, Wake, Waker};
-use std::thread;
+use std::sync::{Arc, Mutex};
 use std::time::Instant;
-
-const WORKERS: usize = 4;
-
-struct Executor {
-    ready: Mutex<VecDeque<Arc<Task>>>,
-    has_changed: Condvar,
-    going: AtomicUsize,
-}
-
-struct Task {
-    future: Mutex<Option<Pin<Box<dyn Future<Output = ()> + Send>>>>,
-    executor: Arc<Executor>,
-}
-
-impl Wake for Task {
-    fn wake(self: Arc<Self>) {
-        let executor = self.executor.clone();
-        executor.ready.lock().expect("no panic").push_back(self);
-        executor.has_changed.notify_one();
-    }
-}
-
-impl Executor {
-    fn next(&self) -> Option<Arc<Task>> {
-        let mut ready = self.ready.lock().expect("no panic");
-        loop {
-            if let Some(task) = ready.pop_front() {
-                return Some(task);
-            }
-            if self.going.load(Ordering::SeqCst) == 0 {
-                return None;
-            }
-            ready = self.has_changed.wait(ready).expect("no panic");
-        }
-    }
-
-    fn work(&self) {
-        while let Some(task) = self.next() {
-            let waker = Waker::from(task.clone());
-            let mut future = task.future.lock().expect("no panic");
-            let polled = future.as_mut().map(|it| it.as_mut().poll(&mut Context::from_waker(&waker)));
-            if let Some(Poll::Ready(())) = polled {
-                *future = None;
-                if self.going.fetch_sub(1, Ordering::SeqCst) == 1 {
-                    let _ready = self.ready.lock().expect("no panic");
-                    self.has_changed.notify_all();
-                }
-            }
-        }
-    }
-}
-
-/// Runs futures to their ends, and says how many nanoseconds it took.
-fn run(futures: Vec<Pin<Box<dyn Future<Output = ()> + Send>>>) -> f64 {
-    let executor = Arc::new(Executor {
-        ready: Mutex::new(VecDeque::new()),
-        has_changed: Condvar::new(),
-        going: AtomicUsize::new(futures.len()),
-    });
-    let begun = Instant::now();
-    for future in futures {
-        Arc::new(Task { future: Mutex::new(Some(future)), executor: executor.clone() }).wake();
-    }
-    thread::scope(|scope| {
-        for _ in 0..WORKERS {
-            scope.spawn(|| executor.work());
-        }
-    });
-    begun.elapsed().as_nanos() as f64
-}
-
-/// Ends a poll, and asks for another.
-async fn yield_now() {
-    let mut has_ended = false;
-    poll_fn(move |cx| {
-        if std::mem::replace(&mut has_ended, true) {
-            return Poll::Ready(());
-        }
-        cx.waker().wake_by_ref();
-        Poll::Pending
-    })
-    .await;
-}
 
 /// So many tasks make so many gets each, and hold each object over a yield or over nothing. Gives the waits too, in nanoseconds.
 fn share<M: Managed>(pool: &M, tasks: usize, gets: usize, yields: bool) -> (f64, Vec<u128>) {
@@ -113,7 +26,7 @@ fn share<M: Managed>(pool: &M, tasks: usize, gets: usize, yields: bool) -> (f64,
             }
             waits.lock().expect("no panic").extend(own);
         };
-        Box::pin(future) as Pin<Box<dyn Future<Output = ()> + Send>>
+        Box::pin(future) as Spawned
     };
     let took = run((0..tasks).map(task).collect());
     let mut waits = std::mem::take(&mut *waits.lock().expect("no panic"));

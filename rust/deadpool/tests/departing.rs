@@ -116,6 +116,18 @@ fn what_comes_back_to_a_closed_pool_departs() {
 }
 
 #[test]
+fn what_a_smaller_limit_gives_up_departs() {
+    let (pool, was_pending) = (pool(), Arc::new(AtomicUsize::new(0)));
+    drop(block_on(pool.get()).expect("an object"));
+    let (drains, count) = (pool.clone(), was_pending.clone());
+    let drain = move || _ = count.fetch_add(usize::from(is_pending(drains.drain())), SeqCst);
+    *locked(&pool.manager().at_drop) = Some(Box::new(drain));
+    pool.resize(0);
+    assert_eq!(was_pending.load(SeqCst), 1);
+    block_on(pool.drain());
+}
+
+#[test]
 fn what_is_taken_departs_until_it_is_detached() {
     let pool = pool();
     let object = block_on(pool.get()).expect("an object");
