@@ -1,6 +1,6 @@
 //! Those that wait until a pool has ended or is drained.
 use crate::desk::Desk;
-use crate::errors::OutOfMemory;
+use crate::errors::{OutOfMemory, error_texts};
 use crate::shared::{Shared, State};
 use crate::timed::Alarm;
 use crate::wakers::Wakers;
@@ -9,6 +9,20 @@ use std::future::{Future, poll_fn};
 use std::sync::{Arc, Weak};
 use std::task::{Context, Poll};
 use std::time::Duration;
+
+/// Why a drain ended before the end of its pool, which is closed. It says how the pool stood then.
+#[derive(Clone, Copy, Debug, PartialEq, Eq)]
+pub enum DrainError {
+    /// Something was left in the pool, and the time to wait was over.
+    Timeout(Status),
+    /// Nothing was left in the pool, but what had left it was not detached and dropped yet, and the time to wait was over.
+    Departing(Status),
+}
+
+error_texts! { DrainError {
+    DrainError::Timeout(status) => "Timeout occurred while draining the pool: {status}",
+    DrainError::Departing(status) => "An object is still being given up: {status}",
+} }
 
 /// One that waits for something that comes once, and stays. If it is dropped its waker goes.
 struct Watch<C, D: Desk> {
@@ -71,24 +85,32 @@ pub(crate) fn ends_within<C, D: Desk>(pool: &Weak<Shared<C, D>>, mut alarm: Alar
     })
 }
 
-/// Closes a pool, and waits until nothing is left of it, or how it stands once the alarm is over.
+/// Closes a pool, and waits until nothing is left of it, or the alarm is over. Says how it stands then.
 pub(crate) fn drained<C, D: Desk>(
     pool: &Arc<Shared<C, D>>,
     mut alarm: Alarm,
-) -> impl Future<Output = Result<(), Status>> {
+) -> impl Future<Output = Result<Status, DrainError>> {
     pool.close();
     let has_come = |_: &Shared<C, D>, state: &State<D>| state.is_drained();
     let mut watch = Watch { pool: Arc::downgrade(pool), wakers: |state| &mut state.drains, has_come, place: None };
     poll_fn(move |cx| {
-        if watch.has_come(cx) {
-            return Poll::Ready(Ok(()));
-        }
-        if !alarm.is_over(cx) {
+        if !watch.has_come(cx) && !alarm.is_over(cx) {
             return Poll::Pending;
         }
-        let Some(pool) = watch.pool.upgrade() else { return Poll::Ready(Ok(())) };
-        Poll::Ready(pool.look(|state| if state.is_drained() { Ok(()) } else { Err(state.desk.status()) }))
+        Poll::Ready(pool.look(end_of))
     })
+}
+
+/// How a drain ends that ends now.
+fn end_of<D: Desk>(state: &mut State<D>) -> Result<Status, DrainError> {
+    let status = state.desk.status();
+    if state.is_drained() {
+        Ok(status)
+    } else if state.desk.is_drained() {
+        Err(DrainError::Departing(status))
+    } else {
+        Err(DrainError::Timeout(status))
+    }
 }
 
 /// An alarm after so long, by the pool's timers, or those of this crate's thread.

@@ -11,13 +11,23 @@ use std::time::Duration;
 ///
 /// ```
 /// # #[cfg(feature = "managed")]
+/// use serde::Deserialize;
+///
+/// # #[cfg(feature = "managed")]
 /// fn read<'de, D: serde::Deserializer<'de>>(format: D) -> Result<deadpool::managed::Settings, D::Error> {
-///     let deadpool::Strict(settings) = serde::Deserialize::deserialize(format)?;
-///     Ok(settings)
+///     deadpool::Strict::deserialize(format).map(deadpool::Strict::into_inner)
 /// }
 /// ```
 #[derive(Clone, Copy, Debug)]
 pub struct Strict<T>(pub T);
+
+impl<T> Strict<T> {
+    /// What was read.
+    #[must_use]
+    pub fn into_inner(self) -> T {
+        self.0
+    }
+}
 
 impl<'de, T: Configuration> Deserialize<'de> for Strict<T> {
     fn deserialize<D: Deserializer<'de>>(deserializer: D) -> Result<Self, D::Error> {

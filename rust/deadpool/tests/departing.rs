@@ -3,8 +3,8 @@
 mod common;
 
 use common::{Count, block_on};
-use deadpool::managed::{self, Manager, Metrics, Object, RecycleResult};
-use deadpool::unmanaged;
+use deadpool::managed::{self, DrainError, Manager, Metrics, Object, RecycleResult};
+use deadpool::{Status, unmanaged};
 use std::convert::Infallible;
 use std::future::Future;
 use std::pin::pin;
@@ -85,6 +85,11 @@ fn look<T>(
     (Box::new(look), looked)
 }
 
+/// Whether a drain was late since something was still to be dropped, and nothing else was left.
+fn departs(ended: Result<Status, DrainError>) -> bool {
+    ended.is_err_and(|left| matches!(left, DrainError::Departing(status) if status.size == 0))
+}
+
 /// Whether a future that is polled once is pending.
 fn is_pending<F: Future>(future: F) -> bool {
     pin!(future).poll(&mut Context::from_waker(Waker::noop())).is_pending()
@@ -97,7 +102,7 @@ fn looks_on(pool: &Pool, meanwhile: &Meanwhile, leave: impl FnOnce()) {
     assert!(waits.as_mut().poll(&mut Context::from_waker(&waker)).is_pending());
     let [first, second, third] = [(); 3].map(|()| pool.clone());
     let begins = move || is_pending(first.drain());
-    let is_late = move || block_on(second.drain_for(Duration::ZERO)).is_err();
+    let is_late = move || departs(block_on(second.drain_for(Duration::ZERO)));
     let (look, looked) = look(begins, is_late, move || third.close(), &woken);
     *locked(meanwhile) = Some(look);
     leave();
@@ -158,7 +163,7 @@ fn what_comes_back_to_a_closed_unmanaged_pool_departs() {
     assert!(waits.as_mut().poll(&mut Context::from_waker(&waker)).is_pending());
     let [first, second, third] = [(); 3].map(|()| pool.clone());
     let begins = move || is_pending(first.drain());
-    let is_late = move || block_on(second.drain_for(Duration::ZERO)).is_err();
+    let is_late = move || departs(block_on(second.drain_for(Duration::ZERO)));
     let (look, looked) = look(begins, is_late, move || third.close(), &woken);
     *locked(&meanwhile) = Some(look);
     drop(object);

@@ -2,7 +2,7 @@
 mod common;
 
 use common::{Count, Door, Numbers, Task, block_on, counts, is_answered};
-use deadpool::managed::{Hook, HookError, Manager, Metrics, Object, Pool, PoolError, RecycleResult};
+use deadpool::managed::{DrainError, Hook, HookError, Manager, Metrics, Object, Pool, PoolError, RecycleResult};
 use deadpool::{Runtime, Sleep, Status, Timers, unmanaged};
 use std::convert::Infallible;
 use std::future::Future;
@@ -12,6 +12,9 @@ use std::sync::{Arc, Mutex, Weak};
 use std::task::{Context, Poll, Waker};
 use std::thread;
 use std::time::Duration;
+
+/// How a managed pool stands that is drained. An unmanaged one keeps its limit.
+const EMPTY: Status = Status { max_size: 0, size: 0, available: 0, waiting: 0 };
 
 fn pool_of(max_size: usize) -> Pool<Numbers> {
     Pool::builder(Numbers::default()).max_size(max_size).build().expect("a pool")
@@ -35,11 +38,11 @@ fn a_drain_ends_with_the_last_object_that_comes_back() {
     assert_eq!((drain.woken(), drain.poll()), (0, Poll::Pending));
     assert!(matches!(waits.poll(), Poll::Ready(Err(PoolError::Closed))));
     drop(second);
-    assert_eq!((drain.woken(), drain.poll()), (1, Poll::Ready(())));
+    assert_eq!((drain.woken(), drain.poll()), (1, Poll::Ready(EMPTY)));
     assert_eq!((counts(pool.status()), pool.manager().detached()), ([0, 0, 0], 2));
     // (each other one ends at once)
     block_on(pool.drain());
-    assert_eq!(block_on(pool.drain_for(Duration::ZERO)), Ok(()));
+    assert_eq!(block_on(pool.drain_for(Duration::ZERO)), Ok(EMPTY));
 }
 
 #[test]
@@ -49,7 +52,7 @@ fn an_object_that_is_taken_is_not_waited_for() {
     let mut drain = Task::new(pool.drain());
     assert!(drain.poll().is_pending());
     let _value = Object::take(object);
-    assert_eq!((drain.woken(), drain.poll()), (1, Poll::Ready(())));
+    assert_eq!((drain.woken(), drain.poll()), (1, Poll::Ready(EMPTY)));
 }
 
 #[test]
@@ -61,7 +64,7 @@ fn gets_that_have_joined_the_queue_are_not_waited_for() {
     drop(held);
     // (the first was granted the place, and has not asked)
     let mut drain = Task::new(pool.drain());
-    assert_eq!(drain.poll(), Poll::Ready(()));
+    assert_eq!(drain.poll(), Poll::Ready(Status { waiting: 2, ..EMPTY }));
     for get in waits {
         assert!(matches!(get.ready(), Err(PoolError::Closed)));
     }
@@ -107,7 +110,7 @@ fn drain_woken_by(is_open: bool, end: impl FnOnce(Task<'_, Result<Object<Doors>,
     let mut drain = Task::new(pool.drain());
     assert!(drain.poll().is_pending(), "{:?}", pool.status());
     end(get, pool.manager());
-    assert_eq!((drain.woken(), drain.poll()), (1, Poll::Ready(())));
+    assert_eq!((drain.woken(), drain.poll()), (1, Poll::Ready(EMPTY)));
 }
 
 #[test]
@@ -146,7 +149,7 @@ fn an_object_that_is_refused_after_the_close_is_waited_for() {
     let mut drain = Task::new(pool.drain());
     assert!(drain.poll().is_pending());
     assert!(matches!(get.poll(), Poll::Ready(Err(PoolError::PostCreateHook(_)))));
-    assert_eq!((drain.woken(), drain.poll()), (1, Poll::Ready(())));
+    assert_eq!((drain.woken(), drain.poll()), (1, Poll::Ready(EMPTY)));
 }
 
 #[test]
@@ -155,17 +158,22 @@ fn a_drain_that_gives_up_tells_how_the_pool_stands() {
         Pool::builder(Numbers::default()).max_size(3).runtime(Runtime::Thread).build().expect("a pool");
     let held = get(&pool);
     let left = Status { max_size: 0, size: 1, available: 0, waiting: 0 };
-    assert_eq!(block_on(pool.drain_for(Duration::ZERO)), Err(left));
-    assert_eq!(block_on(pool.drain_for(Duration::from_millis(2))), Err(left));
-    assert_eq!(left.to_string(), "max_size 0, size 1, available 0, waiting 0");
+    let late = DrainError::Timeout(left);
+    assert_eq!(block_on(pool.drain_for(Duration::ZERO)), Err(late));
+    assert_eq!(block_on(pool.drain_for(Duration::from_millis(2))), Err(late));
+    let text = "Timeout occurred while draining the pool: max_size 0, size 1, available 0, waiting 0";
+    assert_eq!(late.to_string(), text);
     drop(held);
-    assert_eq!(block_on(pool.drain_for(Duration::ZERO)), Ok(()));
+    assert_eq!(block_on(pool.drain_for(Duration::ZERO)), Ok(EMPTY));
     // (without a runtime the time is that of the crate's thread)
     let items = unmanaged::Pool::from([1]);
     let held = items.try_get().expect("an object");
-    assert_eq!(block_on(items.drain_for(Duration::from_millis(2))), Err(Status { max_size: 1, ..left }));
+    assert_eq!(
+        block_on(items.drain_for(Duration::from_millis(2))),
+        Err(DrainError::Timeout(Status { max_size: 1, ..left }))
+    );
     drop(held);
-    assert_eq!(block_on(items.drain_for(Duration::from_secs(3600))), Ok(()));
+    assert_eq!(block_on(items.drain_for(Duration::from_secs(3600))), Ok(Status { max_size: 1, ..EMPTY }));
 }
 
 /// Sleeps that are over at once, and how long they were to be.
@@ -214,7 +222,7 @@ fn a_drain_that_is_late_when_the_last_object_comes_back_is_no_fault() {
     let pool = unmanaged::Pool::from_config(&config);
     pool.try_add(7).expect("there is room");
     *RETURNS.0.lock().expect("nobody panics") = pool.try_get().ok();
-    assert_eq!(block_on(pool.drain_for(Duration::from_secs(1))), Ok(()));
+    assert_eq!(block_on(pool.drain_for(Duration::from_secs(1))), Ok(Status { max_size: 1, ..EMPTY }));
 }
 
 #[test]
@@ -229,7 +237,7 @@ fn an_unmanaged_pool_is_drained() {
     drop(first);
     assert_eq!((drain.woken(), drain.poll()), (0, Poll::Pending));
     assert_eq!(unmanaged::Object::take(second), 2);
-    assert_eq!((drain.woken(), drain.poll()), (1, Poll::Ready(())));
+    assert_eq!((drain.woken(), drain.poll()), (1, Poll::Ready(Status { max_size: 3, ..EMPTY })));
     assert_eq!(pool.try_add(5), Err((5, unmanaged::PoolError::Closed)));
 }
 
@@ -240,7 +248,7 @@ fn an_add_that_was_granted_room_is_not_waited_for() {
     assert!(add.poll().is_pending());
     assert_eq!(pool.try_remove(), Ok(1));
     assert_eq!(add.woken(), 1);
-    assert_eq!(Task::new(pool.drain()).ready(), ());
+    assert_eq!(Task::new(pool.drain()).ready().size, 0);
     assert_eq!(add.ready(), Err((2, unmanaged::PoolError::Closed)));
     assert_eq!(pool.status().size, 0);
 }
@@ -343,7 +351,7 @@ fn threads_that_return_late_are_waited_for() {
         let held: Vec<_> = (0..4).map(|_| get(&pool)).collect();
         let threads: Vec<_> = held.into_iter().map(|object| thread::spawn(move || drop(object))).collect();
         let clone = pool.clone();
-        assert!(is_answered(move || deadpool::wait(clone.drain())), "round {round}");
+        assert!(is_answered(move || drop(deadpool::wait(clone.drain()))), "round {round}");
         assert_eq!(counts(pool.status()), [0, 0, 0]);
         threads.into_iter().for_each(|it| it.join().expect("a thread"));
     }

@@ -4,9 +4,9 @@ mod common;
 
 use common::{Numbers, block_on};
 use deadpool::managed::{
-    BuildError, CreatePoolError, Hook, HookError, HookFuture, HookResult, Journal, Limits, Metrics, Object, ObjectId,
-    Pool, PoolBuilder, PoolConfig, PoolError, QueueMode, RecycleError, RecycleResult, Report, RetainResult, Settings,
-    Tally, Timeouts, WeakPool,
+    BuildError, CreatePoolError, DrainError, Hook, HookError, HookFuture, HookResult, Journal, Limits, Metrics, Object,
+    ObjectId, Pool, PoolBuilder, PoolConfig, PoolError, QueueMode, RecycleError, RecycleResult, Report, RetainResult,
+    Settings, Tally, Timeouts, WeakPool,
 };
 use deadpool::{Runtime, Status, unmanaged};
 use std::convert::Infallible;
@@ -176,13 +176,13 @@ fn what_is_this_crates_own_has_its_names() {
     gives::<Result<Object<Numbers>, PoolError<Infallible>>>(pool.try_get());
     gives::<Result<Object<Numbers>, PoolError<Infallible>>>(pool.get_timeout(Duration::ZERO));
     let _: fn(&Pool<Numbers>) -> Result<Object<Numbers>, PoolError<Infallible>> = Pool::get_blocking;
-    gives::<()>(pool.drain());
-    gives::<Result<(), Status>>(pool.drain_for(Duration::ZERO));
+    gives::<Status>(pool.drain());
+    gives::<Result<Status, DrainError>>(pool.drain_for(Duration::ZERO));
     fn is_free(_: impl Future<Output = ()> + Send + 'static) {}
     is_free(pool.keeper(Limits::none(), Duration::ZERO));
     let items = Items::new(1);
-    gives::<()>(items.drain());
-    gives::<Result<(), Status>>(items.drain_for(Duration::ZERO));
+    gives::<Status>(items.drain());
+    gives::<Result<Status, unmanaged::DrainError>>(items.drain_for(Duration::ZERO));
     let _: fn(PoolBuilder<Numbers>, Option<usize>) -> PoolBuilder<Numbers> = PoolBuilder::max_waiting;
     let _: fn(PoolBuilder<Numbers>, usize) -> PoolBuilder<Numbers> = PoolBuilder::journal;
     let _: fn(&Pool<Numbers>) -> Journal = Pool::journal;

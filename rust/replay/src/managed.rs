@@ -1,7 +1,7 @@
 //! A script over a managed pool.
 use crate::answers::{Answer, KINDS, Refused, Script, Value};
 use crate::{MOST_PARTIES, Reply, bounded, clock, count_begun, counts, duration, number, status};
-use deadpool::managed::{Object, Pool, PoolError, QueueMode, Tally, Timeouts, WeakPool};
+use deadpool::managed::{DrainError, Object, Pool, PoolError, QueueMode, Tally, Timeouts, WeakPool};
 use std::collections::{BTreeMap, BTreeSet, HashMap};
 use std::future::Future;
 use std::pin::{Pin, pin};
@@ -229,8 +229,10 @@ impl ManagedPlayer {
         self.on_handle(|pool| {
             let drain = pin!(pool.drain_for(Duration::ZERO));
             match drain.poll(&mut Context::from_waker(Waker::noop())) {
-                Poll::Ready(Ok(())) => Reply::said("drained"),
-                Poll::Ready(Err(status)) if !is_under_way => Reply::said(format!("left {}", status.size)),
+                Poll::Ready(Ok(_)) => Reply::said("drained"),
+                Poll::Ready(Err(DrainError::Timeout(left))) if !is_under_way => {
+                    Reply::said(format!("left {}", left.size))
+                }
                 _ => Reply::NotExpressible,
             }
         })

@@ -1,7 +1,7 @@
 //! A script over an unmanaged pool.
 use crate::answers::{Script, Value};
 use crate::{MOST_PARTIES, Reply, bounded, clock, count_begun, counts, duration, number, status};
-use deadpool::unmanaged::{Object, Pool, PoolConfig, PoolError, Settings, Tally};
+use deadpool::unmanaged::{DrainError, Object, Pool, PoolConfig, PoolError, Settings, Tally};
 use std::collections::{BTreeMap, HashMap};
 use std::future::Future;
 use std::pin::{Pin, pin};
@@ -84,9 +84,9 @@ impl UnmanagedPlayer {
         self.on_handle(|pool| {
             let drain = pin!(pool.drain_for(Duration::ZERO));
             match drain.poll(&mut Context::from_waker(Waker::noop())) {
-                Poll::Ready(Ok(())) => Reply::said("drained"),
-                Poll::Ready(Err(status)) => Reply::said(format!("left {}", status.size)),
-                Poll::Pending => Reply::NotExpressible,
+                Poll::Ready(Ok(_)) => Reply::said("drained"),
+                Poll::Ready(Err(DrainError::Timeout(status))) => Reply::said(format!("left {}", status.size)),
+                _ => Reply::NotExpressible,
             }
         })
     }

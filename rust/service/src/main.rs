@@ -48,8 +48,8 @@ fn main() -> Result<(), Fault> {
     // This thread is no task: it waits by itself. While a connection is out, the pool is not drained.
     let held = deadpool::wait(pool.try_get())?;
     match deadpool::wait(pool.drain_for(Duration::from_millis(20))) {
-        Ok(()) => return Err("it is drained with a connection out".into()),
-        Err(status) => println!("closing: {status}"),
+        Ok(_) => return Err("it is drained with a connection out".into()),
+        Err(late) => println!("{late}"),
     }
     drop(held);
     deadpool::wait(pool.drain());

@@ -45,6 +45,7 @@ pub mod reexports;
 pub use crate::Status;
 pub use crate::cores::desk::{ObjectId, QueueMode};
 pub use crate::cores::journal::{Report, Tally};
+pub use crate::ending::DrainError;
 pub use crate::errors::OutOfMemory;
 pub use crate::journal::Journal;
 pub use builder::{BuildError, PoolBuilder};

@@ -8,7 +8,7 @@ use super::{
 use crate::Status;
 use crate::cores::desk::{OwnerDesk, OwnerReply, OwnerStep, Retainer};
 use crate::desk::Desk;
-use crate::ending::{alarm_within, drained, ends_within};
+use crate::ending::{DrainError, alarm_within, drained, ends_within};
 use crate::errors::Named;
 use crate::parcel::{Boxed, Parcel};
 use crate::shared::State;
@@ -282,20 +282,24 @@ impl<M: Manager, W: From<Object<M>>> Pool<M, W> {
     }
 
     /// Closes the pool, as [`Pool::close`], and waits until nothing is left of it: no object is out, and no get has a place or a
-    /// creation under way. Who has an object of its own waits for good.
+    /// creation under way. Gives how it stands then. Who has an object of its own waits for good.
+    /// Gives how the pool stands then.
     ///
     /// # Cancel safety
     ///
     /// It can be dropped at any await. Once it was polled the pool stays closed, and another one waits for the same.
-    pub async fn drain(&self) {
-        let _ = drained(&self.shared, Alarm::Unset).await;
+    pub async fn drain(&self) -> Status {
+        match drained(&self.shared, Alarm::Unset).await {
+            // (no time was over)
+            Ok(status) | Err(DrainError::Timeout(status) | DrainError::Departing(status)) => status,
+        }
     }
 
     /// The same, but no longer than this, by the pool's timers, or by this crate's thread if it has none.
     ///
     /// # Errors
     ///
-    /// How the pool stands if something is left then. It stays closed.
+    /// `Timeout` if something is left then, and `Departing` if only what has left is still to be dropped. The pool stays closed.
     ///
     /// # Cancel safety
     ///
@@ -304,7 +308,7 @@ impl<M: Manager, W: From<Object<M>>> Pool<M, W> {
     /// # Panics
     ///
     /// `Runtime::Tokio1` with its feature panics outside of tokio.
-    pub async fn drain_for(&self, most: Duration) -> Result<(), Status> {
+    pub async fn drain_for(&self, most: Duration) -> Result<Status, DrainError> {
         drained(&self.shared, alarm_within(most, self.shared.setup.runtime)).await
     }
 

@@ -17,6 +17,7 @@ mod pool;
 
 pub use crate::Status;
 pub use crate::cores::unmanaged_journal::{Report, Tally};
+pub use crate::ending::DrainError;
 pub use crate::errors::OutOfMemory;
 pub use crate::journal::Journal;
 pub use config::{PoolConfig, PoolError, Settings};

@@ -3,7 +3,7 @@ use super::{Core, Journal, Object, OutOfMemory, PoolConfig, PoolError, Report, S
 use crate::Status;
 use crate::cores::unmanaged::{Reply, Step};
 use crate::desk::Desk;
-use crate::ending::{alarm_within, drained};
+use crate::ending::{DrainError, alarm_within, drained};
 use crate::parcel::{Boxed, Parcel};
 use crate::rattle::Global;
 use crate::shared::{Handle, State};
@@ -230,20 +230,25 @@ impl<T> Pool<T> {
         self.shared.close();
     }
 
-    /// Closes the pool, as [`Pool::close`], and waits until no object is out. Who has an object of its own waits for good.
+    /// Closes the pool, as [`Pool::close`], and waits until no object is out. Gives how it stands then. Who has an
+    /// object of its own waits for good.
+    /// Gives how the pool stands then.
     ///
     /// # Cancel safety
     ///
     /// It can be dropped at any await. Once it was polled the pool stays closed, and another one waits for the same.
-    pub async fn drain(&self) {
-        let _ = drained(&self.shared, Alarm::Unset).await;
+    pub async fn drain(&self) -> Status {
+        match drained(&self.shared, Alarm::Unset).await {
+            // (no time was over)
+            Ok(status) | Err(DrainError::Timeout(status) | DrainError::Departing(status)) => status,
+        }
     }
 
     /// The same, but no longer than this, by the pool's timers, or by this crate's thread if it has none.
     ///
     /// # Errors
     ///
-    /// How the pool stands if an object is out then. It stays closed.
+    /// `Timeout` if an object is out then, and `Departing` if only what has left is still to be dropped. The pool stays closed.
     ///
     /// # Cancel safety
     ///
@@ -252,7 +257,7 @@ impl<T> Pool<T> {
     /// # Panics
     ///
     /// `Runtime::Tokio1` with its feature panics outside of tokio.
-    pub async fn drain_for(&self, most: Duration) -> Result<(), Status> {
+    pub async fn drain_for(&self, most: Duration) -> Result<Status, DrainError> {
         drained(&self.shared, alarm_within(most, self.shared.setup.runtime)).await
     }
 

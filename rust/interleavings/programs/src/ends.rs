@@ -9,7 +9,7 @@ use std::pin::pin;
 use std::time::Duration;
 
 /// Waits for a drain, and says whether it was told of the end: it had to wait.
-pub fn is_told(drain: impl Future<Output = ()>) -> bool {
+pub fn is_told<T>(drain: impl Future<Output = T>) -> bool {
     let (mut drain, mut was_pending) = (pin!(drain), false);
     block_on(poll_fn(|cx| {
         let polled = drain.as_mut().poll(cx);

@@ -113,7 +113,7 @@ fn is_closed(pool: &Pool<Telling>) {
     assert!(pool.retain(|_, _| true).retained == 0 && pool.journal().entries.is_empty());
     pool.close();
     now(pool.drain());
-    assert_eq!(now(pool.drain_for(Duration::ZERO)), Ok(()));
+    assert_eq!(now(pool.drain_for(Duration::ZERO)), Ok(closed));
     assert!(format!("{pool:?}").contains("is_closed: true"));
 }
 

@@ -119,7 +119,7 @@ fn a_crowd_of_drains_is_told_of_the_last_object() {
     let drains = begun((0..CROWD).map(|_| pool.drain()), tells_left(&told, pool.weak(), list));
     drop(held);
     were_woken_in_few_sections(&told, &pool, list);
-    drains.into_iter().for_each(now);
+    drains.into_iter().for_each(|drain| _ = now(drain));
 }
 
 #[test]
