@@ -314,7 +314,9 @@ impl<C, D: Desk> Shared<C, D> {
             }
             step(&mut state.desk);
         });
-        surplus.iter_mut().for_each(|value| (self.detach)(&self.setup, value));
+        for value in &mut surplus {
+            (self.detach)(&self.setup, value);
+        }
     }
 
     /// Makes a step that drops idle objects: so many, from the front on. Their values are dropped without the lock. Then those that

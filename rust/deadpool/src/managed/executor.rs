@@ -125,7 +125,7 @@ impl<'a, M: Manager> Executor<'a, M> {
     #[inline(always)]
     fn waits(&mut self, state: &mut State<Core<M>>, ticket: Ticket, waker: &Waker) -> (Command, Option<Waker>) {
         match state.lent(|state| state.gets.keep_of(self.number, ticket.number(), waker)) {
-            Ok(stale) => (Command::Wait(ticket), stale),
+            Ok(replaced) => (Command::Wait(ticket), replaced),
             Err(_) => (self.order.unheard(), None),
         }
     }
@@ -159,7 +159,9 @@ impl<'a, M: Manager> Executor<'a, M> {
             Ok((command, _stale)) => command,
             Err(Answer { hand, .. }) => {
                 let command = self.order.replied(&self.counts(), &step, Reply::Unknown);
-                hand.into_iter().for_each(|slot| comes_back(pool, slot.value.take()));
+                if let Some(slot) = hand {
+                    comes_back(pool, slot.value.take());
+                }
                 command
             }
         }
