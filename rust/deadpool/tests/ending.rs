@@ -351,7 +351,7 @@ fn threads_that_return_late_are_waited_for() {
         let held: Vec<_> = (0..4).map(|_| get(&pool)).collect();
         let threads: Vec<_> = held.into_iter().map(|object| thread::spawn(move || drop(object))).collect();
         let clone = pool.clone();
-        assert!(is_answered(move || drop(deadpool::wait(clone.drain()))), "round {round}");
+        assert!(is_answered(move || _ = deadpool::wait(clone.drain())), "round {round}");
         assert_eq!(counts(pool.status()), [0, 0, 0]);
         threads.into_iter().for_each(|it| it.join().expect("a thread"));
     }
