@@ -28,17 +28,22 @@ error_texts! { DrainError {
 struct Watch<C, D: Desk> {
     pool: Weak<Shared<C, D>>,
     wakers: fn(&mut State<D>) -> &mut Wakers,
-    has_come: fn(&Shared<C, D>, &State<D>) -> bool,
     /// Where its waker is kept, once there is one.
     place: Option<usize>,
 }
 
 impl<C, D: Desk> Watch<C, D> {
-    /// Whether it has come, or the pool has gone. If not the waker is kept, or called at once if no memory is found for it.
-    fn has_come(&mut self, cx: &Context<'_>) -> bool {
-        let Some(pool) = self.pool.upgrade() else { return true };
+    /// What has come, or nothing if the pool has gone. Until then the waker is kept, or called at once if no memory is found for it.
+    fn poll<T>(
+        &mut self,
+        cx: &Context<'_>,
+        look: impl FnOnce(&Shared<C, D>, &mut State<D>) -> Option<T>,
+    ) -> Poll<Option<T>> {
+        let Some(pool) = self.pool.upgrade() else { return Poll::Ready(None) };
+        let mut come = None;
         let kept = pool.look(|state| {
-            if (self.has_come)(&pool, state) {
+            come = look(&pool, state);
+            if come.is_some() {
                 return None;
             }
             let wakers = (self.wakers)(state);
@@ -47,14 +52,14 @@ impl<C, D: Desk> Watch<C, D> {
         });
         // (wakers are dropped and called without the lock)
         match kept {
-            None => return true,
+            None => {}
             Some(Ok(replaced)) => drop(replaced),
             Some(Err(OutOfMemory)) => {
                 self.place = None;
                 cx.waker().wake_by_ref();
             }
         }
-        false
+        if come.is_some() { Poll::Ready(come) } else { Poll::Pending }
     }
 }
 
@@ -68,14 +73,9 @@ impl<C, D: Desk> Drop for Watch<C, D> {
 
 /// Waits until a pool has closed or has no handle, or so long. Says whether it has ended.
 pub(crate) fn ends_within<C, D: Desk>(pool: &Weak<Shared<C, D>>, mut alarm: Alarm) -> impl Future<Output = bool> {
-    let mut watch = Watch {
-        pool: pool.clone(),
-        wakers: |state| &mut state.keepers,
-        has_come: |pool, _| pool.has_ended(),
-        place: None,
-    };
+    let mut watch = Watch { pool: pool.clone(), wakers: |state| &mut state.keepers, place: None };
     poll_fn(move |cx| {
-        if watch.has_come(cx) {
+        if watch.poll(cx, |pool, _| pool.has_ended().then_some(())).is_ready() {
             Poll::Ready(true)
         } else if alarm.is_over(cx) {
             Poll::Ready(false)
@@ -91,10 +91,13 @@ pub(crate) fn drained<C, D: Desk>(
     mut alarm: Alarm,
 ) -> impl Future<Output = Result<Status, DrainError>> {
     pool.close();
-    let has_come = |_: &Shared<C, D>, state: &State<D>| state.is_drained();
-    let mut watch = Watch { pool: Arc::downgrade(pool), wakers: |state| &mut state.drains, has_come, place: None };
+    let mut watch = Watch { pool: Arc::downgrade(pool), wakers: |state| &mut state.drains, place: None };
     poll_fn(move |cx| {
-        if !watch.has_come(cx) && !alarm.is_over(cx) {
+        let come = watch.poll(cx, |_, state| state.is_drained().then(|| state.desk.status()));
+        if let Poll::Ready(Some(status)) = come {
+            return Poll::Ready(Ok(status));
+        }
+        if !alarm.is_over(cx) {
             return Poll::Pending;
         }
         Poll::Ready(pool.look(end_of))
