@@ -19,6 +19,16 @@ pub enum DrainError {
     Departing(Status),
 }
 
+impl DrainError {
+    /// How the pool stood then.
+    #[must_use]
+    pub fn status(self) -> Status {
+        match self {
+            DrainError::Timeout(status) | DrainError::Departing(status) => status,
+        }
+    }
+}
+
 error_texts! { DrainError {
     DrainError::Timeout(status) => "Timeout occurred while draining the pool: {status}",
     DrainError::Departing(status) => "An object is still being given up: {status}",

@@ -87,7 +87,7 @@ fn look<T>(
 
 /// Whether a drain was late since something was still to be dropped, and nothing else was left.
 fn departs(ended: Result<Status, DrainError>) -> bool {
-    ended.is_err_and(|left| matches!(left, DrainError::Departing(status) if status.size == 0))
+    ended.is_err_and(|left| matches!(left, DrainError::Departing(_)) && left.status().size == 0)
 }
 
 /// Whether a future that is polled once is pending.

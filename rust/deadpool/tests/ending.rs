@@ -162,7 +162,7 @@ fn a_drain_that_gives_up_tells_how_the_pool_stands() {
     assert_eq!(block_on(pool.drain_for(Duration::ZERO)), Err(late));
     assert_eq!(block_on(pool.drain_for(Duration::from_millis(2))), Err(late));
     let text = "Timeout occurred while draining the pool: max_size 0, size 1, available 0, waiting 0";
-    assert_eq!(late.to_string(), text);
+    assert_eq!((late.to_string().as_str(), late.status()), (text, left));
     drop(held);
     assert_eq!(block_on(pool.drain_for(Duration::ZERO)), Ok(EMPTY));
     // (without a runtime the time is that of the crate's thread)

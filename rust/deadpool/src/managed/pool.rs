@@ -289,10 +289,7 @@ impl<M: Manager, W: From<Object<M>>> Pool<M, W> {
     ///
     /// It can be dropped at any await. Once it was polled the pool stays closed, and another one waits for the same.
     pub async fn drain(&self) -> Status {
-        match drained(&self.shared, Alarm::Unset).await {
-            // (no time was over)
-            Ok(status) | Err(DrainError::Timeout(status) | DrainError::Departing(status)) => status,
-        }
+        drained(&self.shared, Alarm::Unset).await.unwrap_or_else(DrainError::status)
     }
 
     /// The same, but no longer than this, by the pool's timers, or by this crate's thread if it has none.
