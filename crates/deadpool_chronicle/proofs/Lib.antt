@@ -11,3 +11,5 @@ mod Sent
 -- What the walks by hand are written in.
 pub mod Steps
 pub use Rattle.atomic_table.proofs.Walks
+-- What was seen stays seen.
+pub mod Seeing

@@ -1,5 +1,6 @@
 -- A history, and what a call adds to it. Each entry stands beside the number of its caller.
 use Rattle.std.specs.Prelude.{◌≡◌, ℕ, ◌==◌, List, [], ◌∷◌, ◌++◌, map, filter}
+use mathlib.Core.List.{IsPrefix}
 
 -- what a caller knows: its number, all its entries, how many callers it has let in, and the beginning that it has seen
 pub record Knowing (E : Type 0) : Type 0 where
@@ -23,3 +24,7 @@ module _ {E : Type 0} where
   Calls may_be log c log' c' =
       Adds may_be log c.number c.mine log' c'.mine × (c'.number ≡ c.number) × (c'.admitted ≡ c.admitted)
       × (c'.seen ≡ log')
+
+  -- A caller that has seen more since, or as much: it has made no call and let nobody in.
+  abbrev pub SeesMore : Knowing E → Knowing E → Type 0
+  SeesMore c c' = (c' ≡ record c { seen = c'.seen }) × IsPrefix c.seen c'.seen

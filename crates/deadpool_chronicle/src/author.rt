@@ -31,12 +31,13 @@ impl<E, H: Chronicle> Model for Author<E, H> {
 
 impl<E, H: Chronicle> Author<E, H> {
     /// Adds one entry of a caller's, which says what it asked and what the reply was. Nobody has to have its value:
-    /// that there is one is enough. The caller has then seen all of the history.
+    /// that there is one is enough. The history had of the caller what the caller has; it has then seen all of it.
     pub fn note<X, R, M: Says<X, R, E>>(&mut self, caller: &mut Caller<E, H>, asked: &X, reply: &R)
         requires says { (e : E) × M.entry asked.now reply.now self.old.log e }
         ensures call { Calls (M.entry asked.now reply.now self.old.log)
             self.old.log caller.old self.new.log caller.new }
         ensures seen { IsPrefix caller.old.seen self.old.log }
+        ensures mine { calls_by caller.old.number self.old.log ≡ caller.old.mine }
     {
         self.above(&caller.seen);
         self.add::<X, R, M>(&mut caller.page, asked, reply);

@@ -1,9 +1,10 @@
 -- Which replies a step may have, what is in the hand then, and what the get holds.
-use Rattle.std.specs.Prelude.{◌≡◌, ◌+◌, ⊤, Option, Some, None, IsSome}
+use Rattle.std.specs.Prelude.{◌≡◌, ℕ, ◌+◌, ⊤, Option, Some, None, IsSome}
 use Rattle.deadpool_desk.specs.declared.owner_step.OwnerReply.{OwnerReply}
 use Rattle.deadpool_desk.specs.declared.owner_step.OwnerReply.TheVariants as owner_reply
 use Rattle.deadpool_desk.specs.declared.owner_step.OwnerStep.{OwnerStep}
 use Rattle.deadpool_desk.specs.declared.owner_step.OwnerStep.TheVariants as owner
+use Rattle.deadpool_desk.specs.declared.slot.Slot.{Slot}
 use Rattle.deadpool_desk.specs.declared.step.Held.{Held}
 use Rattle.deadpool_desk.specs.declared.step.Held.TheVariants as held
 use Rattle.deadpool_desk.specs.declared.step.Reply.{Reply}
@@ -86,6 +87,20 @@ module _ {O : Type 0} where
   Leaves (Object left) was hand = IsSome hand
   Leaves Kept was hand = hand ≡ None
   Leaves _ was hand = hand ≡ was
+
+-- an object that comes back has one of these numbers
+abbrev pub IsTakenBack : {T : Type 0} → (ℕ → Type 0) → Step → Option (Slot T) → Type 0
+IsTakenBack may_have step hand = (slot : _) → step ≡ Back → hand ≡ Some slot → may_have slot.number
+
+-- the ticket that a step names
+abbrev pub named : Step → Option ℕ
+named (Ask ticket expired) = Some ticket
+named (Withdraw ticket) = Some ticket
+named _ = None
+
+-- it names no ticket but one of these
+abbrev pub NamesOnly : (ℕ → Type 0) → Step → Type 0
+NamesOnly may_wait step = (ticket : _) → named step ≡ Some ticket → may_wait ticket
 
 -- what a get holds before a step
 abbrev pub needed : Step → Option Held

@@ -1,3 +1,7 @@
 -- What the proofs of this crate stand on.
 mod First
-mod Leads
+mod Holding
+pub mod Leads
+pub mod Own
+mod Turns
+pub mod Waiting

@@ -1,6 +1,7 @@
 //! A managed pool's state beside the one history of all its callers, which leads to it.
 #![tactic(auto)]
 
+pub mod laws;
 mod line;
 mod recorded;
 

@@ -1,23 +1,27 @@
 //! A pool's state, with the history that leads to it.
-ghost use Rattle.std.specs.Prelude.{◌≡◌, ◌+◌, [], ◌∷◌, IfOk, is_some, not};
+ghost use Rattle.std.specs.Prelude.{◌≡◌, ◌+◌, [], ◌∷◌, ◌++◌, IfOk, false, is_some, not};
 ghost use Rattle.std.specs.Option.{option_or};
 ghost use mathlib.Core.List.{IsPrefix};
 ghost use Rattle.deadpool_chronicle.specs.History.{Calls, calls_by};
 ghost use Rattle.deadpool_desk.specs.Closing.{is_drained};
 ghost use Rattle.deadpool_desk.specs.CoreSteps.{due_now};
 ghost use Rattle.deadpool_desk.specs.DeskState.{size, would_queue};
-ghost use Rattle.deadpool_desk.specs.Replies.{Brings, IsOwnerReplyTo, IsReplyTo, Leaves};
+ghost use Rattle.deadpool_desk.specs.Replies.{Brings, IsOwnerReplyTo, IsReplyTo, Leaves, named};
 ghost use Rattle.deadpool_journal.specs.ByNumber.{number_in, numbered};
 ghost use Rattle.deadpool_journal.specs.Copies.{HasSteps};
 ghost use Rattle.deadpool_journal.specs.Journaling.{opening};
 ghost use Rattle.deadpool_journal.specs.LogState.{no_entries};
 ghost use Rattle.deadpool_journal.specs.Tally.{AreBalanced};
-ghost use Rattle.deadpool_history.specs.History.{HasCalled, IsBeginning, IsLegal, IsNext, IsRetain};
-ghost use Rattle.deadpool_history.specs.History.{IsTallyOf, LeadsTo, LeavesIdle};
+ghost use Rattle.deadpool_history.specs.History.{GetsAreTold, HasCalled, IsBeginning, IsLegal, IsNext};
+ghost use Rattle.deadpool_history.specs.History.{IsRetain, IsTallyOf, LeadsTo, awaited, told_by};
+ghost use Rattle.deadpool_history.specs.Retains.{AnswersFor};
+ghost use Rattle.deadpool_history.specs.Own.{held_in, waits_in};
 ghost use Rattle.deadpool_history.specs.declared.line.Line.TheVariants as line;
 ghost use Rattle.deadpool_journal.specs.Steps.{MakesNoted, MakesForOwnerNoted, NotifiesUnnoted};
 ghost use Rattle.deadpool_journal.specs.Steps.{RetainsNoted};
 ghost use Rattle.deadpool_journal.specs.declared.entry.Entry.TheVariants as entry;
+ghost use Rattle.deadpool_turns.specs.Holders.{IsOwn};
+ghost use Rattle.deadpool_turns.specs.Tickets.{IsNamed};
 
 use crate::line::Line;
 use deadpool_chronicle::{Author, Beginning, Caller, Chronicle, Says};
@@ -27,7 +31,7 @@ use deadpool_desk::{
 };
 use deadpool_journal::{Journal, Journaled, Tally};
 use std::alloc::AllocError;
-use std::marker::Model;
+use std::marker::{Model, PhantomData};
 
 // The entry of a step of a get or an object: the step with the number of its object, and the reply.
 struct ToStep;
@@ -53,12 +57,18 @@ impl Says<OwnerStep, OwnerReply, Line> for ToOwnerStep {
 
 // The entry of a retain: of those that its reply allows, one by which the history leads to the pool's state. So what
 // was given up, and where it stood, need not be at hand.
-struct ToRetain;
+struct ToRetain<R> {
+    by: PhantomData<R>,
+}
 
-impl<T, G> Says<Journaled<T>, Result<RetainResult<G>, AllocError>, Line> for ToRetain {
+impl<T, R: Retainer<T>> Says<Journaled<T>, Result<RetainResult<R::Left>, AllocError>, Line>
+    for ToRetain<R> {
     ghost use Rattle.deadpool_history.specs.History.{IsNext, IsRetain, LeadsWith};
+    ghost use Rattle.deadpool_history.specs.Retains.{RetainsFrom};
+    ghost use Rattle.deadpool_journal.specs.ByNumber.{numbered};
 
-    ghost entry = { λ pool result log line. IsNext (λ e. IsRetain result e × LeadsWith pool log e) line };
+    ghost entry = { λ pool result log line. IsNext (λ e. IsRetain result e × LeadsWith pool log e
+        × RetainsFrom R.Retainer result log e (numbered pool.core.desk)) line };
 }
 
 // The first line, of a pool that opens.
@@ -72,8 +82,29 @@ impl<T> Says<Journaled<T>, (), Line> for ToOpening {
         ≡ Opening pool.limit pool.mode pool.min_idle pool.max_waiting };
 }
 
+// The line of one in the queue that is told.
+struct ToTold;
+
+impl Says<Ticket, (), Line> for ToTold {
+    ghost use Rattle.std.specs.Prelude.{◌≡◌};
+    ghost use Rattle.deadpool_history.specs.declared.line.Line.TheVariants.{Told};
+
+    ghost entry = { λ ticket _ _ line. line ≡ Told ticket };
+}
+
+// The line of those that wait for the end of the pool, and of what is still to be dropped.
+struct ToEnding;
+
+impl Says<(usize, u64), (), Line> for ToEnding {
+    ghost use Rattle.std.specs.Prelude.{◌≡◌};
+    ghost use Rattle.deadpool_history.specs.declared.line.Line.TheVariants.{Ending};
+
+    ghost entry = { λ counts _ _ line. line ≡ Ending counts.0 counts.1 };
+}
+
 /// A pool's state with its journal, and who adds to the history. The history's entries are steps of the desk machine,
-/// from the state that the pool opened with to the one that it has.
+/// from the state that the pool opened with to the one that it has, and by its lines those in the queue were told whom
+/// the pool has told.
 #[derive(Drop)]
 pub struct Recorded<T, H: Chronicle> {
     pool: Journaled<T>,
@@ -100,6 +131,19 @@ fn number_of<T>(hand: &Option<Slot<T>>) -> Option<usize>
     }
 }
 
+// Who was named stands in the history, in this caller's name, if somebody was.
+fn note_told<H: Chronicle>(
+    author: &mut Author<Line, H>,
+    caller: &mut Caller<Line, H>,
+    named: &Option<Ticket>,
+)
+    ensures { author.new.log ≡ author.old.log ++ told_by caller.old.number named.now }
+{
+    if let Some(ticket) = named {
+        author.note::<Ticket, (), ToTold>(caller, ticket, &());
+    }
+}
+
 impl<T: Drop, H: Chronicle> Recorded<T, H> {
     /// A pool that has made no step yet, whose history has how it opened, and this beginning of the history.
     pub fn new(
@@ -108,6 +152,7 @@ impl<T: Drop, H: Chronicle> Recorded<T, H> {
         first: &mut Caller<Line, H>,
     ) -> (Self, Beginning<Line, H>)
         requires opened { numbered pool.core.desk ≡ opening pool }
+        requires unnotified { pool.core.unnotified ≡ [] }
         requires empty { author.log ≡ [] }
         requires unnoted { pool.log ≡ no_entries pool.log.most }
         ensures pool { result.0.pool ≡ pool }
@@ -121,7 +166,8 @@ impl<T: Drop, H: Chronicle> Recorded<T, H> {
         (Recorded { pool, author }, beginning)
     }
 
-    /// Makes a step of a get or an object, which is one entry more of its caller's.
+    /// Makes a step of a get or an object, which is one entry more of its caller's. By its own entries the caller has
+    /// what it gives away, and waits under the ticket that it names.
     #[inline(always)]
     pub fn make(
         &mut self,
@@ -130,6 +176,8 @@ impl<T: Drop, H: Chronicle> Recorded<T, H> {
         hand: &mut Option<Slot<T>>,
     ) -> Reply
         requires brings { Brings step.now hand.old }
+        requires own { IsOwn step.now (number_in hand.old) (held_in caller.old.mine) }
+        requires named { IsNamed (named step.now) (waits_in caller.old.mine) }
         ensures made { MakesNoted self.old.pool step.now hand.old result hand.new self.new.pool }
         ensures fits { IsReplyTo step.now result }
         ensures hand { Leaves result hand.old hand.new }
@@ -179,11 +227,12 @@ impl<T: Drop, H: Chronicle> Recorded<T, H> {
             self.old.log caller.old self.new.log caller.new }
         ensures seen { IsPrefix caller.old.seen self.old.log }
         ensures called { HasCalled (IsRetain result) caller.old caller.new }
-        ensures idle { LeavesIdle result caller.new.seen }
+        ensures which { HasCalled (AnswersFor R.Retainer result caller.new.seen)
+            caller.old caller.new }
     {
         let Recorded { pool, author, .. } = self;
         let result = pool.retain(retainer);
-        author.note::<Journaled<T>, Result<RetainResult<R::Left>, AllocError>, ToRetain>(
+        author.note::<Journaled<T>, Result<RetainResult<R::Left>, AllocError>, ToRetain<R>>(
             caller, pool, &result,
         );
         result
@@ -291,19 +340,44 @@ impl<T: Drop, H: Chronicle> Recorded<T, H> {
         self.pool.next_ticket()
     }
 
-    /// The next get in the queue that is due to be woken. It is no step, and stands in no history.
-    pub fn take_wake(&mut self) -> Option<Ticket>
+    /// The next get in the queue that is due to be woken. It is no step; who was named stands in the history, in the
+    /// name of the caller, which is one of the pool's own.
+    pub fn take_wake(&mut self, caller: &mut Caller<Line, H>) -> Option<Ticket>
         ensures told { NotifiesUnnoted self.old.pool result self.new.pool }
-        ensures log { self.new.log ≡ self.old.log }
+        ensures log { self.new.log ≡ self.old.log ++ told_by caller.old.number result }
     {
-        let Recorded { pool, .. } = self;
-        pool.take_wake()
+        let Recorded { pool, author, .. } = self;
+        let named = pool.take_wake();
+        note_told(author, caller, &named);
+        named
     }
 
-    /// Whether `take_wake` would name a get. It is no step.
-    pub fn is_wake_due(&self) -> bool
-        ensures { result ≡ is_some (due_now self.now.pool.core) }
+    /// From here on so many drains wait for the end of the pool, and so many holders have let go of something that they
+    /// have not dropped yet. It is no step. That stands in the history, in the name of the caller, which is one of the
+    /// pool's own.
+    pub fn note_ending(&mut self, caller: &mut Caller<Line, H>, drains: usize, departing: u64)
+        ensures pool { self.new.pool ≡ self.old.pool }
+        ensures log { self.new.log
+            ≡ self.old.log ++ (caller.old.number, line.Ending drains departing) ∷ [] }
+        ensures awaited { awaited self.new.log
+            ≡ record { drains = drains; departing = departing } }
     {
+        let Recorded { author, .. } = self;
+        author.note::<(usize, u64), (), ToEnding>(caller, &(drains, departing), &());
+    }
+
+    /// Whether `take_wake` would name a get. The caller has then seen all of the history, at whose end no get is due if
+    /// none is. It is no step.
+    #[inline]
+    pub fn is_wake_due(&mut self, caller: &mut Caller<Line, H>) -> bool
+        ensures due { result ≡ is_some (due_now self.old.pool.core) }
+        ensures same { self.new ≡ self.old }
+        ensures caller { caller.new ≡ record caller.old { seen = self.old.log } }
+        ensures seen { IsPrefix caller.old.seen self.old.log }
+        ensures leads { LeadsTo self.old.pool self.old.log }
+        ensures quiet { result ≡ false → GetsAreTold caller.new.seen }
+    {
+        self.author.audit(caller);
         self.pool.is_wake_due()
     }
 }

@@ -6,7 +6,7 @@ ghost use Rattle.deadpool_limits.specs.Limits.{IsWithin, no_limits};
 use deadpool_managed::{Metrics, Moment};
 use std::time::Duration;
 
-/// How long an object may serve. A limit that is not set holds of every object.
+/// How long an object may serve. A limit that is not set allows every object.
 #[derive(Clone, Copy, Debug, PartialEq, Eq)]
 pub struct Limits {
     /// How long ago it may have been created. From this age on it is given up.

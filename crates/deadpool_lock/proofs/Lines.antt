@@ -1,18 +1,18 @@
 -- Those in a line, and the places for their wakers, as they come, are told and leave.
 use Rattle.std.proofs.Common.{◌≡◌, ℕ, zero, suc, ◌-◌, ◌<◌, ◌≤◌, ◌==◌, ◌∙◌, Bool, true, false, Option, Some, None}
-use Rattle.std.proofs.Common.{List, [], ◌∷◌, ◌++◌, length, replicate, set, length-append, get_or-set_same}
+use Rattle.std.proofs.Common.{List, [], ◌∷◌, ◌++◌, length, replicate, length-append, get_or-set_same}
 use Rattle.std.proofs.Common.{arith, inl, inr, is_some, refl}
 use Rattle.std.proofs.lemmas.Bool.{cases_Bool, lt-ltb}
 use Rattle.std.proofs.lemmas.Bool.Decides.{eqb_tells}
 use Rattle.std.specs.Prelude.{◌||◌, IfSome, IfNone, IsTrue, nat_lt}
-use Rattle.std.specs.Option.{option_map_or}
+use Rattle.std.specs.Option.{option_map_or, option_or}
 use Rattle.deadpool_gate.specs.Gate.{Waiter, Joins, answer_of, arrived, asked, change_first, entry_at_once}
 use Rattle.deadpool_gate.specs.Gate.{find_waiter, remove_first, with_word}
 use Rattle.deadpool_gate.specs.declared.gate.Ask.TheVariants as ask
 use Rattle.deadpool_gate.specs.declared.gate.Entry.{Entry}
 use Rattle.deadpool_gate.specs.declared.gate.Entry.TheVariants as entry
 use Rattle.deadpool_lock.specs.Ends.{HavePlaces}
-use Rattle.deadpool_lock.specs.Places.{waker_at, with_room}
+use Rattle.deadpool_lock.specs.Places.{left_in, taken_out, waker_at, with_room}
 
 pub have_longer : (ws : List Waiter) (m n : ℕ) → m ≤ n → HavePlaces ws m → HavePlaces ws n
 have_longer [] m n le have = tt
@@ -107,14 +107,26 @@ listed_waiting c t ws answer = by_cases (find_waiter t ws) refl
               ]
         ]
 
--- a waker that is exchanged in a place stands there
+-- a waker that is lent to a place stands there, and otherwise the one that was kept
+left_at : {W : Type 0} (t : ℕ) (places : List (Option W)) (waker : Option W) → t < length places
+    → waker_at t (left_in t waker places) ≡ option_or waker (waker_at t places)
+left_at t places None lt = refl
+left_at t places (Some w) lt = get_or-set_same places t (Some w) None lt
+
 pub exchanged_at : {W : Type 0} (t : ℕ) (places places' : List (Option W)) (waker waker' : Option W) (has : Bool)
     → t < length places → has ≡ nat_lt t (length places)
-    → (IsTrue has → (places' ≡ set places t waker) × (waker' ≡ waker_at t places))
-    → (places' ≡ set places t waker) × (waker' ≡ waker_at t places) × (waker_at t places' ≡ waker)
+    → (IsTrue has → (places' ≡ left_in t waker places) × (waker' ≡ taken_out t waker places))
+    → (places' ≡ left_in t waker places) × (waker' ≡ taken_out t waker places)
+    × (waker_at t places' ≡ option_or waker (waker_at t places))
 exchanged_at t places places' waker waker' has lt is exchanged =
     let both = exchanged (is ∙ lt-ltb t (length places) lt) in
-    (both.0, both.1, rw (both.0) (get_or-set_same places t waker None lt))
+    (both.0, both.1, rw (both.0) (left_at t places waker lt))
+
+-- whoever lends a waker gets what was kept in the place, and no other
+pub taken_same : {W : Type 0} (t : ℕ) (waker : Option W) (places places' : List (Option W))
+    → waker_at t places ≡ waker_at t places' → taken_out t waker places ≡ taken_out t waker places'
+taken_same t None places places' same = refl
+taken_same t (Some w) places places' same = same
 
 -- room for more is empty
 module _ {W : Type 0} where

@@ -1,10 +1,17 @@
 -- A future that asks something, as contracts see it, how it begins, and what a poll of it is.
-use Rattle.std.specs.Prelude.{◌≡◌, ◌⊎◌, ⊤, Option, Some, None}
+use Rattle.std.specs.Prelude.{◌≡◌, ◌⊎◌, ⊤, true, Option, Some, None, IsSomeAnd}
+use Rattle.futures.specs.Task.{Wakes}
+use Rattle.futures.specs.declared.task.context.Context.{Context}
 use Rattle.futures.specs.declared.task.Poll.{Poll}
 use Rattle.futures.specs.declared.task.Poll.TheVariants.{Ready, Pending}
+use Rattle.futures.specs.declared.task.waker.Waker.{Waker}
 use Rattle.deadpool_lock.specs.declared.registration.Registration.{Registration}
 use Rattle.deadpool_lock.specs.declared.request.Stage.{Stage}
 use Rattle.deadpool_lock.specs.declared.request.Stage.TheVariants.{Asking, Refused, Ended}
+
+-- The waker is that of the task that polls. Or there was no memory for one, and the task is polled again.
+abbrev pub IsOf : Option Waker → Context → Type 0
+IsOf waker cx = (cx.lacks_waker ≡ true) ⊎ IsSomeAnd waker (λ w. Wakes w cx)
 
 -- whose handle it has, how far it is, what it asks, and what it hears by
 pub record Asked (S K Q : Type 0) : Type 0 where

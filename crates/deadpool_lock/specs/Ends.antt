@@ -1,10 +1,10 @@
 -- Those that wait until nothing is left in a pool that has closed, and how a drain ends.
-use Rattle.std.specs.Prelude.{◌≡◌, ◌==◌, ◌&&◌, ◌<◌, ◌+◌, ◌-◌, ◌^◌, not, is_some, if◌then◌else◌, min, true, false}
-use Rattle.std.specs.Prelude.{Bool, ℕ, List, [], ◌∷◌, ◌++◌, codes, slice_set, Option, Some, None, Result, Ok, Err}
+use Rattle.std.specs.Prelude.{◌≡◌, ◌⊎◌, ◌==◌, ◌&&◌, ◌<◌, ◌+◌, ◌-◌, ◌^◌, not, is_some, if◌then◌else◌, min, true, false}
+use Rattle.std.specs.Prelude.{Bool, ℕ, List, [], ◌∷◌, ◌++◌, codes, Option, Some, None, Result, Ok, Err}
 use Rattle.std.specs.Option.{option_map_or}
 use Rattle.futures.specs.declared.task.waker.Waker.{Waker}
 use Rattle.deadpool_gate.specs.Gate.{Line, Waiter, arrived, asked, due_ticket, find_waiter, tell_next, without_waiter}
-use Rattle.deadpool_lock.specs.Places.{Follows, waker_at, with_room}
+use Rattle.deadpool_lock.specs.Places.{Follows, left_in, waker_at, with_room}
 use Rattle.deadpool_lock.specs.declared.ended.DrainError.{DrainError}
 use Rattle.deadpool_lock.specs.declared.ended.DrainError.TheVariants.{Timeout, OutOfMemory, Departing}
 use Rattle.deadpool_parts.specs.Texts.{status_text}
@@ -48,11 +48,11 @@ Stands ticket waker ends =
 abbrev pub WaitsOn : Bool → Option ℕ → EndsState → Option Waker → ℕ → EndsState → Type 0
 WaitsOn true before ends waker ticket ends' =
     (before ≡ Some ticket) × (ends'.line.waiters ≡ ends.line.waiters)
-    × (ends'.wakers ≡ slice_set ends.wakers ticket waker)
+    × (ends'.wakers ≡ left_in ticket waker ends.wakers)
 WaitsOn false before ends waker ticket ends' =
     let others = after_asking before ends.line in
     (find_waiter ticket others ≡ None) × (ends'.line.waiters ≡ others ++ arrived ticket ∷ [])
-    × (ends'.wakers ≡ slice_set (with_room ticket ends.wakers) ticket waker)
+    × (ends'.wakers ≡ left_in ticket waker (with_room ticket ends.wakers))
 
 -- the ticket under which a task is listed, if it is
 abbrev pub listed : Option ℕ → Line → Option ℕ
@@ -62,6 +62,12 @@ listed (Some ticket) line = if is_some (find_waiter ticket line.waiters) then So
 -- those that wait once this one does no longer
 abbrev pub without : Option ℕ → List Waiter → List Waiter
 without ticket ws = option_map_or (λ t. without_waiter t ws) ticket ws
+
+-- This task is in the line no longer: it has left, or it has asked and did not wait.
+abbrev pub IsGone : Option ℕ → Line → Line → Type 0
+IsGone ticket line line' =
+    (line'.waiters ≡ without ticket line.waiters)
+    ⊎ ((waits_under ticket line ≡ false) × (line'.waiters ≡ after_asking ticket line))
 
 -- one more has let go of something, or one has dropped it: a count at the greatest `u64` stays there
 abbrev pub one_more : ℕ → ℕ

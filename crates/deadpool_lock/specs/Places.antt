@@ -11,12 +11,23 @@ module _ {W : Type 0} where
   abbrev pub waker_at : ℕ → List (Option W) → Option W
   waker_at number places = slice_index_or places number None
 
+  -- The places once a waker is lent to the place of a number, in exchange for the one that was kept there. If none is
+  -- lent, the one that was kept stays.
+  abbrev pub left_in : ℕ → Option W → List (Option W) → List (Option W)
+  left_in number (Some waker) places = slice_set places number (Some waker)
+  left_in number None places = places
+
+  -- what whoever lent it has then
+  abbrev pub taken_out : ℕ → Option W → List (Option W) → Option W
+  taken_out number (Some waker) places = waker_at number places
+  taken_out number None places = None
+
   -- What a party that had a number and has another does to the places in one poll, with its waker, and which waker is
   -- let go.
   abbrev pub Follows : Option ℕ → Option ℕ → List (Option W) → Option W → Option W → List (Option W) → Option W → Type 0
   Follows before (Some number) places waker spare places' waker' =
-      (places' ≡ slice_set places number waker)
-      × (waker' ≡ waker_at number places)
+      (places' ≡ left_in number waker places)
+      × (waker' ≡ taken_out number waker places)
       × (spare ≡ (if nat_lt number (length places) then None else waker))
   Follows (Some number) None places waker spare places' waker' =
       (places' ≡ slice_set places number None) × (waker' ≡ waker) × (spare ≡ waker_at number places)

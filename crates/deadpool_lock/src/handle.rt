@@ -1,5 +1,5 @@
 //! A counted handle of what is shared.
-ghost use Rattle.std.specs.Prelude.{◌≡◌, ℕ, IfOk};
+ghost use Rattle.std.specs.Prelude.{◌≡◌, ℕ, ⊤, IfOk};
 
 use futures::task::Source;
 use std::alloc::{AllocError, Global};
@@ -11,15 +11,22 @@ pub trait Counted {
     // The name of that source.
     ghost source_of: { Self → ℕ };
 
+    // What counting one handle more does to it, and one less.
+    ghost counts: { Self → Type 0 } = { λ _. ⊤ };
+
+    ghost uncounts: { Self → Type 0 } = { λ _. ⊤ };
+
     /// What each that waits registers with.
     fn source(&self) -> &Source
         ensures { result.now.id ≡ source_of self.now };
 
     /// There is one handle more.
-    fn clone_handle(&self);
+    fn clone_handle(&self)
+        ensures { counts self.now };
 
     /// There is one handle less.
-    fn drop_handle(&self);
+    fn drop_handle(&self)
+        ensures { uncounts self.now };
 }
 
 /// One owner of what is shared, which counts for no handle. Contracts see what is shared.
@@ -96,7 +103,8 @@ impl<S: Counted + Drop> Handle<S> {
 
     /// One handle more. If there is no memory for it, none was counted.
     pub fn clone(&self) -> Result<Self, AllocError>
-        ensures { IfOk result (λ handle. handle ≡ self.now) }
+        ensures handle { IfOk result (λ handle. handle ≡ self.now) }
+        ensures counted { IfOk result (λ _. S.counts self.now) }
     {
         let home = self.home.clone()?;
         home.shared().clone_handle();
@@ -119,7 +127,9 @@ impl<S: Counted + Drop> Handle<S> {
 }
 
 impl<S: Counted + Drop> Drop for Handle<S> {
-    fn drop(self) {
+    fn drop(self)
+        ensures { S.uncounts self }
+    {
         let Self { home } = self;
         home.shared().drop_handle();
     }

@@ -8,12 +8,14 @@ mod handle;
 mod lock;
 mod registration;
 mod request;
+mod step;
 mod wakers;
 
 pub use ended::DrainError;
-pub use ends::{Departure, Ends};
+pub use ends::{Departed, Departure, Ends};
 pub use handle::{Counted, Handle, Home};
-pub use lock::{Step, StepLock, Wakes};
-pub use registration::{Registration, wake_at};
+pub use lock::StepLock;
+pub use registration::{Registered, Registration, wake_at};
 pub use request::{Borrowed, Owned, Request, Stage};
+pub use step::{Owed, Step, Wakes};
 pub use wakers::Wakers;

@@ -1,18 +1,9 @@
-//! A lock whose steps tell those that wait.
+//! A lock whose steps tell those that wait, and after which their callers know that all were told.
 ghost use Rattle.std.specs.Prelude.{◌≡◌};
-ghost use Rattle.std.specs.Sync.Mutex.{mutex_guard_value};
 
-use futures::task::{Source, Waker};
+use crate::step::{Free, Step, Wakes};
+use futures::task::Source;
 use std::sync::{Mutex, MutexGuard, Wait};
-
-/// What a lock keeps in which tasks wait.
-pub trait Wakes {
-    /// Whether a task is due to be woken that was not named yet.
-    fn is_wake_due(&self) -> bool;
-
-    /// Names the next task that is due to be woken, and gives its waker, if there is one.
-    fn take_wake(&mut self) -> Option<Waker>;
-}
 
 /// A lock with the handle that it is taken by. A step takes it by `begin` and gives it back by `end`, which calls the
 /// wakers of those that are due then.
@@ -22,22 +13,6 @@ pub struct StepLock<L: Wakes, R: Wait> {
     rt: R,
     // What each of those that wait is woken by.
     source: Source,
-}
-
-/// The lock of a step that is under way. It cannot be dropped: `StepLock::end` alone takes it, so that no step leaves
-/// out to tell those that are due.
-pub struct Step<'a, L: Wakes> {
-    kept: MutexGuard<'a, L>,
-}
-
-impl<'a, L: Wakes> Step<'a, L> {
-    /// What the lock keeps.
-    #[inline]
-    pub fn kept(&mut self) -> &mut L
-        ensures { result.now ≡ mutex_guard_value self.old.kept }
-    {
-        &mut self.kept
-    }
 }
 
 impl<L: Wakes, R: Wait> StepLock<L, R> {
@@ -60,7 +35,12 @@ impl<L: Wakes, R: Wait> StepLock<L, R> {
     /// Takes the lock for one step. No code of a user's may run before it is given back.
     #[inline]
     pub fn begin(&self) -> Step<'_, L> {
-        Step { kept: self.look() }
+        Step::begin(self.look())
+    }
+
+    // Takes the lock once more.
+    fn begin_again(&self, _free: Free) -> Step<'_, L> {
+        self.begin()
     }
 
     /// Takes the lock for what makes nobody due, such as a status, and so tells nobody.
@@ -79,27 +59,37 @@ impl<L: Wakes, R: Wait> StepLock<L, R> {
     }
 
     /// Gives the lock back after a step. If the step left a task due to be woken, the wakers of all that are due are
-    /// called, one at a time and none of them under the lock.
+    /// called, one at a time and none of them under the lock. Then the seer knows of a moment after the step at which
+    /// nobody was due that was not named.
     #[inline]
-    pub fn end(&self, step: Step<'_, L>) {
-        let Step { kept } = step;
-        let is_due = kept.is_wake_due();
-        drop(kept);
+    pub fn end(&self, step: Step<'_, L>, seer: &mut L::Seer)
+        ensures keeps { L.keeps seer.old seer.new }
+        ensures quiet { L.is_quiet seer.new }
+    {
+        L::keeps_all();
+        let mut step = step;
+        let is_due = step.kept().is_wake_due(seer);
+        let free = step.give_back();
         if is_due {
-            self.call_due();
+            self.call_due(free, seer);
         }
     }
 
     #[cold]
     #[inline(never)]
-    fn call_due(&self) {
-        for _ in self.rt.forever() {
-            let mut kept = self.look();
-            let waker = kept.take_wake();
-            let is_due = kept.is_wake_due();
-            drop(kept);
-            if let Some(waker) = waker {
-                waker.wake();
+    fn call_due(&self, mut free: Free, seer: &mut L::Seer)
+        ensures keeps { L.keeps seer.old seer.new }
+        ensures quiet { L.is_quiet seer.new }
+    {
+        L::keeps_all();
+        'telling: for _ in self.rt.forever() {
+            let mut step = self.begin_again(free);
+            let kept = step.kept();
+            let owed = kept.take_wake();
+            let is_due = kept.is_wake_due(seer);
+            free = step.give_back();
+            if let Some(owed) = owed {
+                owed.pay(&free);
             }
             if !is_due {
                 return;

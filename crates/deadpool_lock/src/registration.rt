@@ -1,46 +1,74 @@
 //! How a future is told, and when it is to be polled again.
-ghost use Rattle.std.specs.Prelude.{◌≡◌, ◌⊎◌, true, None, IfSome, IsNone, IsSomeAnd};
-ghost use Rattle.futures.specs.Task.{Hears, IsArmed, Keeps, Wakes};
+ghost use Rattle.std.specs.Prelude.{◌≡◌, ◌⊎◌, true, None, is_some, IfSome, IsNone, IsSomeAnd};
+ghost use Rattle.futures.specs.Task.{Hears, IsArmed, Keeps};
+ghost use Rattle.deadpool_lock.specs.Asked.{IsOf};
 
 use deadpool_parts::{Clock, Moment};
 use futures::task::{Context, Poll, Source, Waker};
+use std::marker::Model;
 
 /// How a future is told: its own waker, and a source for one that has nothing else to wait for.
 #[derive(Drop)]
 pub struct Registration {
-    waker: Option<Waker>,
+    registered: Registered,
     nowhere: Source,
+}
+
+/// What a task has registered with: its waker, which a step that leaves it waiting keeps in exchange for the one that
+/// it kept before. A registration in a poll puts it there. Where there is none, as of nobody, the step keeps what it
+/// kept. A waker that is dropped wakes its task. Contracts see the waker.
+#[derive(Drop)]
+pub struct Registered {
+    pub(crate) waker: Option<Waker>,
+}
+
+impl Model for Registered {
+    ghost use Rattle.std.specs.Prelude.{Option};
+    ghost use Rattle.futures.specs.declared.task.waker.Waker.{Waker};
+
+    ghost Value = { Option Waker };
+
+    ghost view = { λ r. r.waker };
+}
+
+impl Registered {
+    /// What one has that hears nothing, such as an object that comes back. It cannot come to wait.
+    pub fn nobody() -> Self
+        ensures { result ≡ None }
+    {
+        Registered { waker: None }
+    }
+
+    /// Whether there is a waker. There is none if no memory was found for it, or of nobody.
+    pub fn has_waker(&self) -> bool
+        ensures { result ≡ is_some self.now }
+    {
+        self.waker.is_some()
+    }
 }
 
 impl Registration {
     /// Without a waker, which the first poll makes.
     pub fn new() -> Self
-        ensures { result.waker ≡ None }
+        ensures { result.registered ≡ None }
     {
         Registration {
-            waker: None,
+            registered: Registered::nobody(),
             nowhere: Source::new(),
         }
     }
 
     /// Registers the task that polls, before a step that may leave it waiting: with a source, or nowhere. Its waker is
     /// at hand then. If none could be made, the task asks for another poll.
-    pub fn register(&mut self, source: Option<&Source>, cx: &mut Context<'_>)
+    pub fn register(&mut self, source: Option<&Source>, cx: &mut Context<'_>) -> &mut Registered
         ensures armed { IsArmed cx.new }
         ensures heard { IfSome source.entry (λ s. Hears cx.new s.now.id) }
-        ensures left { (cx.new.lacks_waker ≡ true)
-            ⊎ IsSomeAnd self.new.waker (λ waker. Wakes waker cx.old) }
+        ensures left { IsOf result.now cx.new }
         ensures kept { Keeps cx.old cx.new }
     {
         let source = source.unwrap_or(&self.nowhere);
-        let _pending: Poll<()> = cx.register(source, &mut self.waker);
-    }
-
-    /// The waker that was left at the last registration, to be kept under the lock.
-    pub fn waker(&mut self) -> &mut Option<Waker>
-        ensures { result.now ≡ self.old.waker }
-    {
-        &mut self.waker
+        let _pending: Poll<()> = cx.register(source, &mut self.registered.waker);
+        &mut self.registered
     }
 }
 

@@ -1,12 +1,13 @@
 //! Futures that ask something of what is shared: one with a handle of its own, and one that borrows a handle.
 ghost use Rattle.std.specs.Prelude.{◌≡◌, ◌⊎◌, ⊤, Some, None, IfOk, IfErr, IfSome};
-ghost use Rattle.deadpool_lock.specs.Asked.{Asks, Gives, HasHandle, IsAsking, IsLeft, IsRefused, PollsAsked, Turns};
+ghost use Rattle.deadpool_lock.specs.Asked.{Asks, Gives, HasHandle, IsAsking, IsLeft, IsOf, IsRefused};
+ghost use Rattle.deadpool_lock.specs.Asked.{PollsAsked, Turns};
 ghost use Rattle.futures.specs.Poll.{IfReady, OnPending};
 ghost use Rattle.futures.specs.Task.{Covers, Hears, IsArmed, Keeps};
 ghost use Rattle.futures.specs.declared.task.Poll.{Poll};
 ghost use Rattle.deadpool_lock.specs.declared.request.Stage.{Stage as StageOf};
 
-use crate::{Counted, Handle, Registration};
+use crate::{Counted, Handle, Registered, Registration};
 use futures::Future;
 use futures::task::{Context, Poll, Source};
 use std::alloc::AllocError;
@@ -41,18 +42,19 @@ pub trait Request {
     // Relates it, while it asks, to what is left of it once it was given up.
     ghost cancels: { Self.Shared → Self → Self.Left → Type 0 } = { λ _ _ _. ⊤ };
 
-    /// One poll, in a task that has registered with what is shared before. A poll that gives an output ends the stage,
-    /// and may take what was kept there.
+    /// One poll, in a task that has registered with what is shared before, by the waker that it lends. A poll that
+    /// gives an output ends the stage, and may take what was kept there.
     fn poll(
         &mut self,
         stage: &mut Stage<Self::Kept>,
         shared: &Self::Shared,
-        registration: &mut Registration,
+        registered: &mut Registered,
         cx: &mut Context<'_>,
     ) -> Poll<Self::Output>
         requires asks { IsAsking stage.old }
         requires fits { fits stage.old self.old }
         requires registered { Hears cx.old (Self.Shared.source_of shared.now) }
+        requires heard { IsOf registered.old cx.old }
         ensures turns { Turns stage.old result stage.new }
         ensures gives { IfReady result (Gives gives refuses stage.old self.old) }
         ensures same { OnPending result
@@ -154,9 +156,10 @@ impl<Q: Request> Owned<Q> {
     #[inline(always)]
     pub fn give_up(self) -> Option<Q::Left>
         ensures left { IsLeft Q.cancels self.shared self.stage self.request result }
+        ensures uncounted { IfSome self.shared Q.Shared.uncounts }
     {
         if matches!(self.stage, Stage::Asking(_)) {
-            return Some(self.cancel());
+            return Some(self.cancel_and_let_go());
         }
         let Self {
             handle,
@@ -165,16 +168,19 @@ impl<Q: Request> Owned<Q> {
             registration: _,
         } = self;
         request.leave();
-        drop(handle);
+        if let Some(handle) = handle {
+            drop(handle);
+        }
         None
     }
 
     // Gives up a request that has not ended, and then the handle.
     #[cold]
     #[inline(never)]
-    fn cancel(self) -> Q::Left
+    fn cancel_and_let_go(self) -> Q::Left
         requires { IsAsking self.stage }
         ensures left { IsLeft Q.cancels self.shared self.stage self.request (Some result) }
+        ensures uncounted { IfSome self.shared Q.Shared.uncounts }
     {
         let Self {
             handle,
@@ -212,8 +218,8 @@ fn poll_stage<Q: Request>(
     if !matches!(stage, Stage::Asking(_)) {
         return poll_rest(stage, request, Some(shared.source()), registration, cx);
     }
-    registration.register(Some(shared.source()), cx);
-    request.poll(stage, shared, registration, cx)
+    let registered = registration.register(Some(shared.source()), cx);
+    request.poll(stage, shared, registered, cx)
 }
 
 // A poll of one that asks nothing, with what it registers with, if there is anything.
@@ -290,7 +296,10 @@ impl<Q: Request> Future for Owned<Q> {
 
 impl<Q: Request> Drop for Owned<Q> {
     #[inline(always)]
-    fn drop(self) {
+    fn drop(self)
+        ensures left { (left : _) × IsLeft Q.cancels self.shared self.stage self.request left }
+        ensures uncounted { IfSome self.shared Q.Shared.uncounts }
+    {
         drop(self.give_up());
     }
 }
@@ -422,7 +431,10 @@ impl<'a, Q: Request> Future for Borrowed<'a, Q> {
 
 impl<'a, Q: Request> Drop for Borrowed<'a, Q> {
     #[inline(always)]
-    fn drop(self) {
+    fn drop(self)
+        ensures { (left : _)
+            × IsLeft Q.cancels self.entry.shared self.entry.stage self.entry.request left }
+    {
         drop(self.give_up());
     }
 }

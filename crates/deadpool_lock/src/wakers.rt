@@ -1,7 +1,9 @@
 //! The wakers of those that wait in a gate. A ticket's number says where its waker is, so none is searched for.
-ghost use Rattle.std.specs.Prelude.{◌≡◌, ◌<◌, nat_lt, slice_set, length, [], None, IsTrue, IsFalse, OnOk, OnErr};
-ghost use Rattle.deadpool_lock.specs.Places.{with_room, waker_at, Follows};
+ghost use Rattle.std.specs.Prelude.{◌≡◌, ◌<◌, true, is_some, nat_lt, slice_set, length, [], None};
+ghost use Rattle.std.specs.Prelude.{IsTrue, IsFalse, OnOk, OnErr};
+ghost use Rattle.deadpool_lock.specs.Places.{Follows, left_in, taken_out, waker_at, with_room};
 
+use crate::{Owed, Registered};
 use deadpool_gate::gate::Ticket;
 use futures::task::Waker;
 use std::alloc::{AllocError, Global};
@@ -34,13 +36,17 @@ impl Wakers {
         }
     }
 
-    /// Sees that there is a place for a ticket of this number, as the gate names it to whom it lists next. If no
-    /// memory is found, the places are as they were.
-    pub fn make_room(&mut self, number: usize) -> Result<(), AllocError>
+    /// Sees that there is a place for a ticket of this number, as the gate names it to whom it lists next, and a waker
+    /// for that place. If there is no waker, or no memory for the place, the places are as they were.
+    pub fn make_room(&mut self, number: usize, registered: &Registered) -> Result<(), AllocError>
         ensures room { OnOk result (self.new ≡ with_room number self.old) }
         ensures place { OnOk result (number < length self.new) }
-        ensures memory { OnErr result (self.new ≡ self.old) }
+        ensures heard { OnOk result (is_some registered.now ≡ true) }
+        ensures refused { OnErr result (self.new ≡ self.old) }
     {
+        if !registered.has_waker() {
+            return Err(AllocError);
+        }
         let Some(wanted) = number.checked_add(1) else {
             return Err(AllocError);
         };
@@ -52,19 +58,30 @@ impl Wakers {
         Ok(())
     }
 
-    /// Exchanges the waker of a ticket. False if the ticket has no place, and nothing has changed.
-    pub fn exchange(&mut self, ticket: Ticket, waker: &mut Option<Waker>) -> bool
+    /// Exchanges the waker of a ticket. Where no other is lent, the one that is kept stays. False if the ticket has no
+    /// place, and nothing has changed.
+    pub fn exchange(&mut self, ticket: Ticket, registered: &mut Registered) -> bool
         ensures has { result ≡ nat_lt ticket (length self.old) }
-        ensures exchanged { IsTrue result → (self.new ≡ slice_set self.old ticket waker.old)
-            × (waker.new ≡ waker_at ticket self.old) }
-        ensures unchanged { IsFalse result → (self.new ≡ self.old) × (waker.new ≡ waker.old) }
+        ensures exchanged { IsTrue result → (self.new ≡ left_in ticket registered.old self.old)
+            × (registered.new ≡ taken_out ticket registered.old self.old) }
+        ensures unchanged { IsFalse result → (self.new ≡ self.old)
+            × (registered.new ≡ registered.old) }
     {
         let number = ticket.number();
         let has_place = number < self.places.len();
-        if has_place {
-            mem::swap(&mut self.places[number], waker);
+        if has_place && registered.has_waker() {
+            mem::swap(&mut self.places[number], &mut registered.waker);
         }
         has_place
+    }
+
+    /// Takes out the waker of a ticket whose holder is told. It is to be called.
+    pub fn tell(&mut self, ticket: Ticket) -> Option<Owed>
+        ensures waker { result ≡ waker_at ticket self.old }
+        ensures places { self.new ≡ slice_set self.old ticket None }
+    {
+        let waker = self.take(ticket)?;
+        Some(Owed::new(waker))
     }
 
     /// Takes out the waker of a ticket.
@@ -72,28 +89,27 @@ impl Wakers {
         ensures waker { result ≡ waker_at ticket self.old }
         ensures places { self.new ≡ slice_set self.old ticket None }
     {
-        let mut waker = None;
-        self.exchange(ticket, &mut waker);
-        waker
+        let place = self.places.get_mut(ticket.number())?;
+        place.take()
     }
 
     /// Goes with one poll of a party, which had the ticket `before` and has the ticket `after`. If it waits, its waker
-    /// is kept, in exchange for the one that was; if it waits no longer, the answer is the waker that was kept for it.
-    /// A waker that finds no place is the answer too.
+    /// is kept, in exchange for the one that was, which stays if it has none; if it waits no longer, the answer is the
+    /// waker that was kept for it. A waker that finds no place is the answer too.
     pub fn follow(
         &mut self,
         before: Option<Ticket>,
         after: Option<Ticket>,
-        waker: &mut Option<Waker>,
+        registered: &mut Registered,
     ) -> Option<Waker>
-        ensures { Follows before after self.old waker.old result self.new waker.new }
+        ensures { Follows before after self.old registered.old result self.new registered.new }
     {
         match (before, after) {
             (_, Some(ticket)) => {
-                if self.exchange(ticket, waker) {
+                if self.exchange(ticket, registered) {
                     None
                 } else {
-                    waker.take()
+                    registered.waker.take()
                 }
             }
             (Some(ticket), None) => self.take(ticket),

@@ -16,7 +16,7 @@ pub use Rattle.deadpool_managed.specs.FirstPoll.{EndsAt, TakesFirst, ChecksAs, C
 pub use Rattle.deadpool_managed.specs.Get.{Made, no_step, making, Makes, IsReport, IsServing, AfterServed, AfterCreated}
 pub use Rattle.deadpool_managed.specs.Get.{AfterCreation, AfterDiscard, AfterPrepared, AfterChecked, AdvancesCreation}
 pub use Rattle.deadpool_managed.specs.Get.{AdvancesFrom, Advanced, Advances, PollsOver, ended_by, CancelsFrom}
-pub use Rattle.deadpool_managed.specs.Holds.{held_at}
+pub use Rattle.deadpool_managed.specs.Holds.{WaitsUnder, held_at, ticket_at}
 pub use Rattle.deadpool_managed.specs.HookLists.{HookLists}
 pub use Rattle.deadpool_managed.specs.Outside.{May, Asking, PollCreation, PollHook, PollRecycling, Question, Answer}
 pub use Rattle.deadpool_managed.specs.Outside.{may, may_hook, BeginCreation, BeginRecycling, CallHook, BeginHook}
@@ -47,7 +47,7 @@ pub use Rattle.futures.specs.Task.{Keeps}
 pub use Rattle.futures.specs.declared.task.Poll.{Poll}
 pub use Rattle.std.proofs.Common.{ap, ◌≡◌, ◌≢◌, ◌<◌, ℕ, Bool, List, [], ◌∷◌, map, true, false, Option, Some, None}
 pub use Rattle.std.proofs.Common.{Result, Ok, Err, refl, sym, ◌∙◌, subst, inl, inr, arith, ◌+◌, drop, ◌-◌, ◌++◌, length}
-pub use Rattle.std.proofs.Common.{not, ◌⊎◌, get_or, drop-cons, add-one, take, length-drop, length-take}
+pub use Rattle.std.proofs.Common.{not, ◌≤◌, ◌⊎◌, get_or, drop-cons, add-one, take, length-drop, length-take}
 pub use Rattle.std.proofs.lemmas.Bool.{cases_Bool}
 pub use Rattle.std.proofs.lemmas.List.{nil_from_length, reverse-append, reverse-reverse, take_more, take_all, drop_all}
 pub use Rattle.std.proofs.lemmas.Option.{slice_get-get_or}

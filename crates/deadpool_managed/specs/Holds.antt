@@ -1,5 +1,5 @@
--- What a get holds at its desk at each stage, and after each turn.
-use Rattle.std.specs.Prelude.{Bool, true, false, Ok, Err, Option, Some, None}
+-- What a get holds at its desk at each stage, and after each turn, and under which ticket it waits there.
+use Rattle.std.specs.Prelude.{◌≡◌, ℕ, Bool, true, false, Ok, Err, Option, Some, None}
 use Rattle.deadpool_managed.specs.Stages.{Stage, Unpolled, Queued, Going, Creating, Recycling, Checking, Finished}
 use Rattle.deadpool_managed.specs.declared.get.Turn.{Turn}
 use Rattle.deadpool_managed.specs.declared.get.Turn.TheVariants.{Done}
@@ -15,6 +15,15 @@ held_at (Creating begun deadline) = Some held.Creation
 held_at (Recycling preparation allowance) = Some held.Object
 held_at (Checking slot at) = Some held.Object
 held_at Finished = None
+
+-- the ticket under which it waits
+abbrev pub ticket_at : {V C R S : Type 0} → Stage V C R S → Option ℕ
+ticket_at (Queued ticket deadline) = Some ticket
+ticket_at _ = None
+
+-- it waits under no ticket but one of these
+abbrev pub WaitsUnder : {V C R S : Type 0} → (ℕ → Type 0) → Stage V C R S → Type 0
+WaitsUnder may_wait stage = (ticket : ℕ) → ticket_at stage ≡ Some ticket → may_wait ticket
 
 -- what a get holds after a turn: an object that was given stands for itself, and a get that failed holds nothing
 abbrev pub held_after : {V E C R S : Type 0} → Stage V C R S → Turn V E → Option Held

@@ -6,7 +6,7 @@ ghost use Rattle.futures.specs.Task.{Keeps};
 ghost use Rattle.deadpool_managed.specs.Bounds.{Decreases};
 ghost use Rattle.deadpool_managed.specs.Outside.{may};
 ghost use Rattle.deadpool_managed.specs.Get.{IfReadyObject, deadline_of};
-ghost use Rattle.deadpool_managed.specs.Holds.{is_going, held_at, held_after};
+ghost use Rattle.deadpool_managed.specs.Holds.{WaitsUnder, is_going, held_at, held_after};
 ghost use Rattle.deadpool_managed.specs.Kinds.{kind_of};
 ghost use Rattle.deadpool_managed.specs.Steps.{AdvancesAt, PollsAt, CancelsAt, lent};
 ghost use Rattle.deadpool_managed.specs.Stages.{Unpolled};
@@ -90,7 +90,8 @@ impl<M: Manager, A: AsyncHook<M>> GetState<M, A> {
         now: Moment,
         cx: &mut Context<'_>,
     ) -> Turn<M::Type, M::Error>
-        requires { D.holds desk.old (held_at self.old.stage) }
+        requires holds { D.holds desk.old (held_at self.old.stage) }
+        requires waits { WaitsUnder (D.waits desk.old) self.old.stage }
         ensures advanced { AdvancesAt D.Desk
             (lent M.Manager F.SyncHook A.AsyncHook environment.now now self.old.timeouts)
             desk.old self.old.stage desk.new self.new.stage result }
@@ -112,7 +113,8 @@ impl<M: Manager, A: AsyncHook<M>> GetState<M, A> {
         now: Moment,
         cx: &mut Context<'_>,
     ) -> Turn<M::Type, M::Error>
-        requires { D.holds desk.old (held_at self.old.stage) }
+        requires holds { D.holds desk.old (held_at self.old.stage) }
+        requires waits { WaitsUnder (D.waits desk.old) self.old.stage }
         ensures polled { PollsAt D.Desk
             (lent M.Manager F.SyncHook A.AsyncHook environment.now now self.old.timeouts)
             desk.old self.old.stage desk.new self.new.stage result }
@@ -131,7 +133,8 @@ impl<M: Manager, A: AsyncHook<M>> GetState<M, A> {
         desk: &mut D,
         environment: &Environment<M, F, A>,
     )
-        requires { D.holds desk.old (held_at self.stage) }
+        requires holds { D.holds desk.old (held_at self.stage) }
+        requires waits { WaitsUnder (D.waits desk.old) self.stage }
         ensures cancelled { CancelsAt D.Desk
             (may M.Manager F.SyncHook A.AsyncHook environment.now.manager)
             desk.old self.stage desk.new }

@@ -4,7 +4,7 @@ ghost use Rattle.futures.specs.Task.{Keeps};
 ghost use Rattle.deadpool_managed.specs.Bounds.{Decreases};
 ghost use Rattle.deadpool_managed.specs.Outside.{may};
 ghost use Rattle.deadpool_managed.specs.Get.{IfReadyObject, deadline_of};
-ghost use Rattle.deadpool_managed.specs.Holds.{is_going, held_at, held_after};
+ghost use Rattle.deadpool_managed.specs.Holds.{WaitsUnder, is_going, held_at, held_after};
 ghost use Rattle.deadpool_managed.specs.Kinds.{kind_of};
 ghost use Rattle.deadpool_managed.specs.Phases.{stage_of, turn_of};
 ghost use Rattle.deadpool_managed.specs.Steps.{AdvancesAt, PollsAt, CancelsAt, lent};
@@ -72,7 +72,9 @@ impl<M: Manager, A: AsyncHook<M>> Progress<M, A> {
         now: Moment,
         cx: &mut Context<'_>,
     ) -> Turn<M::Type, M::Error>
-        requires { D.holds desk.old (held_at (stage_of self.old.phase self.old.slot)) }
+        requires holds { D.holds desk.old (held_at (stage_of self.old.phase self.old.slot)) }
+        requires waits { WaitsUnder (D.waits desk.old)
+            (stage_of self.old.phase self.old.slot) }
         ensures advanced { AdvancesAt D.Desk
             (lent M.Manager F.SyncHook A.AsyncHook environment.now now timeouts.now)
             desk.old (stage_of self.old.phase self.old.slot)
@@ -98,7 +100,9 @@ impl<M: Manager, A: AsyncHook<M>> Progress<M, A> {
         now: Moment,
         cx: &mut Context<'_>,
     ) -> Turn<M::Type, M::Error>
-        requires { D.holds desk.old (held_at (stage_of self.old.phase self.old.slot)) }
+        requires holds { D.holds desk.old (held_at (stage_of self.old.phase self.old.slot)) }
+        requires waits { WaitsUnder (D.waits desk.old)
+            (stage_of self.old.phase self.old.slot) }
         ensures polled { PollsAt D.Desk
             (lent M.Manager F.SyncHook A.AsyncHook environment.now now timeouts.now)
             desk.old (stage_of self.old.phase self.old.slot)
@@ -121,7 +125,9 @@ impl<M: Manager, A: AsyncHook<M>> Progress<M, A> {
         now: Moment,
         cx: &mut Context<'_>,
     ) -> Came<M::Error>
-        requires { D.holds desk.old (held_at (stage_of self.old.phase self.old.slot)) }
+        requires holds { D.holds desk.old (held_at (stage_of self.old.phase self.old.slot)) }
+        requires waits { WaitsUnder (D.waits desk.old)
+            (stage_of self.old.phase self.old.slot) }
         ensures polled { PollsAt D.Desk
             (lent M.Manager F.SyncHook A.AsyncHook environment.now now timeouts.now)
             desk.old (stage_of self.old.phase self.old.slot)
@@ -151,7 +157,9 @@ impl<M: Manager, A: AsyncHook<M>> Progress<M, A> {
         desk: &mut D,
         environment: &Environment<M, F, A>,
     )
-        requires { D.holds desk.old (held_at (stage_of self.old.phase self.old.slot)) }
+        requires holds { D.holds desk.old (held_at (stage_of self.old.phase self.old.slot)) }
+        requires waits { WaitsUnder (D.waits desk.old)
+            (stage_of self.old.phase self.old.slot) }
         ensures cancelled { CancelsAt D.Desk
             (may M.Manager F.SyncHook A.AsyncHook environment.now.manager)
             desk.old (stage_of self.old.phase self.old.slot) desk.new }

@@ -5,7 +5,7 @@ ghost use Rattle.std.specs.Prelude.{◌≡◌, true, false, Some, None};
 ghost use Rattle.futures.specs.Task.{Keeps};
 ghost use Rattle.deadpool_managed.specs.Bounds.{lacks_allowance, Decreases};
 ghost use Rattle.deadpool_managed.specs.Outside.{may};
-ghost use Rattle.deadpool_managed.specs.Holds.{is_going, held_at};
+ghost use Rattle.deadpool_managed.specs.Holds.{WaitsUnder, is_going, held_at};
 ghost use Rattle.deadpool_managed.specs.Kinds.{kind_of};
 ghost use Rattle.deadpool_managed.specs.Get.{Makes, deadline_of, making};
 ghost use Rattle.deadpool_desk.specs.declared.step.Held.{Held};
@@ -73,6 +73,7 @@ impl<M: Manager, A: AsyncHook<M>> Work<M, A> {
         cx: &mut Context<'_>,
     ) -> Came<M::Error>
         requires placed { IsPlaced M.is_ready self.old.phase self.old.slot }
+        requires waits { WaitsUnder (D.waits desk.old) (stage_at self.old) }
         requires holds { D.holds desk.old (held_at (stage_at self.old)) }
         ensures advanced { AdvancesAt D.Desk
             (lent M.Manager F.SyncHook A.AsyncHook environment.now now timeouts.now)
@@ -98,6 +99,7 @@ impl<M: Manager, A: AsyncHook<M>> Work<M, A> {
         cx: &mut Context<'_>,
     ) -> Came<M::Error>
         requires placed { IsPlaced M.is_ready self.old.phase self.old.slot }
+        requires waits { WaitsUnder (D.waits desk.old) (stage_at self.old) }
         requires holds { D.holds desk.old (held_at (stage_at self.old)) }
         ensures polled { PollsAt D.Desk
             (lent M.Manager F.SyncHook A.AsyncHook environment.now now timeouts.now)
@@ -142,6 +144,7 @@ impl<M: Manager, A: AsyncHook<M>> Work<M, A> {
     ) -> Came<M::Error>
         requires placed { IsPlaced M.is_ready self.old.phase self.old.slot }
         requires lacks { lacks_allowance (stage_at self.old) ≡ true }
+        requires waits { WaitsUnder (D.waits desk.old) (stage_at self.old) }
         requires holds { D.holds desk.old (held_at (stage_at self.old)) }
         ensures advanced { AdvancesAt D.Desk
             (lent M.Manager F.SyncHook A.AsyncHook environment.now now timeouts.now)
@@ -167,6 +170,7 @@ impl<M: Manager, A: AsyncHook<M>> Work<M, A> {
     ) -> Came<M::Error>
         requires placed { IsPlaced M.is_ready self.old.phase self.old.slot }
         requires has { lacks_allowance (stage_at self.old) ≡ false }
+        requires waits { WaitsUnder (D.waits desk.old) (stage_at self.old) }
         requires holds { D.holds desk.old (held_at (stage_at self.old)) }
         ensures advanced { AdvancesAt D.Desk
             (lent M.Manager F.SyncHook A.AsyncHook environment.now now timeouts.now)
@@ -195,6 +199,7 @@ impl<M: Manager, A: AsyncHook<M>> Work<M, A> {
     ) -> Came<M::Error>
         requires placed { IsPlaced M.is_ready self.old.phase self.old.slot }
         requires pending { IsPending self.old.phase }
+        requires waits { WaitsUnder (D.waits desk.old) (stage_at self.old) }
         requires holds { D.holds desk.old (held_at (stage_at self.old)) }
         ensures advanced { AdvancesAt D.Desk
             (lent M.Manager F.SyncHook A.AsyncHook environment.now now timeouts.now)
@@ -299,6 +304,7 @@ impl<M: Manager, A: AsyncHook<M>> Work<M, A> {
         environment: &Environment<M, F, A>,
     )
         requires placed { IsPlaced M.is_ready self.old.phase self.old.slot }
+        requires waits { WaitsUnder (D.waits desk.old) (stage_at self.old) }
         requires holds { D.holds desk.old (held_at (stage_at self.old)) }
         ensures cancelled { CancelsAt D.Desk
             (may M.Manager F.SyncHook A.AsyncHook environment.now.manager)

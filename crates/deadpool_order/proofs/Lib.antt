@@ -1,2 +1,3 @@
 -- Lemmas on the way to an end.
 pub mod Ranks
+pub mod Waits

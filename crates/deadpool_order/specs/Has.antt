@@ -1,6 +1,7 @@
 -- What a get has at each state of its order, and after each reply: what it holds at the desk, its entry in the queue,
 -- and an object in the hand.
-use Rattle.std.specs.Prelude.{⊤, ℕ, IsSome, Option, Some, None, true}
+use Rattle.std.specs.Prelude.{◌≡◌, ⊤, ℕ, IsSome, Option, Some, None, true}
+use Rattle.deadpool_desk.specs.declared.slot.Slot.{Slot}
 use Rattle.deadpool_desk.specs.declared.step.Held.{Held}
 use Rattle.deadpool_desk.specs.declared.step.Held.TheVariants as held
 use Rattle.deadpool_desk.specs.declared.step.Reply.{Reply}
@@ -45,6 +46,10 @@ waits_in (state.Queued ticket) = Some ticket
 waits_in (state.Withdrawing ticket cause) = Some ticket
 waits_in _ = None
 
+-- it waits under no ticket but one of these
+abbrev pub WaitsUnder : (ℕ → Type 0) → State → Type 0
+WaitsUnder may_wait state = (ticket : ℕ) → waits_in state ≡ Some ticket → may_wait ticket
+
 -- how many objects are in the hand of which no detach has begun
 abbrev pub whole_in : State → ℕ
 whole_in (state.PreRecycling at) = 1
@@ -65,6 +70,11 @@ whole_in _ = 0
 abbrev pub IsInHand : {O : Type 0} → State → Option O → Type 0
 IsInHand state.Returning hand = IsSome hand
 IsInHand _ hand = ⊤
+
+-- and has one of these numbers
+abbrev pub IsOwnInHand : {T : Type 0} → (ℕ → Type 0) → State → Option (Slot T) → Type 0
+IsOwnInHand may_have state.Returning (Some slot) = may_have slot.number
+IsOwnInHand may_have _ hand = ⊤
 
 -- the ticket, after a reply
 abbrev pub waits_by : Reply → Option ℕ

@@ -2,7 +2,7 @@
 ghost use Rattle.std.specs.Prelude.{◌≡◌, ◌≤◌, Option};
 ghost use Rattle.deadpool_order.specs.Commands.{Fits};
 ghost use Rattle.deadpool_order.specs.Ends.{Ends, IsOver, Nears, rank};
-ghost use Rattle.deadpool_order.specs.Has.{IsInHand, held_in};
+ghost use Rattle.deadpool_order.specs.Has.{IsInHand, IsOwnInHand, WaitsUnder, held_in, waits_in};
 ghost use Rattle.deadpool_order.specs.declared.state.State.{State};
 
 use crate::{Cause, Command, HookCounts, Order};
@@ -33,6 +33,8 @@ pub fn finish<T: Drop, D: Desk<T>, C: Calls<T>>(
     requires ends { Ends order.old.state }
     requires fits { Fits order.old.state first }
     requires hand { IsInHand order.old.state hand.old }
+    requires own { IsOwnInHand (D.takes_back desk.old) order.old.state hand.old }
+    requires waits { WaitsUnder (D.waits desk.old) order.old.state }
     requires holds { D.holds desk.old (held_in order.old.state) }
     ensures over { IsOver order.new.state }
     ensures holds { D.holds desk.new Option.None }
@@ -61,9 +63,13 @@ fn execute<T: Drop, D: Desk<T>, C: Calls<T>>(
     requires goes_on { IsOver order.old.state → ⊥ }
     requires fits { Fits order.old.state command }
     requires hand { IsInHand order.old.state hand.old }
+    requires own { IsOwnInHand (D.takes_back desk.old) order.old.state hand.old }
+    requires waits { WaitsUnder (D.waits desk.old) order.old.state }
     requires holds { D.holds desk.old (held_in order.old.state) }
     ensures fits { Fits order.new.state result }
     ensures hand { IsInHand order.new.state hand.new }
+    ensures own { IsOwnInHand (D.takes_back desk.new) order.new.state hand.new }
+    ensures waits { waits_in order.new.state ≡ Option.None }
     ensures holds { D.holds desk.new (held_in order.new.state) }
     ensures nears { Nears order.old.state order.new.state }
 {
@@ -115,6 +121,7 @@ fn next_after(order: &mut Order, next: Command, has_come_back: bool) -> Command
     ensures ends { Ends order.new.state }
     ensures fits { Fits order.new.state result }
     ensures held { held_in order.new.state ≡ held_in order.old.state }
+    ensures waits { waits_in order.new.state ≡ waits_in order.old.state }
     ensures rank { rank order.new.state ≤ rank order.old.state }
     ensures passed { order.new.state ≡ State.Returning → ⊥ }
 {

@@ -1,6 +1,6 @@
 //! The order, the step that it has, and the replies that it is told.
 ghost use Rattle.std.specs.Prelude.{◌≡◌, ◌↔◌, IsTrue, Some, None};
-ghost use Rattle.deadpool_desk.specs.Replies.{IsReplyTo, held_if_served, left_by, needed};
+ghost use Rattle.deadpool_desk.specs.Replies.{IsReplyTo, held_if_served, left_by, named, needed};
 ghost use Rattle.deadpool_desk.specs.declared.step.Held.{Held};
 ghost use Rattle.deadpool_order.specs.Commands.{Fits, IsMaking, step_in};
 ghost use Rattle.deadpool_order.specs.Ends.{Ends, IsOver, Nears};
@@ -92,6 +92,7 @@ impl Order {
         requires { IsMaking self.now.state }
         ensures step { step_in self.now.left self.now.state ≡ Some result }
         ensures needs { needed result ≡ held_in self.now.state }
+        ensures names { named result ≡ waits_in self.now.state }
     {
         match &self.state {
             State::Entering { wait } => Step::Enter { wait: *wait },

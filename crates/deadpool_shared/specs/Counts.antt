@@ -1,14 +1,13 @@
 -- The three counts of a pool, and what one holder has of them.
-use Rattle.std.specs.Prelude.{◌≡◌, ℕ, ◌+◌, ◌-◌, ◌≤◌, ⊤, [], Option, Some, None}
+use Rattle.std.specs.Prelude.{◌≡◌, ℕ, ◌+◌, ◌-◌, ◌≤◌, ⊤, [], Option, Some, None, IsSome}
 use Rattle.deadpool_chronicle.specs.History.{Knowing}
+use Rattle.deadpool_history.specs.Own.{held_in, waits_in}
 use Rattle.deadpool_history.specs.declared.line.Line.{Line}
 use Rattle.deadpool_journal.specs.Journaling.{Journaling}
 use Rattle.deadpool_desk.specs.declared.step.Held.{Held}
 use Rattle.deadpool_desk.specs.declared.step.Held.TheVariants as held
 use Rattle.deadpool_desk.specs.declared.step.Reply.{Reply}
 use Rattle.deadpool_desk.specs.declared.step.Reply.TheVariants.{Unknown}
-use Rattle.deadpool_desk.specs.declared.step.Step.{Step}
-use Rattle.deadpool_desk.specs.declared.step.Step.TheVariants.{Ask, Withdraw}
 
 -- places of gets that hold nothing else, of creations under way, and of objects that are not idle
 pub record Counts : Type 0 where
@@ -46,6 +45,25 @@ abbrev pub caller_of : Option Holder → Option (Knowing Line)
 caller_of (Some h) = Some h.caller
 caller_of None = None
 
+-- the object that its caller has by its own lines
+abbrev pub held_by : Option Holder → Option ℕ
+held_by (Some h) = held_in h.caller.mine
+held_by None = None
+
+-- and the ticket under which it waits by them
+abbrev pub waits_by : Option Holder → Option ℕ
+waits_by (Some h) = waits_in h.caller.mine
+waits_by None = None
+
+-- who has an object has one by its lines
+abbrev pub HasObject : Option Held → Option ℕ → Type 0
+HasObject (Some held.Object) has = IsSome has
+HasObject _ has = ⊤
+
+-- a holder has this
+abbrev pub IsHeldBy : Option Holder → Option Held → Type 0
+IsHeldBy holder what = (had holder ≡ counts_of what) × HasObject what (held_by holder)
+
 -- a caller that has made no step and has let nobody in yet
 abbrev pub IsNewCaller : Knowing Line → Type 0
 IsNewCaller c = (c.mine ≡ []) × (c.admitted ≡ 0)
@@ -65,12 +83,10 @@ shifted old new c =
 abbrev pub counted : {T : Type 0} → Journaling T → Counts
 counted j = counts j.core.desk.going j.core.desk.creations j.core.desk.outside
 
--- The pool knew what the holder has. Only a ticket may be unknown: nobody's share says that it is in the queue.
-abbrev pub IsKnown : Step → Reply → Type 0
-IsKnown (Ask ticket expired) reply = ⊤
-IsKnown (Withdraw ticket) reply = ⊤
-IsKnown _ Unknown = ⊥
-IsKnown _ _ = ⊤
+-- the pool knew what the holder has, and its ticket
+abbrev pub IsKnown : Reply → Type 0
+IsKnown Unknown = ⊥
+IsKnown _ = ⊤
 
 -- what a holder has is in the counts of all
 abbrev pub AreIn : Counts → Counts → Type 0

@@ -1,13 +1,15 @@
 -- How a drain ends, and which calls it makes for its caller.
-use Rattle.std.specs.Prelude.{◌≡◌, ◌⊎◌, ◌<◌, ℕ, Bool, true, false, Option, Some, None, Result, Ok, Err}
+use Rattle.std.specs.Prelude.{⊤, List, [], ◌∷◌, ◌≡◌, ◌≢◌, ◌<◌, ℕ, Bool, true, false, Option, Some, None, Result}
+use Rattle.std.specs.Prelude.{Ok, Err}
 use Rattle.futures.specs.declared.task.Poll.{Poll}
 use Rattle.futures.specs.declared.task.Poll.TheVariants.{Ready, Pending}
-use Rattle.deadpool_chronicle.specs.History.{Knowing}
+use Rattle.deadpool_chronicle.specs.History.{Knowing, SeesMore}
 use Rattle.deadpool_desk.specs.Closing.{HasSome, IsEmpty}
 use Rattle.deadpool_desk.specs.declared.owner_step.OwnerReply.TheVariants as owner_reply
 use Rattle.deadpool_desk.specs.declared.owner_step.OwnerStep.TheVariants as owner_step
-use Rattle.deadpool_history.specs.History.{HasCalled}
+use Rattle.deadpool_history.specs.History.{HasCalled, ThenTells}
 use Rattle.deadpool_history.specs.declared.line.Line.{Line}
+use Rattle.deadpool_history.specs.declared.line.Line.TheVariants.{Next}
 use Rattle.deadpool_journal.specs.declared.entry.Entry.TheVariants.{Owner}
 use Rattle.deadpool_lock.specs.Ends.{status_in}
 use Rattle.deadpool_lock.specs.declared.ended.DrainError.{DrainError}
@@ -33,10 +35,19 @@ EndsAt is_drained departing is_late (Err (OutOfMemory status)) =
 EndsAt is_drained departing is_late (Err (Departing status)) =
     IsEmpty status × (is_drained ≡ true) × (0 < departing)
 
--- The pool is closed by a call of this caller's, which a caller of before need not make if it was closed already.
+-- none of these lines closes the pool
+abbrev pub NoneCloses : List Line → Type 0
+NoneCloses [] = ⊤
+NoneCloses (line ∷ lines) = (line ≢ Next (Owner owner_step.Close owner_reply.Done)) × NoneCloses lines
+
+-- it has closed the pool
+abbrev pub IsCloser : Knowing Line → Type 0
+IsCloser c = NoneCloses c.mine → ⊥
+
+-- The first poll of a drain closes the pool. A later one makes no such call, as it stays closed.
 abbrev pub HasClosed : Bool → Knowing Line → Knowing Line → Type 0
 HasClosed true c c' = HasCalled (λ e. e ≡ Owner owner_step.Close owner_reply.Done) c c'
-HasClosed false c c' = HasCalled (λ e. e ≡ Owner owner_step.Close owner_reply.Done) c c' ⊎ (c' ≡ c)
+HasClosed false c c' = SeesMore c c'
 
 -- After that a drain that ends asks for the status that it gives, and one that waits on asks for nothing.
 abbrev pub HasEnded : Poll (Result Status DrainError) → Knowing Line → Knowing Line → Type 0
@@ -46,8 +57,12 @@ HasEnded Pending c c' = c' ≡ c
 abbrev pub CallsOfDrain : Bool → Poll (Result Status DrainError) → Knowing Line → Knowing Line → Type 0
 CallsOfDrain is_first polled c c' = (closed : Knowing Line) × (HasClosed is_first c closed × HasEnded polled closed c')
 
+-- and after them it knows that all are told
+abbrev pub DrainsAndTells : Bool → Poll (Result Status DrainError) → Knowing Line → Knowing Line → Type 0
+DrainsAndTells is_first polled c c' = ThenTells (CallsOfDrain is_first polled) c c'
+
 -- One poll of a drain, whose caller is a new one at the first.
 abbrev pub PollsDrain : Option (Knowing Line) → Poll (Result Status DrainError) → Option (Knowing Line) → Type 0
-PollsDrain (Some c) polled (Some c') = CallsOfDrain false polled c c'
-PollsDrain None polled (Some c') = (new : Knowing Line) × (IsNewCaller new × CallsOfDrain true polled new c')
+PollsDrain (Some c) polled (Some c') = DrainsAndTells false polled c c'
+PollsDrain None polled (Some c') = (new : Knowing Line) × (IsNewCaller new × DrainsAndTells true polled new c')
 PollsDrain _ polled None = ⊥

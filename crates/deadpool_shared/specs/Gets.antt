@@ -1,6 +1,6 @@
 -- A get of the pool, as contracts see it, what it gives to who polls it, and what its poll is at its seat.
 use Rattle.std.specs.Option.{option_or}
-use Rattle.std.specs.Prelude.{◌≡◌, ℕ, Option, Some, None, Result, Ok, Err, IfOk}
+use Rattle.std.specs.Prelude.{◌≡◌, ⊤, ℕ, Option, Some, None, Result, Ok, Err, IfOk}
 use Rattle.futures.specs.declared.task.Poll.{Poll}
 use Rattle.futures.specs.declared.task.Poll.TheVariants as poll
 use Rattle.deadpool_chronicle.specs.History.{Knowing}
@@ -13,17 +13,18 @@ use Rattle.deadpool_journal.specs.ByNumber.{number_in}
 use Rattle.deadpool_desk.specs.declared.step.Held.{Held}
 use Rattle.deadpool_lock.specs.declared.request.Stage.{Stage as Future}
 use Rattle.deadpool_lock.specs.declared.request.Stage.TheVariants.{Asking}
-use Rattle.deadpool_managed.specs.Holds.{held_at}
+use Rattle.deadpool_managed.specs.Holds.{WaitsUnder, held_at}
 use Rattle.deadpool_managed.specs.Outside.{May}
 use Rattle.deadpool_managed.specs.Phases.{Working, stage_of}
-use Rattle.deadpool_managed.specs.Stages.{Stage}
+use Rattle.deadpool_managed.specs.Prepare.{object_of}
+use Rattle.deadpool_managed.specs.Stages.{Stage, Recycling, Checking}
 use Rattle.deadpool_managed.specs.Steps.{CancelsAt, Lent, PollsAt}
 use Rattle.deadpool_managed.specs.declared.get.Turn.{Turn}
 use Rattle.deadpool_managed.specs.declared.get.Turn.TheVariants as turn
 use Rattle.deadpool_managed.specs.declared.kept.Kept.{Kept}
 use Rattle.deadpool_managed.specs.declared.work.Phase.TheVariants.{Unpolled}
 use Rattle.deadpool_shared.specs.Calling.{CallsFromSeat}
-use Rattle.deadpool_shared.specs.Counts.{Holder, IsKnown, caller_of, counts_of, had}
+use Rattle.deadpool_shared.specs.Counts.{Holder, IsHeldBy, IsKnown, caller_of, held_by, waits_by}
 use Rattle.deadpool_shared.specs.Waits.{WaitsOn, is_queued, nanos_waited}
 use Rattle.deadpool_shared.specs.declared.waiting.Waiting.{Waiting}
 use Rattle.deadpool_shared.specs.declared.waiting.Waiting.TheVariants.{Never}
@@ -53,6 +54,22 @@ abbrev pub held_while : {K V C R S : Type 0} → Future K → Stage V C R S → 
 held_while (Asking kept) stage = held_at stage
 held_while _ stage = None
 
+-- the object that a get prepares is the one that it has
+abbrev pub PreparesOwn : {V C R S : Type 0} → Stage V C R S → Option ℕ → Type 0
+PreparesOwn (Recycling preparation allowance) has = has ≡ Some (object_of preparation).number
+PreparesOwn (Checking slot at) has = has ≡ Some slot.number
+PreparesOwn _ has = ⊤
+
+-- while its future asks
+abbrev pub PreparesWhile : {K V C R S : Type 0} → Future K → Stage V C R S → Option ℕ → Type 0
+PreparesWhile (Asking kept) stage has = PreparesOwn stage has
+PreparesWhile _ stage has = ⊤
+
+-- while its future asks, a get in the queue waits under the ticket that it has
+abbrev pub WaitsWhile : {K V C R S : Type 0} → Future K → Stage V C R S → Option ℕ → Type 0
+WaitsWhile (Asking kept) stage waits = WaitsUnder (λ ticket. waits ≡ Some ticket) stage
+WaitsWhile _ stage waits = ⊤
+
 module _ {O W E : Type 0} where
   -- What is given comes from an object that is ready. The relation says what comes from which object, the test which
   -- objects are ready.
@@ -62,9 +79,11 @@ module _ {O W E : Type 0} where
 -- the seat of a holder, as a desk: each step is one call of its caller's
 abbrev pub seat_desk : {T : Type 0} → DeskOf (Option Holder) T
 seat_desk = record {
-  holds = λ seat held. had seat ≡ counts_of held;
+  holds = λ seat held. IsHeldBy seat held;
+  takes_back = λ seat number. held_by seat ≡ Some number;
+  waits = λ seat ticket. waits_by seat ≡ Some ticket;
   makes = λ s step was reply hand s'.
-      IsKnown step reply × CallsFromSeat step (number_in (option_or was hand)) reply s s';
+      IsKnown reply × CallsFromSeat step (number_in (option_or was hand)) reply s s';
 }
 
 module _ {O W V E : Type 0} (comes_from : O → W → Type 0) (slot_of : O → Slot (Kept V)) (holder_of : O → Holder)

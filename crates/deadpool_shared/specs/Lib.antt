@@ -16,6 +16,8 @@ pub mod Draining
 pub mod Waits
 -- What a get gives, and what its poll is at its seat.
 pub mod Gets
+-- What a pool has of its builder.
+pub mod Built
 -- What contracts of this crate cite of those below.
 pub use Rattle.deadpool_managed.specs.HookLists
 pub use Rattle.deadpool_desk.specs.declared.step.Held

@@ -11,6 +11,7 @@ use Rattle.deadpool_desk.specs.declared.step.Reply.TheVariants.{Waiting, OutOfMe
 use Rattle.deadpool_desk.specs.declared.step.Step.{Step}
 use Rattle.deadpool_desk.specs.declared.step.Step.TheVariants.{Enter, Ask, Withdraw, Failed, Refused, Back, Take}
 use Rattle.deadpool_desk.specs.declared.step.Step.TheVariants.{Cancel}
+use Rattle.deadpool_history.specs.History.{Awaited}
 use Rattle.deadpool_journal.specs.Journaling.{Journaling}
 use Rattle.deadpool_journal.specs.Steps.{MakesNoted, NotifiesUnnoted}
 use Rattle.deadpool_journal.specs.declared.journal.Journal.{Journal}
@@ -43,6 +44,10 @@ lets_go Refused _ = true
 lets_go (Cancel held.Place) _ = false
 lets_go (Cancel _) _ = true
 lets_go _ _ = false
+
+-- of those that wait for the end of a pool, and of what is still to be dropped, what its history has
+abbrev pub awaited_by : EndsState → Awaited
+awaited_by ends = record { drains = waiting_count ends.line.waiters; departing = ends.departing }
 
 -- The waker of the get that is named is taken out. If none is named, one that waits for the end is told once that has
 -- come, and no get's waker is touched.

@@ -4,8 +4,8 @@ ghost use Rattle.futures.specs.Task.{Keeps};
 ghost use Rattle.deadpool_managed.specs.Outside.{may};
 ghost use Rattle.deadpool_managed.specs.Steps.{lent};
 ghost use Rattle.deadpool_parts.specs.declared.errors.PoolError.TheVariants.{OutOfMemory};
-ghost use Rattle.deadpool_shared.specs.Counts.{counts_of, had};
-ghost use Rattle.deadpool_shared.specs.Gets.{CancelsTo, GivesReady, PollsFrom};
+ghost use Rattle.deadpool_shared.specs.Counts.{IsHeldBy, held_by, waits_by};
+ghost use Rattle.deadpool_shared.specs.Gets.{CancelsTo, GivesReady, PollsFrom, PreparesWhile, WaitsWhile};
 ghost use Rattle.deadpool_shared.specs.Gets.{getting, held_while, stage_in};
 ghost use Rattle.deadpool_shared.specs.Waits.{is_queued};
 ghost use Rattle.deadpool_managed.specs.Phases.{stage_of};
@@ -19,7 +19,7 @@ use crate::timeouts::HasTimeouts;
 use crate::waiting::Waiting;
 use deadpool_chronicle::Caller;
 use deadpool_history::Line;
-use deadpool_lock::{Home, Registration, Request, Stage, wake_at};
+use deadpool_lock::{Home, Registered, Request, Stage, wake_at};
 use deadpool_managed::{AsyncHook, Came, Clock, Manager, PoolError, Progress, StageKind, SyncHook};
 use futures::task::{Context, Poll};
 use std::marker::{Model, PhantomData};
@@ -118,8 +118,11 @@ where
     // Its caller, if it was handed out shares.
     type Left = Option<Caller<Line, History<L>>>;
 
-    // While it asks it holds what its stage does, and otherwise nothing.
-    ghost fits = { λ stage get. had get.shares ≡ counts_of (held_while stage (stage_in get)) };
+    // While it asks it holds what its stage does, prepares the object that it has, and waits under the ticket that it
+    // has. Otherwise it holds nothing.
+    ghost fits = { λ stage get. IsHeldBy get.shares (held_while stage (stage_in get))
+        × PreparesWhile stage (stage_in get) (held_by get.shares)
+        × WaitsWhile stage (stage_in get) (waits_by get.shares) };
 
     ghost gives = { λ _ home ended. GivesReady W.from_gives
         (λ o. M.is_ready o.slot.value.value × (home ≡ o.out.home)) ended };
@@ -141,12 +144,12 @@ where
         &mut self,
         stage: &mut Stage<Home<Shared<M, F, A, C, R, L>>>,
         shared: &Shared<M, F, A, C, R, L>,
-        registration: &mut Registration,
+        registered: &mut Registered,
         cx: &mut Context<'_>,
     ) -> Poll<Result<W, PoolError<M::Error>>> {
         let timeouts = self.timeouts.timeouts(&shared.timeouts);
         let mut departure = None;
-        let mut seat = Seat::new(shared, self.shares.take(), registration, &mut departure);
+        let mut seat = Seat::new(shared, self.shares.take(), registered, &mut departure);
         let now = shared.clock.now();
         let came = self
             .progress
@@ -191,8 +194,8 @@ where
             alarm: _,
             of: _,
         } = self;
-        let (mut registration, mut departure) = (Registration::new(), None);
-        let mut seat = Seat::new(shared, shares, &mut registration, &mut departure);
+        let (mut nobody, mut departure) = (Registered::nobody(), None);
+        let mut seat = Seat::new(shared, shares, &mut nobody, &mut departure);
         progress.cancel(&mut seat, &shared.environment);
         let caller = seat.leave();
         drop(progress);

@@ -1,8 +1,8 @@
 //! A pool for threads and tasks, built of what its builder was given.
-ghost use Rattle.std.specs.Prelude.{◌≡◌, ◌↔◌, [], ◌∷◌, true, IfOk, Err};
+ghost use Rattle.std.specs.Prelude.{◌≡◌, ◌↔◌, true, IfOk, Err};
 ghost use Rattle.deadpool_parts.specs.declared.errors.BuildError.TheVariants.{NoRuntimeSpecified};
 ghost use Rattle.deadpool_builder.specs.Building.{lacks_any_runtime};
-ghost use Rattle.deadpool_history.specs.declared.line.Line.TheVariants as line;
+ghost use Rattle.deadpool_shared.specs.Built.{IsBuiltOf};
 
 use crate::ledgers::{Blanks, Ledgers};
 use crate::locked::Locked;
@@ -45,12 +45,7 @@ where
         requires opens { blanks ≡ L.names }
         ensures refused { (result ≡ Err NoRuntimeSpecified)
             ↔ (lacks_any_runtime self.runtime self.timeouts ≡ true) }
-        ensures environment { IfOk result (λ pool. pool.environment
-            ≡ record { manager = self.manager; hooks = self.hooks; runtime = self.runtime }) }
-        ensures timeouts { IfOk result (λ pool. pool.timeouts ≡ self.timeouts) }
-        ensures clock { IfOk result (λ pool. pool.clock ≡ self.clock) }
-        ensures opening { IfOk result (λ pool. pool.opening.log
-            ≡ (0, line.Opening self.max_size self.queue_mode self.min_idle self.max_waiting) ∷ []) }
+        ensures built { IfOk result (IsBuiltOf self) }
     {
         let PoolParts {
             environment,

@@ -5,14 +5,14 @@ ghost use Rattle.futures.specs.Poll.{IfReady, OnPending};
 ghost use Rattle.futures.specs.declared.task.Poll.TheVariants.{Ready};
 ghost use Rattle.futures.specs.Task.{Covers, Keeps};
 ghost use Rattle.deadpool_shared.specs.Calling.{ByNewCaller};
-ghost use Rattle.deadpool_shared.specs.Drains.{CallsOfDrain, EndsEmpty, PollsDrain};
+ghost use Rattle.deadpool_shared.specs.Drains.{DrainsAndTells, EndsEmpty, IsCloser, PollsDrain};
 
 use crate::ledgers::{History, Ledgers};
 use crate::pool::Pool;
 use crate::shared::Shared;
 use deadpool_chronicle::Caller;
 use deadpool_history::Line;
-use deadpool_lock::{DrainError, Handle, Registration, wake_at};
+use deadpool_lock::{DrainError, Handle, Registered, Registration, wake_at};
 use deadpool_managed::gate::Ticket;
 use deadpool_managed::{AsyncHook, Clock, Manager, Moment, Status, SyncHook};
 use deadpool_parts::deadline::{deadline_after, is_reached};
@@ -48,11 +48,12 @@ pub struct Drain<
     is_over: bool,
 }
 
-// What a drain has from its first poll on.
+// What a drain has from its first poll on, by which its caller has closed the pool.
 #[derive(Drop)]
 struct Begun<L: Ledgers> {
     at: Moment,
     caller: Caller<Line, History<L>>,
+    ghost has_closed: { IsCloser caller },
 }
 
 impl<'a, M: Manager, F: SyncHook<M>, A: AsyncHook<M>, C: Clock, R: Wait + Drop, L: Ledgers> Model
@@ -150,7 +151,7 @@ impl<'a, M: Manager, F: SyncHook<M>, A: AsyncHook<M>, C: Clock, R: Wait + Drop, 
         ensures silent { self.old.is_over ≡ true → self.new.caller ≡ self.old.caller }
     {
         let shared = self.handle.shared();
-        self.registration.register(Some(shared.lock.source()), cx);
+        let registered = self.registration.register(Some(shared.lock.source()), cx);
         if self.is_over {
             return Poll::Pending;
         }
@@ -165,7 +166,7 @@ impl<'a, M: Manager, F: SyncHook<M>, A: AsyncHook<M>, C: Clock, R: Wait + Drop, 
             now,
             is_reached(deadline, now),
             &mut self.ticket,
-            &mut self.registration,
+            registered,
         );
         if polled.is_ready() {
             self.is_over = true;
@@ -184,7 +185,7 @@ fn poll_begun<M: Manager, F: SyncHook<M>, A: AsyncHook<M>, C: Clock, R: Wait + D
     now: Moment,
     is_late: bool,
     ticket: &mut Option<Ticket>,
-    registration: &mut Registration,
+    registered: &mut Registered,
 ) -> Poll<Result<Status, DrainError>>
     ensures ends { IfReady result (λ ended. EndsEmpty is_late ended) }
     ensures polled { PollsDrain (option_map (λ b. b.caller) begun.old) result
@@ -197,11 +198,11 @@ fn poll_begun<M: Manager, F: SyncHook<M>, A: AsyncHook<M>, C: Clock, R: Wait + D
             false,
             is_late,
             ticket,
-            registration,
+            registered,
         );
     }
     let mut caller = shared.caller();
-    let polled = poll_by(shared, &mut caller, true, is_late, ticket, registration);
+    let polled = poll_by(shared, &mut caller, true, is_late, ticket, registered);
     *begun = Some(Begun { at: now, caller });
     polled
 }
@@ -213,17 +214,19 @@ fn poll_by<M: Manager, F: SyncHook<M>, A: AsyncHook<M>, C: Clock, R: Wait + Drop
     is_first: bool,
     is_late: bool,
     ticket: &mut Option<Ticket>,
-    registration: &mut Registration,
+    registered: &mut Registered,
 ) -> Poll<Result<Status, DrainError>>
+    requires begun { is_first ≡ false → IsCloser caller.old }
+    ensures begun { IsCloser caller.new }
     ensures ends { IfReady result (λ ended. EndsEmpty is_late ended) }
     ensures waits { OnPending result (is_late ≡ false) }
-    ensures calls { CallsOfDrain is_first result caller.old caller.new }
+    ensures calls { DrainsAndTells is_first result caller.old caller.new }
 {
     let mut section = shared.lock.begin();
     let (polled, spare) = section
         .kept()
-        .drain(caller, is_first, is_late, ticket, registration.waker());
-    shared.lock.end(section);
+        .drain(caller, is_first, is_late, ticket, registered);
+    shared.lock.end(section, caller);
     drop(spare);
     polled
 }
@@ -279,7 +282,7 @@ impl<M: Manager, F: SyncHook<M>, A: AsyncHook<M>, C: Clock, R: Wait + Drop, L: L
     /// `Departing` that what has left is still to be dropped.
     pub fn try_drain(&self) -> Result<Status, DrainError>
         ensures ends { EndsEmpty true result }
-        ensures calls { ByNewCaller self.now.opening.log (CallsOfDrain true (Ready result)) }
+        ensures calls { ByNewCaller self.now.opening.log (DrainsAndTells true (Ready result)) }
     {
         let mut caller = self.handle().shared().caller();
         self.try_drain_by(&mut caller)
@@ -288,19 +291,12 @@ impl<M: Manager, F: SyncHook<M>, A: AsyncHook<M>, C: Clock, R: Wait + Drop, L: L
     /// `try_drain` by a caller that the history has its calls of: the close, and the status that it gives.
     pub fn try_drain_by(&self, caller: &mut Caller<Line, History<L>>) -> Result<Status, DrainError>
         ensures ends { EndsEmpty true result }
-        ensures calls { CallsOfDrain true (Ready result) caller.old caller.new }
+        ensures calls { DrainsAndTells true (Ready result) caller.old caller.new }
     {
         let shared = self.handle().shared();
-        let (mut ticket, mut registration) = (None, Registration::new());
+        let (mut ticket, mut nobody) = (None, Registered::nobody());
         let is_late = true;
-        match poll_by(
-            shared,
-            caller,
-            true,
-            is_late,
-            &mut ticket,
-            &mut registration,
-        ) {
+        match poll_by(shared, caller, true, is_late, &mut ticket, &mut nobody) {
             Poll::Ready(ended) => ended,
             Poll::Pending => unreachable!(),
         }

@@ -1,14 +1,17 @@
 //! What the lock of a pool keeps.
-ghost use Rattle.std.specs.Prelude.{◌≡◌, ◌⊎◌, ◌||◌, not, is_some, nat_lt, [], ◌∷◌, None, IfOk, IfSome};
+ghost use Rattle.std.specs.Prelude.{◌≡◌, ◌⊎◌, ◌||◌, true, false, not, is_some, nat_lt, [], ◌∷◌, None, IfOk, IfSome};
 ghost use Rattle.std.specs.Option.{option_or};
 ghost use mathlib.Core.List.{IsPrefix};
-ghost use Rattle.deadpool_chronicle.specs.History.{calls_by};
+ghost use Rattle.deadpool_chronicle.specs.History.{SeesMore, calls_by};
 ghost use Rattle.deadpool_desk.specs.CoreSteps.{due_now};
-ghost use Rattle.deadpool_desk.specs.Replies.{Brings, IsOwnerReplyTo, IsReplyTo, Leaves, left_by, needed};
+ghost use Rattle.deadpool_desk.specs.Replies.{Brings, IsOwnerReplyTo, IsReplyTo, Leaves, left_by, named};
+ghost use Rattle.deadpool_desk.specs.Replies.{needed};
 ghost use Rattle.deadpool_desk.specs.declared.owner_step.OwnerReply.TheVariants as reply;
 ghost use Rattle.deadpool_desk.specs.declared.owner_step.OwnerStep.TheVariants as step;
-ghost use Rattle.deadpool_history.specs.History.{HasCalled, IsBeginning, IsLegal, IsRetain};
-ghost use Rattle.deadpool_history.specs.History.{IsTallyOf, LeavesIdle};
+ghost use Rattle.deadpool_desk.specs.declared.step.Reply.TheVariants.{OutOfMemory};
+ghost use Rattle.deadpool_history.specs.History.{AllAreTold, HasCalled, IsBeginning, IsLegal, IsRetain};
+ghost use Rattle.deadpool_history.specs.History.{IsTallyOf};
+ghost use Rattle.deadpool_history.specs.Retains.{AnswersFor};
 ghost use Rattle.deadpool_history.specs.declared.line.Line.TheVariants as line;
 ghost use Rattle.deadpool_journal.specs.ByNumber.{number_in, numbered};
 ghost use Rattle.deadpool_journal.specs.Copies.{HasSteps};
@@ -17,11 +20,15 @@ ghost use Rattle.deadpool_journal.specs.LogState.{no_entries};
 ghost use Rattle.deadpool_journal.specs.Steps.{MakesNoted, MakesForOwnerNoted, RetainsNoted};
 ghost use Rattle.deadpool_journal.specs.Tally.{AreBalanced};
 ghost use Rattle.deadpool_journal.specs.declared.entry.Entry.TheVariants as entry;
+ghost use Rattle.deadpool_history.specs.Own.{held_in, waits_in};
+ghost use Rattle.deadpool_turns.specs.Holders.{IsOwn};
+ghost use Rattle.deadpool_turns.specs.Tickets.{IsNamed};
 ghost use Rattle.deadpool_shared.specs.Calling.{CallsOrRefuses};
 ghost use Rattle.deadpool_shared.specs.Counts.{AreIn, IsKnown, IsNewCaller, IsNewHolder};
 ghost use Rattle.deadpool_shared.specs.Counts.{counts, counts_of, counted, shifted};
-ghost use Rattle.deadpool_lock.specs.Ends.{Departs};
-ghost use Rattle.deadpool_shared.specs.Locked.{IsCopy, MakesLocked, TellsLocked, is_end_due, lets_go};
+ghost use Rattle.deadpool_lock.specs.Ends.{Departs, one_less};
+ghost use Rattle.deadpool_shared.specs.Locked.{IsCopy, MakesLocked, TellsLocked, awaited_by, is_end_due, joins};
+ghost use Rattle.deadpool_shared.specs.Locked.{lets_go};
 
 mod draining;
 
@@ -31,7 +38,7 @@ use crate::steps::{left_by, lets_go, may_wait, needed, ticket_after, ticket_of};
 use deadpool_chronicle::{Beginning, Caller};
 use deadpool_history::{Line, Recorded};
 use deadpool_journal::{Journal, Journaled, Tally};
-use deadpool_lock::{Departure, Ends, Wakers, Wakes};
+use deadpool_lock::{Departed, Departure, Ends, Owed, Registered, Wakers, Wakes};
 use deadpool_managed::{
     Desk, OwnerDesk, OwnerReply, OwnerStep, Reply, RetainResult, Retainer, Slot, Status, Step,
 };
@@ -61,6 +68,7 @@ impl<T: Drop, L: Ledgers> Locked<T, L> {
     ) -> (Locked<T, L>, Beginning<Line, History<L>>)
         requires empty { counted pool ≡ counts 0 0 0 }
         requires opened { numbered pool.core.desk ≡ opening pool }
+        requires unnotified { pool.core.unnotified ≡ [] }
         requires unnoted { pool.log ≡ no_entries pool.log.most }
         requires opens { blanks ≡ L.names }
         ensures pool { result.0.recorded.pool ≡ pool }
@@ -90,6 +98,7 @@ impl<T: Drop, L: Ledgers> Locked<T, L> {
         ensures given { is_some result ≡ nat_lt 0 self.old.books.left }
         ensures recorded { self.new.recorded ≡ self.old.recorded }
         ensures wakers { self.new.wakers ≡ self.old.wakers }
+        ensures ends { self.new.ends ≡ self.old.ends }
     {
         let caller = self.admit();
         let Locked { books, .. } = self;
@@ -105,6 +114,7 @@ impl<T: Drop, L: Ledgers> Locked<T, L> {
     )
         ensures recorded { self.new.recorded ≡ self.old.recorded }
         ensures wakers { self.new.wakers ≡ self.old.wakers }
+        ensures ends { self.new.ends ≡ self.old.ends }
         ensures caller { caller.new
             ≡ record caller.old { seen = self.old.recorded.log } }
         ensures seen { IsPrefix caller.old.seen caller.new.seen }
@@ -124,6 +134,7 @@ impl<T: Drop, L: Ledgers> Locked<T, L> {
         ensures recorded { self.new.recorded ≡ self.old.recorded }
         ensures books { self.new.books ≡ self.old.books }
         ensures wakers { self.new.wakers ≡ self.old.wakers }
+        ensures ends { self.new.ends ≡ self.old.ends }
     {
         let Locked {
             recorded,
@@ -139,33 +150,40 @@ impl<T: Drop, L: Ledgers> Locked<T, L> {
         ensures earlier { IsPrefix earlier.now.log result.seen }
         ensures recorded { self.new.recorded ≡ self.old.recorded }
         ensures wakers { self.new.wakers ≡ self.old.wakers }
+        ensures ends { self.new.ends ≡ self.old.ends }
     {
         let mut caller = self.admit();
         self.audit(&mut caller, earlier);
         caller
     }
 
-    /// Makes a step of a get or an object, whose shares are those of what it holds, and gives the reply. A get that
-    /// would be queued, whose waker finds no memory, makes no step. If it is queued its waker is kept; the one that was
-    /// kept and is not any more is given out. What the step lets go of counts as departing from then on.
+    /// Makes a step of a get or an object, whose shares are those of what it holds, and gives the reply. It has the
+    /// object that it gives away, and waits under the ticket that it names, by the lines of its caller. So the pool
+    /// knows both. A get that would be queued makes no step if there is no memory for its waker, or nobody's is there.
+    /// If it is queued its waker is kept; the one that was kept and is not any more is given out. What the step lets go
+    /// of counts as departing from then on.
     #[inline(always)]
     pub fn make(
         &mut self,
         shares: &mut Shares<L>,
         step: &Step,
         hand: &mut Option<Slot<T>>,
-        waker: &mut Option<Waker>,
+        registered: &mut Registered,
         departure: &mut Option<Departure>,
     ) -> (Reply, Option<Waker>)
         requires brings { Brings step.now hand.old }
         requires shares { shares.old.has ≡ counts_of (needed step.now) }
+        requires own { IsOwn step.now (number_in hand.old) (held_in shares.old.caller.mine) }
+        requires named { IsNamed (named step.now) (waits_in shares.old.caller.mine) }
         ensures holds { shares.new.has ≡ counts_of (left_by step.now result.0) }
-        ensures known { IsKnown step.now result.0 }
+        ensures known { IsKnown result.0 }
         ensures fits { IsReplyTo step.now result.0 }
         ensures hand { Leaves result.0 hand.old hand.new }
         ensures made { MakesLocked self.old.recorded.pool self.old.wakers
-            step.now hand.old waker.old result.0 hand.new
-            self.new.recorded.pool self.new.wakers waker.new result.1 }
+            step.now hand.old registered.old result.0 hand.new
+            self.new.recorded.pool self.new.wakers registered.new result.1 }
+        ensures heard { joins step.now self.old.recorded.pool ≡ true
+            → (result.0 ≡ OutOfMemory) ⊎ (is_some registered.old ≡ true) }
         ensures call { CallsOrRefuses step.now (number_in (option_or hand.old hand.new)) result.0
             shares.old.caller shares.new.caller }
         ensures departs { Departs (lets_go step.now result.0)
@@ -180,7 +198,9 @@ impl<T: Drop, L: Ledgers> Locked<T, L> {
         } = self;
         if may_wait(step)
             && recorded.would_queue()
-            && wakers.make_room(recorded.next_ticket()).is_err()
+            && wakers
+                .make_room(recorded.next_ticket(), registered)
+                .is_err()
         {
             return (Reply::OutOfMemory, None);
         }
@@ -188,7 +208,7 @@ impl<T: Drop, L: Ledgers> Locked<T, L> {
         let reply = make_counted(recorded, &mut shares.caller, step, hand);
         books.shift(shares, needed(step), left_by(step, &reply));
         depart(ends, departure, lets_go(step, &reply));
-        let spare = wakers.follow(ticket_of(step), ticket_after(&reply), waker);
+        let spare = wakers.follow(ticket_of(step), ticket_after(&reply), registered);
         (reply, spare)
     }
 
@@ -224,14 +244,18 @@ impl<T: Drop, L: Ledgers> Locked<T, L> {
         ensures wakers { self.new.wakers ≡ self.old.wakers }
         ensures ends { self.new.ends ≡ self.old.ends }
         ensures call { HasCalled (IsRetain result) caller.old caller.new }
-        ensures idle { LeavesIdle result caller.new.seen }
+        ensures which { HasCalled (AnswersFor R.Retainer result caller.new.seen)
+            caller.old caller.new }
     {
         let Locked { recorded, .. } = self;
         recorded.retain(caller, retainer)
     }
 
-    /// How often each thing has happened since the pool was opened, and how the pool stands now.
+    /// How often each thing has happened since the pool was opened, and how the pool stands now. No waker comes or goes
+    /// with it.
     pub fn tally(&mut self, caller: &mut Caller<Line, History<L>>) -> (Tally, Status)
+        ensures wakers { self.new.wakers ≡ self.old.wakers }
+        ensures ends { self.new.ends ≡ self.old.ends }
         ensures call { HasCalled (λ e. e ≡ entry.Owner step.Status (reply.Stands result.1))
             caller.old caller.new }
         ensures counted { IsTallyOf caller.new.seen result.0 }
@@ -266,6 +290,7 @@ impl<T: Drop, L: Ledgers> Locked<T, L> {
     ) -> Result<Journal, AllocError>
         ensures recorded { self.new.recorded ≡ self.old.recorded }
         ensures wakers { self.new.wakers ≡ self.old.wakers }
+        ensures ends { self.new.ends ≡ self.old.ends }
         ensures caller { caller.new
             ≡ record caller.old { seen = self.old.recorded.log } }
         ensures seen { IsPrefix caller.old.seen caller.new.seen }
@@ -286,26 +311,61 @@ impl<T: Drop, L: Ledgers> Locked<T, L> {
     }
 }
 
-// Neither is a step.
+// None of these is a step. A caller that is told that nobody is due has seen all of the history, which then has who
+// waits for the end of the pool, and what is still to be dropped.
 impl<T: Drop, L: Ledgers> Wakes for Locked<T, L> {
-    fn is_wake_due(&self) -> bool
-        ensures { result ≡ (is_some (due_now self.now.recorded.pool.core)
-            || is_end_due self.now.ends self.now.recorded.pool.core.desk) }
+    ghost use Rattle.deadpool_chronicle.specs.History.{SeesMore};
+    ghost use Rattle.deadpool_history.specs.History.{AllAreTold, awaited};
+
+    type Seer = Caller<Line, History<L>>;
+
+    ghost keeps = { λ c later. SeesMore c later };
+
+    ghost is_quiet = { λ c. AllAreTold c.seen };
+
+    fn keeps_all() {}
+
+    #[inline]
+    fn is_wake_due(&mut self, caller: &mut Caller<Line, History<L>>) -> bool
+        ensures due { result ≡ (is_some (due_now self.old.recorded.pool.core)
+            || is_end_due self.old.ends self.old.recorded.pool.core.desk) }
+        ensures pool { self.new.recorded.pool ≡ self.old.recorded.pool }
+        ensures wakers { self.new.wakers ≡ self.old.wakers }
+        ensures ends { self.new.ends ≡ self.old.ends }
+        ensures noted { awaited caller.new.seen ≡ awaited_by self.old.ends }
+        ensures keeps { SeesMore caller.old caller.new }
+        ensures quiet { result ≡ false → AllAreTold caller.new.seen }
     {
-        self.recorded.is_wake_due() || self.is_end_due()
+        let Locked {
+            recorded,
+            first,
+            ends,
+            ..
+        } = self;
+        recorded.note_ending(first, ends.waiting(), ends.departing());
+        self.recorded.is_wake_due(caller) || self.is_end_due()
     }
 
-    fn take_wake(&mut self) -> Option<Waker>
+    fn take_wake(&mut self) -> Option<Owed>
         ensures { TellsLocked self.old.recorded.pool self.old.wakers self.old.ends result
             self.new.recorded.pool self.new.wakers self.new.ends }
     {
-        if let Some(ticket) = self.recorded.take_wake() {
-            return self.wakers.take(ticket);
+        if let Some(ticket) = self.recorded.take_wake(&mut self.first) {
+            return self.wakers.tell(ticket);
         }
         if self.is_end_due() {
             return self.ends.take_wake();
         }
         None
+    }
+
+    fn has_departed(&mut self, departed: Departed)
+        ensures recorded { self.new.recorded ≡ self.old.recorded }
+        ensures wakers { self.new.wakers ≡ self.old.wakers }
+        ensures ends { self.new.ends
+            ≡ record self.old.ends { departing = one_less self.old.ends.departing } }
+    {
+        self.ends.has_departed(departed);
     }
 }
 
@@ -329,11 +389,13 @@ fn make_counted<T: Drop, L: Ledgers>(
 ) -> Reply
     requires brings { Brings step.now hand.old }
     requires shares { AreIn (counts_of (needed step.now)) (counted recorded.old.pool) }
+    requires own { IsOwn step.now (number_in hand.old) (held_in caller.old.mine) }
+    requires named { IsNamed (named step.now) (waits_in caller.old.mine) }
     ensures made { MakesNoted
         recorded.old.pool step.now hand.old result hand.new recorded.new.pool }
     ensures fits { IsReplyTo step.now result }
     ensures hand { Leaves result hand.old hand.new }
-    ensures known { IsKnown step.now result }
+    ensures known { IsKnown result }
     ensures counts { counted recorded.new.pool
         ≡ shifted (needed step.now) (left_by step.now result) (counted recorded.old.pool) }
     ensures called { HasCalled

@@ -6,8 +6,12 @@ ghost use Rattle.deadpool_managed.specs.Prepare.{with_value};
 ghost use Rattle.deadpool_desk.specs.declared.step.Held.{Held};
 ghost use Rattle.deadpool_desk.specs.declared.step.Reply.{Reply};
 ghost use Rattle.deadpool_desk.specs.declared.step.Step.TheVariants as step;
-ghost use Rattle.deadpool_history.specs.History.{HasCalled};
+ghost use Rattle.deadpool_chronicle.specs.History.{Knowing};
+ghost use Rattle.deadpool_history.specs.History.{CallsAndTells};
+ghost use Rattle.deadpool_history.specs.Own.{held_in};
+ghost use Rattle.deadpool_history.specs.declared.line.Line.{Line};
 ghost use Rattle.deadpool_journal.specs.declared.entry.Entry.TheVariants as entry;
+ghost use Rattle.deadpool_shared.specs.Calling.{Upgrades};
 ghost use Rattle.deadpool_shared.specs.Counts.{counts_of};
 
 use crate::ledgers::{History, Ledgers};
@@ -17,7 +21,7 @@ use crate::shared::Shared;
 use crate::shares::Shares;
 use deadpool_chronicle::Caller;
 use deadpool_history::Line;
-use deadpool_lock::{Home, Registration};
+use deadpool_lock::{Home, Registered};
 use deadpool_managed::{
     AsyncHook, Clock, Desk, Kept, Manager, Metrics, ObjectId, Reply, Slot, Step, SyncHook,
 };
@@ -71,6 +75,8 @@ pub struct Object<
     // How long its get waited, in nanoseconds. Here it takes no room: the slot's place is a multiple of 16.
     pub(crate) waited: u64,
     pub(crate) slot: Slot<Kept<M::Type>>,
+    // By the lines of its caller it has this object.
+    pub ghost is_own: { held_in out.shares.caller.mine ≡ Some slot.number },
 }
 
 impl<M: Manager, F: SyncHook<M>, A: AsyncHook<M>, C: Clock, R: Wait + Drop, L: Ledgers> Object<
@@ -84,8 +90,10 @@ impl<M: Manager, F: SyncHook<M>, A: AsyncHook<M>, C: Clock, R: Wait + Drop, L: L
     /// Takes the value out of the pool for good: the pool has one object less. The manager is told of it first, if the
     /// pool has a handle left.
     pub fn take(this: Self) -> M::Type
-        ensures { LeavesOrKeeps (M.may_detach this.out.home.environment.manager)
+        ensures value { LeavesOrKeeps (M.may_detach this.out.home.environment.manager)
             this.slot.value.value result }
+        ensures call { (reply : Reply) × ((c : Knowing Line)
+            × CallsAndTells (λ e. e ≡ entry.Made step.Take None reply) this.out.shares.caller c) }
     {
         let (value, _) = Object::take_by(this);
         value
@@ -95,7 +103,8 @@ impl<M: Manager, F: SyncHook<M>, A: AsyncHook<M>, C: Clock, R: Wait + Drop, L: L
     pub fn take_by(this: Self) -> (M::Type, Caller<Line, History<L>>)
         ensures value { LeavesOrKeeps (M.may_detach this.out.home.environment.manager)
             this.slot.value.value result.0 }
-        ensures call { (reply : Reply) × HasCalled (λ e. e ≡ entry.Made step.Take None reply)
+        ensures call { (reply : Reply)
+            × CallsAndTells (λ e. e ≡ entry.Made step.Take None reply)
             this.out.shares.caller result.1 }
     {
         let Self {
@@ -104,13 +113,8 @@ impl<M: Manager, F: SyncHook<M>, A: AsyncHook<M>, C: Clock, R: Wait + Drop, L: L
             waited: _,
         } = this;
         let Checkout { home, shares } = out;
-        let (mut registration, mut departure) = (Registration::new(), None);
-        let mut seat = Seat::new(
-            home.shared(),
-            Some(shares),
-            &mut registration,
-            &mut departure,
-        );
+        let (mut nobody, mut departure) = (Registered::nobody(), None);
+        let mut seat = Seat::new(home.shared(), Some(shares), &mut nobody, &mut departure);
         let mut value = slot.value.value;
         let mut hand = None;
         let reply = seat.make(&Step::Take, &mut hand);
@@ -128,7 +132,7 @@ impl<M: Manager, F: SyncHook<M>, A: AsyncHook<M>, C: Clock, R: Wait + Drop, L: L
     /// and of the get before it.
     pub fn give_back(this: Self) -> Caller<Line, History<L>>
         ensures { (reply : Reply)
-            × HasCalled (λ e. e ≡ entry.Made step.Back (Some this.slot.number) reply)
+            × CallsAndTells (λ e. e ≡ entry.Made step.Back (Some this.slot.number) reply)
             this.out.shares.caller result }
     {
         let Self {
@@ -137,13 +141,8 @@ impl<M: Manager, F: SyncHook<M>, A: AsyncHook<M>, C: Clock, R: Wait + Drop, L: L
             waited: _,
         } = this;
         let Checkout { home, shares } = out;
-        let (mut registration, mut departure) = (Registration::new(), None);
-        let mut seat = Seat::new(
-            home.shared(),
-            Some(shares),
-            &mut registration,
-            &mut departure,
-        );
+        let (mut nobody, mut departure) = (Registered::nobody(), None);
+        let mut seat = Seat::new(home.shared(), Some(shares), &mut nobody, &mut departure);
         let mut hand = Some(slot);
         let reply = seat.make(&Step::Back, &mut hand);
         let Some(caller) = seat.leave() else {
@@ -187,7 +186,8 @@ impl<M: Manager, F: SyncHook<M>, A: AsyncHook<M>, C: Clock, R: Wait + Drop, L: L
     /// One more handle of its pool, if the pool has a handle left. `AllocError` says that there was no memory for it,
     /// and none is counted then.
     pub fn pool(this: &Self) -> Result<Option<Pool<M, F, A, C, R, L>>, AllocError>
-        ensures { IfOk result (λ pool. IfSome pool (λ some. some ≡ this.now.out.home)) }
+        ensures pool { IfOk result (λ pool. IfSome pool (λ some. some ≡ this.now.out.home)) }
+        ensures counted { IfOk result (Upgrades this.now.out.home.opening.log) }
     {
         Pool::upgrade(&this.out.home)
     }
@@ -195,7 +195,11 @@ impl<M: Manager, F: SyncHook<M>, A: AsyncHook<M>, C: Clock, R: Wait + Drop, L: L
 
 impl<M: Manager, F: SyncHook<M>, A: AsyncHook<M>, C: Clock, R: Wait + Drop, L: Ledgers> Drop
     for Object<M, F, A, C, R, L> {
-    fn drop(self) {
+    fn drop(self)
+        ensures { (reply : Reply) × ((c : Knowing Line)
+            × CallsAndTells (λ e. e ≡ entry.Made step.Back (Some self.slot.number) reply)
+            self.out.shares.caller c) }
+    {
         Object::give_back(self);
     }
 }

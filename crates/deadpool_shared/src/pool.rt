@@ -4,14 +4,15 @@ ghost use mathlib.Core.List.{IsPrefix};
 ghost use Rattle.deadpool_chronicle.specs.History.{calls_by};
 ghost use Rattle.deadpool_desk.specs.declared.owner_step.OwnerReply.TheVariants as reply;
 ghost use Rattle.deadpool_desk.specs.declared.owner_step.OwnerStep.TheVariants as step;
-ghost use Rattle.deadpool_history.specs.History.{HasCalled, IsBeginning, IsLegal, IsRetain};
-ghost use Rattle.deadpool_history.specs.History.{IsTallyOf, LeavesIdle};
+ghost use Rattle.deadpool_history.specs.History.{CallsAndTells, HasCalled, IsBeginning, IsLegal};
+ghost use Rattle.deadpool_history.specs.History.{IsTallyOf};
 ghost use Rattle.deadpool_journal.specs.Copies.{HasSteps};
 ghost use Rattle.deadpool_journal.specs.Tally.{AreBalanced};
 ghost use Rattle.deadpool_journal.specs.declared.entry.Entry.TheVariants as entry;
 ghost use Rattle.deadpool_lock.specs.Asked.{BorrowingAsks, OwnAsks};
 ghost use Rattle.deadpool_builder.specs.Building.{newly};
-ghost use Rattle.deadpool_shared.specs.Calling.{AsksStatus, AsksTally, ByNewCaller, IsResize};
+ghost use Rattle.deadpool_shared.specs.Calling.{AsksStatus, AsksTally, ByNewCaller, CountsBy, IsResize};
+ghost use Rattle.deadpool_shared.specs.Calling.{RetainsAndTells, Upgrades};
 ghost use Rattle.deadpool_shared.specs.Counts.{IsNewCaller};
 ghost use Rattle.deadpool_shared.specs.Gets.{getting};
 
@@ -161,26 +162,31 @@ impl<M: Manager, F: SyncHook<M>, A: AsyncHook<M>, C: Clock, R: Wait + Drop, L: L
 
     // One handle more, if one is left.
     pub(crate) fn upgrade(home: &Home<Shared<M, F, A, C, R, L>>) -> Result<Option<Self>, AllocError>
-        ensures { IfOk result (λ pool. IfSome pool (λ some. some ≡ home.now)) }
+        ensures pool { IfOk result (λ pool. IfSome pool (λ some. some ≡ home.now)) }
+        ensures counted { IfOk result (Upgrades home.now.opening.log) }
     {
         let home = home.clone()?;
-        if home.shared().make_for_owner(&OwnerStep::Upgrade) == OwnerReply::Done {
-            return Ok(Some(Pool {
+        match home.shared().make_for_owner(&OwnerStep::Upgrade) {
+            OwnerReply::Done => Ok(Some(Pool {
                 handle: Handle::counted(home),
                 of: PhantomData,
-            }));
+            })),
+            OwnerReply::NoHandle => Ok(None),
+            _ => unreachable!(),
         }
-        Ok(None)
     }
 
     /// Sets the greatest number of objects. While there are more, idle ones are dropped, the front one first, without a
     /// detach and with the lock taken: such a drop must not use the pool. A closed pool stays as it is. `AllocError`
     /// says that there was no memory for so many, and nothing has changed.
-    pub fn resize(&self, limit: usize) -> Result<(), AllocError> {
+    pub fn resize(&self, limit: usize) -> Result<(), AllocError>
+        ensures { ByNewCaller self.now.opening.log (CallsAndTells (IsResize limit result)) }
+    {
         let step = OwnerStep::Resize { limit };
         match self.handle.shared().make_for_owner(&step) {
             OwnerReply::OutOfMemory => Err(AllocError),
-            _ => Ok(()),
+            OwnerReply::Done => Ok(()),
+            _ => unreachable!(),
         }
     }
 
@@ -190,7 +196,7 @@ impl<M: Manager, F: SyncHook<M>, A: AsyncHook<M>, C: Clock, R: Wait + Drop, L: L
         caller: &mut Caller<Line, History<L>>,
         limit: usize,
     ) -> Result<(), AllocError>
-        ensures { HasCalled (IsResize limit result) caller.old caller.new }
+        ensures { CallsAndTells (IsResize limit result) caller.old caller.new }
     {
         let step = OwnerStep::Resize { limit };
         match self.handle.shared().make_for_owner_by(caller, &step) {
@@ -209,6 +215,7 @@ impl<M: Manager, F: SyncHook<M>, A: AsyncHook<M>, C: Clock, R: Wait + Drop, L: L
         predicate: P,
     ) -> Result<RetainResult<M::Type>, AllocError>
         requires { P.IsAlwaysCallable predicate }
+        ensures call { ByNewCaller self.now.opening.log (RetainsAndTells result) }
     {
         let mut retainer = ByPredicate {
             predicate,
@@ -224,8 +231,7 @@ impl<M: Manager, F: SyncHook<M>, A: AsyncHook<M>, C: Clock, R: Wait + Drop, L: L
         predicate: P,
     ) -> Result<RetainResult<M::Type>, AllocError>
         requires { P.IsAlwaysCallable predicate }
-        ensures call { HasCalled (IsRetain result) caller.old caller.new }
-        ensures idle { LeavesIdle result caller.new.seen }
+        ensures call { RetainsAndTells result caller.old caller.new }
     {
         let mut retainer = ByPredicate {
             predicate,
@@ -290,13 +296,20 @@ impl<M: Manager, F: SyncHook<M>, A: AsyncHook<M>, C: Clock, R: Wait + Drop, L: L
     /// Closes the pool for good: its limit is 0, those that wait are refused, and the idle objects are dropped without
     /// a detach and with the lock taken: such a drop must not use the pool. Objects that are out stay, and are given up
     /// when they come back.
-    pub fn close(&self) {
-        self.handle.shared().make_for_owner(&OwnerStep::Close);
+    pub fn close(&self)
+        ensures { ByNewCaller self.now.opening.log
+            (CallsAndTells (λ e. e ≡ entry.Owner step.Close reply.Done)) }
+    {
+        match self.handle.shared().make_for_owner(&OwnerStep::Close) {
+            OwnerReply::Done => {}
+            _ => unreachable!(),
+        }
     }
 
     /// `close` by a caller that the history has it of.
     pub fn close_by(&self, caller: &mut Caller<Line, History<L>>)
-        ensures { HasCalled (λ e. e ≡ entry.Owner step.Close reply.Done) caller.old caller.new }
+        ensures { CallsAndTells (λ e. e ≡ entry.Owner step.Close reply.Done)
+            caller.old caller.new }
     {
         let OwnerReply::Done = self
             .handle
@@ -378,7 +391,8 @@ impl<M: Manager, F: SyncHook<M>, A: AsyncHook<M>, C: Clock, R: Wait + Drop, L: L
 
     /// One handle more. `AllocError` says that there was no memory for it, and none is counted then.
     pub fn clone(&self) -> Result<Self, AllocError>
-        ensures { IfOk result (λ pool. pool ≡ self.now) }
+        ensures pool { IfOk result (λ pool. pool ≡ self.now) }
+        ensures counted { IfOk result (λ _. CountsBy step.CloneHandle self.now.opening.log) }
     {
         Ok(Pool {
             handle: self.handle.clone()?,
@@ -399,16 +413,18 @@ impl<M: Manager, F: SyncHook<M>, A: AsyncHook<M>, C: Clock, R: Wait + Drop, L: L
 where
     W: From<Object<M, F, A, C, R, L>>,
 {
-    /// A get with the timeouts of the pool. It is a handle of the pool from now on.
+    /// A get with the timeouts of the pool. It is a handle of the pool from now on, if there is memory for that.
     pub fn get(&self) -> Get<M, F, A, C, R, L, W>
-        ensures { OwnAsks self.now self.now (getting None) result }
+        ensures asks { OwnAsks self.now self.now (getting None) result }
+        ensures counted { IfSome result.shared (λ _. CountsBy step.CloneHandle self.now.opening.log) }
     {
         Owned::new(self.begin(), Getting::new(OwnTimeouts::new(None)))
     }
 
-    /// A get with timeouts of its own. It is a handle of the pool from now on.
+    /// A get with timeouts of its own. It is a handle of the pool from now on, if there is memory for that.
     pub fn timeout_get(&self, timeouts: &Timeouts) -> Get<M, F, A, C, R, L, W>
-        ensures { OwnAsks self.now self.now (getting (Some timeouts.now)) result }
+        ensures asks { OwnAsks self.now self.now (getting (Some timeouts.now)) result }
+        ensures counted { IfSome result.shared (λ _. CountsBy step.CloneHandle self.now.opening.log) }
     {
         Owned::new(
             self.begin(),
@@ -448,6 +464,7 @@ where
     >
         ensures handle { IfOk result (λ begun. begun.0 ≡ self.now) }
         ensures home { IfOk result (λ begun. begun.1 ≡ self.now) }
+        ensures counted { IfOk result (λ _. CountsBy step.CloneHandle self.now.opening.log) }
     {
         let home = self.handle.uncounted()?;
         Ok((self.handle.clone()?, home))
@@ -466,7 +483,8 @@ impl<M: Manager, F: SyncHook<M>, A: AsyncHook<M>, C: Clock, R: Wait + Drop, L: L
     /// One handle more, if the pool has one left. `AllocError` says that there was no memory for it, and none is
     /// counted then.
     pub fn upgrade(&self) -> Result<Option<Pool<M, F, A, C, R, L, W>>, AllocError>
-        ensures { IfOk result (λ pool. IfSome pool (λ some. some ≡ self.now)) }
+        ensures pool { IfOk result (λ pool. IfSome pool (λ some. some ≡ self.now)) }
+        ensures counted { IfOk result (Upgrades self.now.opening.log) }
     {
         Pool::upgrade(&self.home)
     }

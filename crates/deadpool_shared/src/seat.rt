@@ -1,9 +1,10 @@
 //! The lock of a pool, with what one holder has.
-ghost use Rattle.std.specs.Prelude.{◌≡◌, None};
+ghost use Rattle.std.specs.Prelude.{◌≡◌, Some, None};
 ghost use Rattle.std.specs.Option.{option_or};
 ghost use Rattle.deadpool_journal.specs.ByNumber.{number_in};
 ghost use Rattle.deadpool_shared.specs.Calling.{CallsFromSeat, IsSupplied};
-ghost use Rattle.deadpool_shared.specs.Counts.{IsKnown, caller_of, counts_of, had};
+ghost use Rattle.deadpool_shared.specs.Counts.{IsHeldBy, IsKnown, caller_of, counts_of, had};
+ghost use Rattle.deadpool_shared.specs.Counts.{held_by, waits_by};
 
 use crate::ledgers::{History, Ledgers};
 use crate::locked::Locked;
@@ -11,18 +12,20 @@ use crate::shared::Shared;
 use crate::shares::Shares;
 use deadpool_chronicle::Caller;
 use deadpool_history::Line;
-use deadpool_lock::{Departure, Registration};
+use deadpool_lock::{Departure, Registered};
 use deadpool_managed::{AsyncHook, Clock, Desk, Kept, Manager, Reply, Slot, Step, SyncHook};
 use std::marker::Model;
 use std::sync::Wait;
 
 /// The lock of a pool, which is lent it, with the shares of one get or object, and what the get hears by. Each step is
-/// one section of the lock. After it, with the lock given back, the wakers are called of the gets that it made due.
+/// one section of the lock. After it, with the lock given back, the wakers are called of the gets that it made due, and
+/// then the holder's caller has seen a moment at which all were told.
 /// What a step lets go of is departing until the holder has detached and dropped it, and says so.
 ///
 /// A get without shares is handed out some as it enters. Contracts see a seat as its shares, if it has some. A step
-/// that lowers a count asks that the shares have what it lowers, and is then never answered `Unknown`. A seat cannot
-/// be dropped, since its shares cannot.
+/// that lowers a count asks that the shares have what it lowers. By the lines of its caller the holder has the object
+/// that goes back, and waits under the ticket that it names. So no step is ever answered `Unknown`. A seat cannot be
+/// dropped, since its shares cannot.
 pub struct Seat<
     'a,
     M: Manager,
@@ -35,7 +38,7 @@ pub struct Seat<
     shared: &'a Shared<M, F, A, C, R, L>,
     // None before a get enters that was handed out none.
     shares: Option<Shares<L>>,
-    registration: &'a mut Registration,
+    registered: &'a mut Registered,
     departure: &'a mut Option<Departure>,
 }
 
@@ -52,33 +55,38 @@ impl<'a, M: Manager, F: SyncHook<M>, A: AsyncHook<M>, C: Clock, R: Wait + Drop, 
 impl<'a, M: Manager, F: SyncHook<M>, A: AsyncHook<M>, C: Clock, R: Wait + Drop, L: Ledgers> Desk<
     Kept<M::Type>,
 > for Seat<'a, M, F, A, C, R, L> {
-    ghost holds = { λ seat holding. had seat ≡ counts_of holding };
+    ghost holds = { λ seat holding. IsHeldBy seat holding };
 
-    ghost makes = { λ s step was reply hand s'. IsKnown step reply
+    ghost takes_back = { λ seat number. held_by seat ≡ Some number };
+
+    ghost waits = { λ seat ticket. waits_by seat ≡ Some ticket };
+
+    ghost makes = { λ s step was reply hand s'. IsKnown reply
         × CallsFromSeat step (number_in (option_or was hand)) reply s s' };
 
     #[inline(always)]
     fn make(&mut self, step: &Step, hand: &mut Option<Slot<Kept<M::Type>>>) -> Reply {
         let mut section = self.shared.lock.begin();
         supply(section.kept(), &mut self.shares);
-        let (reply, spare) = match &mut self.shares {
-            Some(shares) => section.kept().make(
-                shares,
-                step,
-                hand,
-                self.registration.waker(),
-                self.departure,
-            ),
-            // (it holds nothing)
-            None => match step {
-                Step::Enter { .. } => (Reply::Exhausted, None),
-                Step::Ask { .. } | Step::Withdraw { .. } => (Reply::Unknown, None),
-                _ => unreachable!(),
-            },
-        };
-        self.shared.lock.end(section);
-        drop(spare);
-        reply
+        match &mut self.shares {
+            Some(shares) => {
+                let (reply, spare) = section
+                    .kept()
+                    .make(shares, step, hand, self.registered, self.departure);
+                self.shared.lock.end(section, &mut shares.caller);
+                drop(spare);
+                reply
+            }
+            // (it holds nothing, and waits under no ticket)
+            None => {
+                let mut caller = section.kept().admit();
+                self.shared.lock.end(section, &mut caller);
+                match step {
+                    Step::Enter { .. } => Reply::Exhausted,
+                    _ => unreachable!(),
+                }
+            }
+        }
     }
 }
 
@@ -95,7 +103,7 @@ impl<'a, M: Manager, F: SyncHook<M>, A: AsyncHook<M>, C: Clock, R: Wait + Drop, 
     pub(crate) fn new(
         shared: &'a Shared<M, F, A, C, R, L>,
         shares: Option<Shares<L>>,
-        registration: &'a mut Registration,
+        registered: &'a mut Registered,
         departure: &'a mut Option<Departure>,
     ) -> Self
         ensures { result ≡ shares }
@@ -103,7 +111,7 @@ impl<'a, M: Manager, F: SyncHook<M>, A: AsyncHook<M>, C: Clock, R: Wait + Drop, 
         Seat {
             shared,
             shares,
-            registration,
+            registered,
             departure,
         }
     }
@@ -123,7 +131,7 @@ impl<'a, M: Manager, F: SyncHook<M>, A: AsyncHook<M>, C: Clock, R: Wait + Drop, 
         let Seat {
             shared: _,
             shares,
-            registration: _,
+            registered: _,
             departure: _,
         } = self;
         shares

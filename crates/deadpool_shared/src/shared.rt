@@ -5,12 +5,13 @@ ghost use Rattle.deadpool_chronicle.specs.History.{calls_by};
 ghost use Rattle.deadpool_desk.specs.Replies.{IsOwnerReplyTo};
 ghost use Rattle.deadpool_desk.specs.declared.owner_step.OwnerReply.TheVariants as reply;
 ghost use Rattle.deadpool_desk.specs.declared.owner_step.OwnerStep.TheVariants as step;
-ghost use Rattle.deadpool_history.specs.History.{HasCalled, IsBeginning, IsLegal, IsRetain};
-ghost use Rattle.deadpool_history.specs.History.{IsTallyOf, LeavesIdle};
+ghost use Rattle.deadpool_history.specs.History.{CallsAndTells, HasCalled, IsBeginning, IsLegal};
+ghost use Rattle.deadpool_history.specs.History.{IsTallyOf};
 ghost use Rattle.deadpool_journal.specs.Copies.{HasSteps};
 ghost use Rattle.deadpool_journal.specs.Tally.{AreBalanced};
 ghost use Rattle.deadpool_journal.specs.declared.entry.Entry.TheVariants as entry;
-ghost use Rattle.deadpool_shared.specs.Calling.{AsksStatus, AsksTally, ByNewCaller};
+ghost use Rattle.deadpool_shared.specs.Calling.{AnswersAndTells, AsksStatus, AsksTally, ByNewCaller};
+ghost use Rattle.deadpool_shared.specs.Calling.{CountsBy};
 ghost use Rattle.deadpool_shared.specs.Counts.{IsNewCaller};
 
 use crate::ledgers::{History, Ledgers};
@@ -94,7 +95,7 @@ impl<M: Manager, F: SyncHook<M>, A: AsyncHook<M>, C: Clock, R: Wait + Drop, L: L
     }
 
     /// Makes a step of the pool's owner, and gives the reply. Idle objects that go are dropped with the lock taken.
-    /// Gets that the step made due are told.
+    /// Gets that the step made due are told, and then the caller has seen a moment at which all were.
     #[inline(always)]
     pub fn make_for_owner_by(
         &self,
@@ -102,23 +103,26 @@ impl<M: Manager, F: SyncHook<M>, A: AsyncHook<M>, C: Clock, R: Wait + Drop, L: L
         step: &OwnerStep,
     ) -> OwnerReply
         ensures fits { IsOwnerReplyTo step.now result }
-        ensures call { HasCalled (λ e. e ≡ entry.Owner step.now result) caller.old caller.new }
+        ensures call { CallsAndTells (λ e. e ≡ entry.Owner step.now result)
+            caller.old caller.new }
     {
         let mut locked = self.lock.begin();
         let reply = locked.kept().make_for_owner(caller, step);
-        self.lock.end(locked);
+        self.lock.end(locked, caller);
         reply
     }
 
     /// The same by a new caller.
     #[inline(always)]
     pub fn make_for_owner(&self, step: &OwnerStep) -> OwnerReply
-        ensures { IsOwnerReplyTo step.now result }
+        ensures fits { IsOwnerReplyTo step.now result }
+        ensures call { ByNewCaller self.now.opening.log
+            (CallsAndTells (λ e. e ≡ entry.Owner step.now result)) }
     {
         let mut locked = self.lock.begin();
-        let mut caller = locked.kept().admit();
+        let mut caller = locked.kept().admit_after(&self.opening);
         let reply = locked.kept().make_for_owner(&mut caller, step);
-        self.lock.end(locked);
+        self.lock.end(locked, &mut caller);
         reply
     }
 
@@ -135,8 +139,9 @@ impl<M: Manager, F: SyncHook<M>, A: AsyncHook<M>, C: Clock, R: Wait + Drop, L: L
     #[inline(never)]
     fn note_departed(&self, departure: Departure) {
         let mut section = self.lock.begin();
-        section.kept().has_departed(departure);
-        self.lock.end(section);
+        section.has_departed(departure);
+        let mut caller = section.kept().admit();
+        self.lock.end(section, &mut caller);
     }
 
     /// How the pool stands, which the journal notes. It makes nobody due.
@@ -214,12 +219,11 @@ impl<M: Manager, F: SyncHook<M>, A: AsyncHook<M>, C: Clock, R: Wait + Drop, L: L
     ) -> Result<RetainResult<K::Left>, AllocError>
         requires { K.can_call retainer.old }
         ensures can_call { K.can_call retainer.new }
-        ensures call { HasCalled (IsRetain result) caller.old caller.new }
-        ensures idle { LeavesIdle result caller.new.seen }
+        ensures call { AnswersAndTells K.Retainer result caller.old caller.new }
     {
         let mut step = self.lock.begin();
         let retained = step.kept().retain(caller, retainer);
-        self.lock.end(step);
+        self.lock.end(step, caller);
         retained
     }
 
@@ -229,12 +233,13 @@ impl<M: Manager, F: SyncHook<M>, A: AsyncHook<M>, C: Clock, R: Wait + Drop, L: L
         retainer: &mut K,
     ) -> Result<RetainResult<K::Left>, AllocError>
         requires { K.can_call retainer.old }
-        ensures { K.can_call retainer.new }
+        ensures can_call { K.can_call retainer.new }
+        ensures call { ByNewCaller self.now.opening.log (AnswersAndTells K.Retainer result) }
     {
         let mut step = self.lock.begin();
-        let mut caller = step.kept().admit();
+        let mut caller = step.kept().admit_after(&self.opening);
         let retained = step.kept().retain(&mut caller, retainer);
-        self.lock.end(step);
+        self.lock.end(step, &mut caller);
         retained
     }
 }
@@ -242,6 +247,10 @@ impl<M: Manager, F: SyncHook<M>, A: AsyncHook<M>, C: Clock, R: Wait + Drop, L: L
 impl<M: Manager, F: SyncHook<M>, A: AsyncHook<M>, C: Clock, R: Wait + Drop, L: Ledgers> Counted
     for Shared<M, F, A, C, R, L> {
     ghost source_of = { λ shared. shared.lock.source.id };
+
+    ghost counts = { λ shared. CountsBy step.CloneHandle shared.opening.log };
+
+    ghost uncounts = { λ shared. CountsBy step.DropHandle shared.opening.log };
 
     fn source(&self) -> &Source {
         self.lock.source()

@@ -48,3 +48,12 @@ zip_through P Q R step (x ∷ xs) [] zs p q = absurd p
 zip_through P Q R step (x ∷ xs) (y ∷ ys) [] p q = q
 zip_through P Q R step (x ∷ xs) (y ∷ ys) (z ∷ zs) p q =
     (step x y z p.0 q.0, zip_through P Q R step xs ys zs p.1 q.1)
+
+-- what holds of the two in each place has this too
+pub zip_so :
+    {A B : Type 0} (P Q : A → B → Type 0) → ((a : A) (b : B) → P a b → Q a b)
+    → (xs : List A) (ys : List B) → AllZip P xs ys → AllZip Q xs ys
+zip_so P Q so [] [] p = tt
+zip_so P Q so [] (y ∷ ys) p = absurd p
+zip_so P Q so (x ∷ xs) [] p = absurd p
+zip_so P Q so (x ∷ xs) (y ∷ ys) p = (so x y p.0, zip_so P Q so xs ys p.1)

@@ -1,5 +1,7 @@
 //! A user that is handed what its thread waits by.
 ghost use Rattle.std.specs.Prelude.{⊤, IfOk};
+ghost use Rattle.deadpool_builder.specs.Building.{Building};
+ghost use Rattle.deadpool_threads.specs.Returned.{OfItsBuilder};
 
 use crate::blocking::Blocking;
 use crate::user::PoolUser;
@@ -25,6 +27,9 @@ pub trait BlockingUser<
     // Holds of each output that may come of it.
     ghost returns: { Self → Self.Output → Type 0 } = { λ _ _. ⊤ };
 
+    // Holds of the builder of its pool and each output that may come of it.
+    ghost returns_from: { Self → Building M F A C → Self.Output → Type 0 } = { λ _ _ _. ⊤ };
+
     /// Uses the pool.
     fn run<L: Ledgers>(
         self,
@@ -32,7 +37,8 @@ pub trait BlockingUser<
         blocking: &mut Blocking,
         pool: &Pool<M, F, A, C, R, L>,
     ) -> Self::Output
-        ensures { returns self result };
+        ensures returns { returns self result }
+        ensures built { OfItsBuilder pool.now (λ builder. returns_from self builder result) };
 }
 
 /// A user that is handed what its thread waits by, which is made first. `Err` says that it could not be made, and the
@@ -51,6 +57,8 @@ impl<
     type Output = io::Result<U::Output>;
 
     ghost returns = { λ handed ended. IfOk ended (U.returns handed.0) };
+
+    ghost returns_from = { λ handed builder ended. IfOk ended (U.returns_from handed.0 builder) };
 
     fn run<L: Ledgers>(self, rt: &R, pool: &Pool<M, F, A, C, R, L>) -> io::Result<U::Output> {
         let Handed(user) = self;

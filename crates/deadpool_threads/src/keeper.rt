@@ -1,5 +1,7 @@
 //! Who keeps a pool while others use it.
 ghost use Rattle.std.specs.Prelude.{⊤};
+ghost use Rattle.deadpool_builder.specs.Building.{Building};
+ghost use Rattle.deadpool_threads.specs.Returned.{OfItsBuilder};
 
 use deadpool_managed::{AsyncHook, Manager, SyncHook};
 use deadpool_parts::Clock;
@@ -16,9 +18,13 @@ pub trait Keeper<M: Manager, F: SyncHook<M>, A: AsyncHook<M>, C: Clock, R: Wait 
     // Holds of each output that may come of it.
     ghost returns: { Self → Self.Output → Type 0 } = { λ _ _. ⊤ };
 
+    // Holds of the builder of its pool and each output that may come of it.
+    ghost returns_from: { Self → Building M F A C → Self.Output → Type 0 } = { λ _ _ _. ⊤ };
+
     /// Keeps the pool, and returns once the shift is over.
     fn keep<L: Ledgers>(self, rt: &R, pool: &Pool<M, F, A, C, R, L>, shift: &Shift) -> Self::Output
-        ensures { returns self result };
+        ensures returns { returns self result }
+        ensures built { OfItsBuilder pool.now (λ builder. returns_from self builder result) };
 }
 
 /// For how long a keeper keeps a pool: until all workers have returned.

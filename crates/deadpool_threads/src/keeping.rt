@@ -3,6 +3,7 @@ ghost use Rattle.std.specs.Prelude.{◌≡◌, ◌↔◌, true, vec_len, Err, If
 ghost use Rattle.std.specs.List.{AllZip};
 ghost use Rattle.deadpool_parts.specs.declared.errors.BuildError.TheVariants.{NoRuntimeSpecified, OutOfMemory};
 ghost use Rattle.deadpool_builder.specs.Building.{lacks_any_runtime};
+ghost use Rattle.deadpool_threads.specs.Returned.{Returned};
 
 use crate::host::Host;
 use crate::keeper::{Keeper, Shift};
@@ -49,8 +50,12 @@ where
         ↔ (lacks_any_runtime builder.runtime builder.timeouts ≡ true) }
     ensures each { IfOk result (λ outputs. vec_len outputs.0 ≡ vec_len workers) }
     ensures workers { IfOk result (λ outputs. AllZip W.returns workers.items outputs.0.items) }
+    ensures workers_built { IfOk result (λ outputs. AllZip
+        (λ worker output. W.returns_from worker builder output) workers.items outputs.0.items) }
     ensures keeper { IfOk result (λ outputs. K.returns keeper outputs.1) }
+    ensures keeper_built { IfOk result (λ outputs. K.returns_from keeper builder outputs.1) }
     ensures last { IfOk result (λ outputs. U.returns last outputs.2) }
+    ensures last_built { IfOk result (λ outputs. U.returns_from last builder outputs.2) }
 {
     with_keeper_by::<M, F, A, C, R, W, K, U, Brand>(
         builder,
@@ -94,8 +99,12 @@ where
         ↔ (lacks_any_runtime builder.runtime builder.timeouts ≡ true) }
     ensures each { IfOk result (λ outputs. vec_len outputs.0 ≡ vec_len workers) }
     ensures workers { IfOk result (λ outputs. AllZip W.returns workers.items outputs.0.items) }
+    ensures workers_built { IfOk result (λ outputs. AllZip
+        (λ worker output. W.returns_from worker builder output) workers.items outputs.0.items) }
     ensures keeper { IfOk result (λ outputs. K.returns keeper outputs.1) }
+    ensures keeper_built { IfOk result (λ outputs. K.returns_from keeper builder outputs.1) }
     ensures last { IfOk result (λ outputs. U.returns last outputs.2) }
+    ensures last_built { IfOk result (λ outputs. U.returns_from last builder outputs.2) }
 {
     let pool: Pool<M, F, A, C, R, L> = builder.build(blanks, rt)?;
     let (outputs, kept) = kept_in_threads(&rt, workers, keeper, &pool)?;
@@ -128,16 +137,20 @@ where
     A::State: Send + 'static,
     C::Alarm: Send + 'static,
     ensures each { IfOk result (λ outputs. vec_len outputs.0 ≡ vec_len workers) }
-    ensures workers { IfOk result (λ outputs. AllZip W.returns workers.items outputs.0.items) }
-    ensures keeper { IfOk result (λ outputs. K.returns keeper outputs.1) }
+    ensures workers { IfOk result (λ outputs. AllZip
+        (Returned W.returns W.returns_from pool.now) workers.items outputs.0.items) }
+    ensures keeper { IfOk result (λ outputs.
+        Returned K.returns K.returns_from pool.now keeper outputs.1) }
     ensures short { IfErr result (λ cause. cause ≡ OutOfMemory) }
 {
     let rt = *rt;
     let shift = Shift::begin(rt.alloc())?;
     let theirs = Arc::try_clone(&shift)?;
     let kept = pool.clone()?;
-    let promise = OfKeeper::new(&keeper);
-    let keeping = move || keeper.keep(&rt, &kept, &theirs);
+    let promise = OfKeeper::new(&kept, &keeper);
+    let keeping = move ||
+        ensures { Returned K.returns K.returns_from kept keeper result }
+    { keeper.keep(&rt, &kept, &theirs) };
     let Ok(thread) = thread::spawn_with(&rt, promise, keeping) else {
         return Err(BuildError::OutOfMemory);
     };

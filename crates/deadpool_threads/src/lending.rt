@@ -29,6 +29,7 @@ where
     ensures refused { (result ≡ Err NoRuntimeSpecified)
         ↔ (lacks_any_runtime builder.runtime builder.timeouts ≡ true) }
     ensures user { IfOk result (U.returns user) }
+    ensures built { IfOk result (U.returns_from user builder) }
 {
     with_pool_by::<M, F, A, C, R, U, Brand>(builder, rt, user, Blanks::new())
 }
@@ -54,6 +55,7 @@ where
     ensures refused { (result ≡ Err NoRuntimeSpecified)
         ↔ (lacks_any_runtime builder.runtime builder.timeouts ≡ true) }
     ensures user { IfOk result (U.returns user) }
+    ensures built { IfOk result (U.returns_from user builder) }
 {
     let pool: Pool<M, F, A, C, R, L> = builder.build(blanks, rt)?;
     Ok(user.run(&rt, &pool))

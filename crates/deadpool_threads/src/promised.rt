@@ -1,71 +1,78 @@
 //! What is known of a thread's result once the thread is joined.
 ghost use Rattle.std.specs.Prelude.{◌≡◌};
+ghost use Rattle.deadpool_threads.specs.Returned.{Returned};
 
 use crate::keeper::Keeper;
 use crate::user::PoolUser;
 use deadpool_managed::{AsyncHook, Manager, SyncHook};
 use deadpool_parts::Clock;
-use std::marker::PhantomData;
+use deadpool_shared::{Ledgers, Pool};
 use std::snapshot::Snapshot;
 use std::sync::Wait;
 use std::thread::Promise;
 
-/// That a thread gives what its worker may return.
+/// That a thread gives what its worker may return that is lent this pool.
 #[derive(Drop)]
-pub(crate) struct OfWorker<M, F, A, C, R, W> {
+pub(crate) struct OfWorker<P, W> {
+    pool: Snapshot<P>,
     worker: Snapshot<W>,
-    marker: PhantomData<(M, F, A, C, R)>,
 }
 
-impl<M, F, A, C, R, W> OfWorker<M, F, A, C, R, W> {
-    pub(crate) fn new(worker: &W) -> Self
-        ensures { result.worker.value ≡ worker.now }
+impl<P, W> OfWorker<P, W> {
+    pub(crate) fn new(pool: &P, worker: &W) -> Self
+        ensures pool { result.pool.value ≡ pool.now }
+        ensures worker { result.worker.value ≡ worker.now }
     {
         OfWorker {
+            pool: Snapshot::of(pool),
             worker: Snapshot::of(worker),
-            marker: PhantomData,
         }
     }
 }
 
-impl<M, F, A, C, R, W> Promise<W::Output> for OfWorker<M, F, A, C, R, W>
+impl<M, F, A, C, R, L, W> Promise<W::Output> for OfWorker<Pool<M, F, A, C, R, L>, W>
 where
     M: Manager,
     F: SyncHook<M>,
     A: AsyncHook<M>,
     C: Clock,
     R: Wait + Drop,
+    L: Ledgers,
     W: PoolUser<M, F, A, C, R>,
 {
-    ghost kept_by = { λ promise output. W.returns promise.worker.value output };
+    ghost kept_by = { λ promise. Returned W.returns W.returns_from
+        promise.pool.value promise.worker.value };
 }
 
-/// That a thread gives what its keeper may return.
+/// That a thread gives what its keeper may return that is lent this pool.
 #[derive(Drop)]
-pub(crate) struct OfKeeper<M, F, A, C, R, K> {
+pub(crate) struct OfKeeper<P, K> {
+    pool: Snapshot<P>,
     keeper: Snapshot<K>,
-    marker: PhantomData<(M, F, A, C, R)>,
 }
 
-impl<M, F, A, C, R, K> OfKeeper<M, F, A, C, R, K> {
-    pub(crate) fn new(keeper: &K) -> Self
-        ensures { result.keeper.value ≡ keeper.now }
+impl<P, K> OfKeeper<P, K> {
+    pub(crate) fn new(pool: &P, keeper: &K) -> Self
+        ensures pool { result.pool.value ≡ pool.now }
+        ensures keeper { result.keeper.value ≡ keeper.now }
     {
         OfKeeper {
+            pool: Snapshot::of(pool),
             keeper: Snapshot::of(keeper),
-            marker: PhantomData,
         }
     }
 }
 
-impl<M, F, A, C, R, K> Promise<K::Output> for OfKeeper<M, F, A, C, R, K>
+impl<M, F, A, C, R, L, K> Promise<K::Output> for OfKeeper<Pool<M, F, A, C, R, L>, K>
 where
     M: Manager,
     F: SyncHook<M>,
     A: AsyncHook<M>,
     C: Clock,
     R: Wait + Drop,
+    L: Ledgers,
     K: Keeper<M, F, A, C, R>,
 {
-    ghost kept_by = { λ promise output. K.returns promise.keeper.value output };
+    ghost kept_by = { λ promise. Returned K.returns K.returns_from
+        promise.pool.value promise.keeper.value };
 }

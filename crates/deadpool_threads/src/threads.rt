@@ -3,6 +3,7 @@ ghost use Rattle.std.specs.Prelude.{◌≡◌, ◌↔◌, [], true, vec_len, Err
 ghost use Rattle.std.specs.List.{AllZip};
 ghost use Rattle.deadpool_parts.specs.declared.errors.BuildError.TheVariants.{NoRuntimeSpecified, OutOfMemory};
 ghost use Rattle.deadpool_builder.specs.Building.{lacks_any_runtime};
+ghost use Rattle.deadpool_threads.specs.Returned.{Returned};
 
 use crate::host::Host;
 use crate::promised::OfWorker;
@@ -16,9 +17,9 @@ use std::thread;
 use std::thread::PromisedHandle;
 
 // A worker's thread, which is still to be joined.
-type Thread<M, F, A, C, R, W> = PromisedHandle<
+type Thread<M, F, A, C, R, L, W> = PromisedHandle<
     <W as PoolUser<M, F, A, C, R>>::Output,
-    OfWorker<M, F, A, C, R, W>,
+    OfWorker<Pool<M, F, A, C, R, L>, W>,
 >;
 
 /// Builds a pool with ledgers of its own, and starts a thread for each of these workers, which uses it. Once all have
@@ -49,7 +50,10 @@ where
         ↔ (lacks_any_runtime builder.runtime builder.timeouts ≡ true) }
     ensures each { IfOk result (λ outputs. vec_len outputs.0 ≡ vec_len workers) }
     ensures workers { IfOk result (λ outputs. AllZip W.returns workers.items outputs.0.items) }
+    ensures workers_built { IfOk result (λ outputs. AllZip
+        (λ worker output. W.returns_from worker builder output) workers.items outputs.0.items) }
     ensures last { IfOk result (λ outputs. U.returns last outputs.1) }
+    ensures last_built { IfOk result (λ outputs. U.returns_from last builder outputs.1) }
 {
     with_threads_by::<M, F, A, C, R, W, U, Brand>(builder, rt, workers, last, Blanks::new())
 }
@@ -83,7 +87,10 @@ where
         ↔ (lacks_any_runtime builder.runtime builder.timeouts ≡ true) }
     ensures each { IfOk result (λ outputs. vec_len outputs.0 ≡ vec_len workers) }
     ensures workers { IfOk result (λ outputs. AllZip W.returns workers.items outputs.0.items) }
+    ensures workers_built { IfOk result (λ outputs. AllZip
+        (λ worker output. W.returns_from worker builder output) workers.items outputs.0.items) }
     ensures last { IfOk result (λ outputs. U.returns last outputs.1) }
+    ensures last_built { IfOk result (λ outputs. U.returns_from last builder outputs.1) }
 {
     let pool: Pool<M, F, A, C, R, L> = builder.build(blanks, rt)?;
     let outputs = in_threads(&rt, workers, &pool)?;
@@ -113,7 +120,8 @@ where
     A::State: Send + 'static,
     C::Alarm: Send + 'static,
     ensures each { IfOk result (λ outputs. vec_len outputs ≡ vec_len workers) }
-    ensures workers { IfOk result (λ outputs. AllZip W.returns workers.items outputs.items) }
+    ensures workers { IfOk result (λ outputs. AllZip
+        (Returned W.returns W.returns_from pool.now) workers.items outputs.items) }
     ensures short { IfErr result (λ cause. cause ≡ OutOfMemory) }
 {
     let outputs = Vec::with_capacity(rt.alloc(), workers.len())?;
@@ -131,7 +139,7 @@ fn started<M, F, A, C, R, W, L>(
     rt: &R,
     workers: Vec<W>,
     pool: &Pool<M, F, A, C, R, L>,
-) -> Result<Vec<Thread<M, F, A, C, R, W>>, Vec<Thread<M, F, A, C, R, W>>>
+) -> Result<Vec<Thread<M, F, A, C, R, L, W>>, Vec<Thread<M, F, A, C, R, L, W>>>
 where
     M: Manager + Send + Sync + 'static,
     F: SyncHook<M> + Send + Sync + 'static,
@@ -147,8 +155,9 @@ where
     M::Recycling: Send + 'static,
     A::State: Send + 'static,
     C::Alarm: Send + 'static,
-    ensures workers { IfOk result (λ threads. AllZip
-        (λ worker thread. thread.promise.worker.value ≡ worker) workers.items threads.items) }
+    ensures workers { IfOk result (λ threads. AllZip (λ worker thread.
+        (thread.promise.worker.value ≡ worker) × (thread.promise.pool.value ≡ pool.now))
+        workers.items threads.items) }
 {
     let Ok(mut threads) = Vec::with_capacity(rt.alloc(), workers.len()) else {
         return Err(Vec::new(rt.alloc()));
@@ -169,7 +178,7 @@ fn start<M, F, A, C, R, W, L>(
     rt: R,
     worker: W,
     pool: &Pool<M, F, A, C, R, L>,
-) -> Option<Thread<M, F, A, C, R, W>>
+) -> Option<Thread<M, F, A, C, R, L, W>>
 where
     M: Manager + Send + Sync + 'static,
     F: SyncHook<M> + Send + Sync + 'static,
@@ -186,21 +195,25 @@ where
     A::State: Send + 'static,
     C::Alarm: Send + 'static,
     ensures worker { IfSome result (λ thread. thread.promise.worker.value ≡ worker) }
+    ensures pool { IfSome result (λ thread. thread.promise.pool.value ≡ pool.now) }
 {
     let Ok(pool) = pool.clone() else {
         return None;
     };
-    let promise = OfWorker::new(&worker);
-    let Ok(thread) = thread::spawn_with(&rt, promise, move || worker.run(&rt, &pool)) else {
+    let promise = OfWorker::new(&pool, &worker);
+    let using = move ||
+        ensures { Returned W.returns W.returns_from pool worker result }
+    { worker.run(&rt, &pool) };
+    let Ok(thread) = thread::spawn_with(&rt, promise, using) else {
         return None;
     };
     Some(thread)
 }
 
 // What these threads give, in the room that is there for it.
-fn joined<M, F, A, C, R, W>(
+fn joined<M, F, A, C, R, L, W>(
     rt: &R,
-    threads: Vec<Thread<M, F, A, C, R, W>>,
+    threads: Vec<Thread<M, F, A, C, R, L, W>>,
     mut outputs: Vec<W::Output>,
 ) -> Result<Vec<W::Output>, BuildError>
 where
@@ -209,11 +222,14 @@ where
     A: AsyncHook<M>,
     C: Clock,
     R: Host,
+    L: Ledgers,
     W: PoolUser<M, F, A, C, R>,
     W::Output: Drop,
     requires empty { outputs.items ≡ [] }
     ensures threads { IfOk result (λ given. AllZip
-        (λ thread output. W.returns thread.promise.worker.value output) threads.items given.items) }
+        (λ thread output. Returned W.returns W.returns_from
+        thread.promise.pool.value thread.promise.worker.value output)
+        threads.items given.items) }
     ensures short { IfErr result (λ cause. cause ≡ OutOfMemory) }
 {
     for thread in threads {

@@ -1,5 +1,5 @@
 -- What each step makes of the objects and their holders: no number comes to stand twice.
-use Rattle.std.proofs.Common.{◌≡◌, ℕ, ◌+◌, ◌-◌, ◌≤◌, List, [], ◌∷◌, ◌++◌, Bool, true, false, drop, take}
+use Rattle.std.proofs.Common.{◌≡◌, ◌⊎◌, ℕ, ◌+◌, ◌-◌, ◌<◌, ◌≤◌, List, [], ◌∷◌, ◌++◌, Bool, true, false, drop, take}
 use Rattle.std.proofs.Common.{length, get_or, refl, sym, ap, ◌∙◌, arith, inl, inr, Option, Some, None, Ok, Err}
 use Rattle.std.proofs.Common.{zero, suc}
 use Rattle.std.specs.Prelude.{◌==◌, if◌then◌else◌}
@@ -28,6 +28,7 @@ use Rattle.deadpool_journal.specs.declared.entry.Entry.TheVariants.{Made, Owner,
 use Rattle.deadpool_turns.specs.Holders.{EachRunNumbersOnce, EachHasOneHolder, EachOpensNumberedOnce, HandsOver}
 use Rattle.deadpool_turns.specs.Holders.{IsNumberedOnce, Out, Parts, Passes, passing}
 use Rattle.deadpool_turns.specs.Holders.{holds, is_held, numbers_of, times, total, without_held}
+use Rattle.deadpool_turns.specs.Leaving.{EachNumberGoesForGood, EachStepKeepsObjects, MayTake}
 use Rattle.deadpool_turns.proofs.Removing.{times-remaining}
 
 -- how often a number is this one
@@ -86,54 +87,86 @@ times-parted c n k (x ∷ xs) h =
           ))
     ]
 
-module _ (d d' : DeskState ℕ) (out out' : Out) (was : IsNumberedOnce d out) where
+-- What a step makes of the numbers that are idle or held, where an object leaves only as `L` says.
+record Accounts (L : ℕ → Type 0) (d d' : DeskState ℕ) (out out' : Out) : Type 0 where
+  numbered : IsNumberedOnce d out → IsNumberedOnce d' out'
+  onward : d.next ≤ d'.next
+  back : (n : ℕ) → n < d.next → total n d' out' ≤ total n d out
+  stays : (n : ℕ) → (total n d out ≤ total n d' out') ⊎ L n
+
+module _ (L : ℕ → Type 0) (d d' : DeskState ℕ) (out out' : Out) where
   -- no number stands there more often than before
-  fewer : d'.next ≡ d.next → ((n : ℕ) → total n d' out' ≤ total n d out) → IsNumberedOnce d' out'
-  fewer next few = record {
-    once = λ n. omega (arith, few n, was.once n);
-    given = λ n new. omega (arith, few n, was.given n (omega (arith, new, next)));
+  fewer : d'.next ≡ d.next → ((n : ℕ) → total n d' out' ≤ total n d out)
+      → ((n : ℕ) → (total n d out ≤ total n d' out') ⊎ L n) → Accounts L d d' out out'
+  fewer next few stays = record {
+    numbered = λ was. record {
+      once = λ n. omega (arith, few n, was.once n);
+      given = λ n new. omega (arith, few n, was.given n (omega (arith, new, next)));
+    };
+    onward = omega (arith, next);
+    back = λ n old. few n;
+    stays = stays;
   }
 
+  -- each as often as before
+  as_often : d'.next ≡ d.next → ((n : ℕ) → total n d' out' ≡ total n d out) → Accounts L d d' out out'
+  as_often next same = fewer next (λ n. omega (arith, same n)) (λ n. inl (omega (arith, same n)))
+
   -- nothing moves
-  still : d'.next ≡ d.next → d'.idle ≡ d.idle → out' ≡ out → IsNumberedOnce d' out'
-  still next idle held = fewer next (λ n. rw (idle, held) (omega arith))
+  still : d'.next ≡ d.next → d'.idle ≡ d.idle → out' ≡ out → Accounts L d d' out out'
+  still next idle held = as_often next (λ n. rw (idle, held) refl)
 
   -- one is given away, and is idle no more than before
-  parted : (c n : ℕ) → Parts c n out out' → d'.next ≡ d.next → d'.idle ≡ d.idle → IsNumberedOnce d' out'
-  parted c n p next idle =
+  parted : (c n : ℕ) → Parts c n out out' → L n → d'.next ≡ d.next → d'.idle ≡ d.idle → Accounts L d d' out out'
+  parted c n p leaves next idle =
       fewer next (λ k. rw (idle, p.1) (let parts = times-parted c n k out p.0 in omega (arith, parts)))
+      (λ k. elim (cases_Bool (n == k)) [
+        | inl here ↦ inr (rw (← eqb-true n k here) leaves)
+        | inr other ↦
+            let none : one n k ≡ 0 = rw other refl in
+            inl (rw (idle, p.1) (let parts = times-parted c n k out p.0 in omega (arith, parts, none)))
+      ])
 
   -- one of the idle is given
   served : (c slot : ℕ) → next_idle d.mode d.idle ≡ Some slot → out' ≡ (c, slot) ∷ out → d'.next ≡ d.next
-      → d'.idle ≡ other_idle d.mode d.idle → IsNumberedOnce d' out'
+      → d'.idle ≡ other_idle d.mode d.idle → Accounts L d d' out out'
   served c slot is held next idle =
-      fewer next (λ n. rw (idle, held) (let parts = times-served n d.mode d.idle slot is in
+      as_often next (λ n. rw (idle, held) (let parts = times-served n d.mode d.idle slot is in
       omega (arith, parts, times-cons n slot (numbers_of out))))
 
   -- one comes back, and is idle
   kept : (c slot : ℕ) → Parts c slot out out' → d'.next ≡ d.next → d'.idle ≡ d.idle ++ slot ∷ []
-      → IsNumberedOnce d' out'
+      → Accounts L d d' out out'
   kept c slot p next idle =
-      fewer next (λ n. rw (idle, p.1) (let parts = times-parted c slot n out p.0 in
+      as_often next (λ n. rw (idle, p.1) (let parts = times-parted c slot n out p.0 in
       omega (arith, parts, times-append n d.idle (slot ∷ []), times-cons n slot [])))
 
   -- a new one is held
-  created : (c : ℕ) → out' ≡ (c, d.next) ∷ out → d'.next ≡ d.next + 1 → d'.idle ≡ d.idle → IsNumberedOnce d' out'
+  created : (c : ℕ) → out' ≡ (c, d.next) ∷ out → d'.next ≡ d.next + 1 → d'.idle ≡ d.idle → Accounts L d d' out out'
   created c held next idle =
       record {
-        once = λ n.
+        numbered = λ was. record {
+          once = λ n.
+              rw (idle, held) (elim (cases_Bool (d.next == n)) [
+                | inl here ↦
+                    let same : d.next ≡ n = eqb-true d.next n here in
+                    let none = was.given n (omega (arith, same)) in rw here (omega (arith, none))
+                | inr other ↦ rw other (was.once n)
+              ]);
+          given = λ n new.
+              rw (idle, held) (elim (cases_Bool (d.next == n)) [
+                | inl here ↦
+                    let same : d.next ≡ n = eqb-true d.next n here in absurd (omega (arith, same, new, next))
+                | inr other ↦ rw other (was.given n (omega (arith, new, next)))
+              ]);
+        };
+        onward = omega (arith, next);
+        back = λ n old.
             rw (idle, held) (elim (cases_Bool (d.next == n)) [
-              | inl here ↦
-                  let same : d.next ≡ n = eqb-true d.next n here in
-                  let none = was.given n (omega (arith, same)) in rw here (omega (arith, none))
-              | inr other ↦ rw other (was.once n)
+              | inl here ↦ let same : d.next ≡ n = eqb-true d.next n here in absurd (omega (arith, same, old))
+              | inr other ↦ rw other (omega arith)
             ]);
-        given = λ n new.
-            rw (idle, held) (elim (cases_Bool (d.next == n)) [
-              | inl here ↦
-                  let same : d.next ≡ n = eqb-true d.next n here in absurd (omega (arith, same, new, next))
-              | inr other ↦ rw other (was.given n (omega (arith, new, next)))
-            ]);
+        stays = λ n. inl (rw (idle, held) (let more = times-cons n d.next (numbers_of out) in omega (arith, more)));
       }
 
 idle_of : {d d' : DeskState ℕ} → d' ≡ d → d'.idle ≡ d.idle
@@ -142,22 +175,29 @@ idle_of is = ap (λ (x : DeskState ℕ). x.idle) is
 next_of : {d d' : DeskState ℕ} → d' ≡ d → d'.next ≡ d.next
 next_of is = ap (λ (x : DeskState ℕ). x.next) is
 
-module _ (d d' : DeskState ℕ) (out out' : Out) (was : IsNumberedOnce d out) where
+some_or_none : (k : ℕ) → (k ≡ 0) ⊎ (1 ≤ k)
+some_or_none zero = inl refl
+some_or_none (suc k) = inr (omega arith)
+
+module _ (d d' : DeskState ℕ) (out out' : Out) where
   -- to a state with the same objects
-  same : (e : DeskState ℕ) → d' ≡ e → e.next ≡ d.next → e.idle ≡ d.idle → out' ≡ out → IsNumberedOnce d' out'
-  same e is next idle held = still d d' out out' was (next_of is ∙ next) (idle_of is ∙ idle) held
+  same : {L : ℕ → Type 0} (e : DeskState ℕ) → d' ≡ e → e.next ≡ d.next → e.idle ≡ d.idle → out' ≡ out
+      → Accounts L d d' out out'
+  same e is next idle held = still _ d d' out out' (next_of is ∙ next) (idle_of is ∙ idle) held
 
-  away : (c n : ℕ) (e : DeskState ℕ) → d' ≡ e → e.next ≡ d.next → e.idle ≡ d.idle → Parts c n out out'
-      → IsNumberedOnce d' out'
-  away c n e is next idle p = parted d d' out out' was c n p (next_of is ∙ next) (idle_of is ∙ idle)
+  away : {L : ℕ → Type 0} (c n : ℕ) (e : DeskState ℕ) → d' ≡ e → e.next ≡ d.next → e.idle ≡ d.idle
+      → Parts c n out out' → L n → Accounts L d d' out out'
+  away c n e is next idle p leaves = parted _ d d' out out' c n p leaves (next_of is ∙ next) (idle_of is ∙ idle)
 
-  given : (c slot : ℕ) (e : DeskState ℕ) → d' ≡ e → e.next ≡ d.next → e.idle ≡ other_idle d.mode d.idle
-      → next_idle d.mode d.idle ≡ Some slot → out' ≡ (c, slot) ∷ out → IsNumberedOnce d' out'
+  given : {L : ℕ → Type 0} (c slot : ℕ) (e : DeskState ℕ) → d' ≡ e → e.next ≡ d.next
+      → e.idle ≡ other_idle d.mode d.idle → next_idle d.mode d.idle ≡ Some slot → out' ≡ (c, slot) ∷ out
+      → Accounts L d d' out out'
   given c slot e is next idle some held =
-      served d d' out out' was c slot some held (next_of is ∙ next) (idle_of is ∙ idle)
+      served _ d d' out out' c slot some held (next_of is ∙ next) (idle_of is ∙ idle)
 
   numbered : (c : ℕ) (step : Step) (object : Option ℕ) (reply : Reply) → Does d step object reply d'
-      → Passes c (passing step object reply) out out' → IsNumberedOnce d' out'
+      → Passes c (passing step object reply) out out'
+      → Accounts (λ n. MayTake c (Made step object reply) n d out) d d' out out'
   numbered c (Enter wait) (Some slot) (Object left) h k = given c slot _ h.2.2 refl refl h.2.0 k
   numbered c (Enter wait) None Closed h k = same _ h.1 refl refl k
   numbered c (Enter wait) None Full h k = same _ h.3 refl refl k
@@ -183,68 +223,75 @@ module _ (d d' : DeskState ℕ) (out out' : Out) (was : IsNumberedOnce d out) wh
   numbered c (Again allowance) None Create h k = same _ h.1.2 refl refl k
   numbered c (Again allowance) None Exhausted h k = same _ h.1.2 refl refl k
   numbered c (Again allowance) _ _ h k = absurd h.1
-  numbered c Discard None Done h k = away c k.0 _ h.1 refl refl k.1
+  numbered c Discard None Done h k = away c k.0 _ h.1 refl refl k.1 (refl, k.1.0)
   numbered c Discard None Unknown h k = same _ h.1 refl refl k
   numbered c Created None Unknown h k = same _ h.1 refl refl k
   numbered c Created None (Number number) h k =
       let next = h.1 in
-      created d d' out out' was c (rw next at k) (next_of h.2) (idle_of h.2)
+      created _ d d' out out' c (rw next at k) (next_of h.2) (idle_of h.2)
   numbered c Failed None Done h k = same _ h.1 refl refl k
   numbered c Failed None Unknown h k = same _ h.1 refl refl k
-  numbered c Refused None Done h k = away c k.0 _ h.1 refl refl k.1
+  numbered c Refused None Done h k = away c k.0 _ h.1 refl refl k.1 (refl, k.1.0)
   numbered c Refused None Unknown h k = same _ h.1 refl refl k
   numbered c Back (Some slot) Unknown h k = same _ h.1 refl refl k
-  numbered c Back (Some slot) Dropped h k = away c slot _ h.2 refl refl k
-  numbered c Back (Some slot) Detach h k = away c slot _ h.3 refl refl k
-  numbered c Back (Some slot) Kept h k = kept d d' out out' was c slot k (next_of h.3) (idle_of h.3)
+  numbered c Back (Some slot) Dropped h k = away c slot _ h.2 refl refl k (refl, k.0)
+  numbered c Back (Some slot) Detach h k = away c slot _ h.3 refl refl k (refl, k.0)
+  numbered c Back (Some slot) Kept h k = kept _ d d' out out' c slot k (next_of h.3) (idle_of h.3)
   numbered c Take None Unknown h k = same _ h.1 refl refl k
-  numbered c Take None (Taken detach) h k = away c k.0 _ h.2 refl refl k.1
+  numbered c Take None (Taken detach) h k = away c k.0 _ h.2 refl refl k.1 (refl, k.1.0)
   numbered c (Withdraw ticket) None Unknown h k = same _ h.1 refl refl k
   numbered c (Withdraw ticket) None Done h k = same _ h.1 refl refl k
   numbered c (Cancel held.Place) None Done h k = same _ h.1 refl refl k
   numbered c (Cancel held.Place) None Unknown h k = same _ h.1 refl refl k
   numbered c (Cancel held.Creation) None Done h k = same _ h.1 refl refl k
   numbered c (Cancel held.Creation) None Unknown h k = same _ h.1 refl refl k
-  numbered c (Cancel held.Object) None Done h k = away c k.0 _ h.1 refl refl k.1
+  numbered c (Cancel held.Object) None Done h k = away c k.0 _ h.1 refl refl k.1 (refl, k.1.0)
   numbered c (Cancel held.Object) None Unknown h k = same _ h.1 refl refl k
   numbered c _ _ _ h k = absurd h
 
   -- fewer are idle
-  idle_fewer : (e : DeskState ℕ) → d' ≡ e → e.next ≡ d.next → ((n : ℕ) → times n e.idle ≤ times n d.idle) → out' ≡ out
-      → IsNumberedOnce d' out'
-  idle_fewer e is next few held =
-      fewer d d' out out' was (next_of is ∙ next) (λ n. rw (is, held) (omega (arith, few n)))
+  idle_fewer : {L : ℕ → Type 0} (e : DeskState ℕ) → d' ≡ e → e.next ≡ d.next
+      → ((n : ℕ) → times n e.idle ≤ times n d.idle) → out' ≡ out → ((n : ℕ) → 1 ≤ times n d.idle → L n)
+      → Accounts L d d' out out'
+  idle_fewer e is next few held leaves =
+      fewer _ d d' out out' (next_of is ∙ next) (λ n. rw (is, held) (omega (arith, few n)))
+      (λ n. elim (some_or_none (times n d.idle)) [
+        | inl none ↦ inl (rw held (omega (arith, none)))
+        | inr some ↦ inr (leaves n some)
+      ])
 
-  resizes : (is_open : Bool) (limit : ℕ) → d' ≡ (if is_open then resized limit d else d) → out' ≡ out
-      → IsNumberedOnce d' out'
-  resizes true limit h k = idle_fewer (resized limit d) h refl (λ n. times-drop n (given_up limit d) d.idle) k
-  resizes false limit h k = same d h refl refl k
+  resizes : (c : ℕ) (is_open : Bool) (limit : ℕ) → d' ≡ (if is_open then resized limit d else d) → out' ≡ out
+      → Accounts (λ n. MayTake c (Owner (owner.Resize limit) owner_reply.Done) n d out) d d' out out'
+  resizes c true limit h k =
+      idle_fewer (resized limit d) h refl (λ n. times-drop n (given_up limit d) d.idle) k (λ n some. (refl, some))
+  resizes c false limit h k = same d h refl refl k
 
   unhandled : (last : Bool) (n : ℕ) → times n (if last then [] else d.idle) ≤ times n d.idle
   unhandled true n = omega arith
   unhandled false n = omega arith
 
-  owner_numbered : (step : OwnerStep) (reply : OwnerReply) → DoesForOwner d step reply d' → out' ≡ out
-      → IsNumberedOnce d' out'
-  owner_numbered owner.Status (owner_reply.Stands status) h k = same _ h.1 refl refl k
-  owner_numbered (owner.Resize limit) owner_reply.Done h k = resizes d.is_open limit h k
-  owner_numbered (owner.Resize limit) owner_reply.OutOfMemory h k = same _ h.2 refl refl k
-  owner_numbered owner.Close owner_reply.Done h k = idle_fewer _ h refl (λ n. omega arith) k
-  owner_numbered owner.CloneHandle owner_reply.Done h k = same _ h.1 refl refl k
-  owner_numbered owner.CloneHandle owner_reply.NoHandle h k = same _ h.1 refl refl k
-  owner_numbered owner.DropHandle owner_reply.Done h k = idle_fewer _ h.1 refl (λ n. unhandled _ n) k
-  owner_numbered owner.DropHandle owner_reply.NoHandle h k = same _ h.1 refl refl k
-  owner_numbered owner.Upgrade owner_reply.Done h k = same _ h.1 refl refl k
-  owner_numbered owner.Upgrade owner_reply.NoHandle h k = same _ h.1 refl refl k
-  owner_numbered _ _ h k = absurd h
+  owner_numbered : (c : ℕ) (step : OwnerStep) (reply : OwnerReply) → DoesForOwner d step reply d' → out' ≡ out
+      → Accounts (λ n. MayTake c (Owner step reply) n d out) d d' out out'
+  owner_numbered c owner.Status (owner_reply.Stands status) h k = same _ h.1 refl refl k
+  owner_numbered c (owner.Resize limit) owner_reply.Done h k = resizes c d.is_open limit h k
+  owner_numbered c (owner.Resize limit) owner_reply.OutOfMemory h k = same _ h.2 refl refl k
+  owner_numbered c owner.Close owner_reply.Done h k = idle_fewer _ h refl (λ n. omega arith) k (λ n some. (refl, some))
+  owner_numbered c owner.CloneHandle owner_reply.Done h k = same _ h.1 refl refl k
+  owner_numbered c owner.CloneHandle owner_reply.NoHandle h k = same _ h.1 refl refl k
+  owner_numbered c owner.DropHandle owner_reply.Done h k =
+      idle_fewer _ h.1 refl (λ n. unhandled _ n) k (λ n some. (refl, some))
+  owner_numbered c owner.DropHandle owner_reply.NoHandle h k = same _ h.1 refl refl k
+  owner_numbered c owner.Upgrade owner_reply.Done h k = same _ h.1 refl refl k
+  owner_numbered c owner.Upgrade owner_reply.NoHandle h k = same _ h.1 refl refl k
+  owner_numbered c _ _ h k = absurd h
 
-entry_numbered : (c : ℕ) (e : Entry) (d d' : DeskState ℕ) (out out' : Out) → IsNumberedOnce d out → IsStep d e d'
-    → HandsOver c e out out' → IsNumberedOnce d' out'
-entry_numbered c (Made step object reply) d d' out out' was h k = numbered d d' out out' was c step object reply h k
-entry_numbered c (Owner step reply) d d' out out' was h k = owner_numbered d d' out out' was step reply h k
-entry_numbered c (Retain (Ok removed)) d d' out out' was h k =
-    idle_fewer d d' out out' was _ h.2 refl (λ n. times-remaining n 0 removed d.idle) k
-entry_numbered c (Retain (Err refused)) d d' out out' was h k = same d d' out out' was d h.1 refl refl k
+entry_numbered : (c : ℕ) (e : Entry) (d d' : DeskState ℕ) (out out' : Out) → IsStep d e d' → HandsOver c e out out'
+    → Accounts (λ n. MayTake c e n d out) d d' out out'
+entry_numbered c (Made step object reply) d d' out out' h k = numbered d d' out out' c step object reply h k
+entry_numbered c (Owner step reply) d d' out out' h k = owner_numbered d d' out out' c step reply h k
+entry_numbered c (Retain (Ok removed)) d d' out out' h k =
+    idle_fewer d d' out out' _ h.2 refl (λ n. times-remaining n 0 removed d.idle) k (λ n some. some)
+entry_numbered c (Retain (Err refused)) d d' out out' h k = same d d' out out' d h.1 refl refl k
 
 pub opens_once : EachOpensNumberedOnce
 opens_once limit first min_idle mode most = record { once = λ n. omega arith; given = λ n new. omega arith }
@@ -252,7 +299,21 @@ opens_once limit first min_idle mode most = record { once = λ n. omega arith; g
 pub numbers_once : EachRunNumbersOnce
 numbers_once d d' out out' [] was runs = rw (runs.0, runs.1) was
 numbers_once d d' out out' ((c, e) ∷ log) was ((next, (step, later)), (after, (hands, rest))) =
-    numbers_once next d' after out' log (entry_numbered c e d next out after was step hands) (later, rest)
+    numbers_once next d' after out' log ((entry_numbered c e d next out after step hands).numbered was) (later, rest)
+
+pub keeps_objects : EachStepKeepsObjects
+keeps_objects d d' out out' holder n e step hands some =
+    elim ((entry_numbered holder e d d' out out' step hands).stays n) [
+      | inl stays ↦ inl (omega (arith, stays, some))
+      | inr leaves ↦ inr leaves
+    ]
+
+pub goes_for_good : EachNumberGoesForGood
+goes_for_good d d' out out' [] n runs old none = rw (runs.0, runs.1) none
+goes_for_good d d' out out' ((c, e) ∷ log) n ((next, (step, later)), (after, (hands, rest))) old none =
+    let moved = entry_numbered c e d next out after step hands in
+    goes_for_good next d' after out' log n (later, rest) (omega (arith, old, moved.onward))
+    (omega (arith, none, moved.back n old))
 
 -- who holds it, it stands there
 held_times : (c n : ℕ) (out : Out) → holds c n out ≡ true → 1 ≤ times n (numbers_of out)

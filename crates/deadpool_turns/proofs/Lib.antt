@@ -3,7 +3,7 @@ pub mod Ahead
 pub mod Changes
 pub mod Holding
 mod Holds
-mod Named
+pub mod Named
 pub mod Own
 pub mod Passing
 mod Reached

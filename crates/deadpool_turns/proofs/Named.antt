@@ -3,8 +3,10 @@ use Rattle.std.proofs.Common.{◌≡◌, ℕ, List, [], ◌∷◌, ◌++◌, tru
 use Rattle.std.proofs.Common.{Option, Some, None, map}
 use Rattle.std.specs.Prelude.{◌⊎◌, ◌==◌}
 use Rattle.std.proofs.lemmas.Bool.{cases_Bool, eqb-true, eq-eqb, or_right}
-use Rattle.deadpool_desk.specs.DeskState.{DeskState}
+use Rattle.deadpool_parts.specs.declared.config.QueueMode.{QueueMode}
+use Rattle.deadpool_desk.specs.DeskState.{DeskState, bounded, new_core}
 use Rattle.deadpool_desk.specs.DeskSteps.{Does, is_listed}
+use Rattle.deadpool_desk.specs.Replies.{named}
 use Rattle.deadpool_desk.specs.declared.step.Held.TheVariants as held
 use Rattle.deadpool_desk.specs.declared.step.Reply.{Reply}
 use Rattle.deadpool_desk.specs.declared.step.Reply.TheVariants.{Unknown, Waiting}
@@ -16,16 +18,12 @@ use Rattle.deadpool_gate.proofs.Numbers.{has_number-append}
 use Rattle.deadpool_journal.specs.Replay.{IsStep, Runs}
 use Rattle.deadpool_journal.specs.declared.entry.Entry.{Entry}
 use Rattle.deadpool_journal.specs.declared.entry.Entry.TheVariants.{Made, Owner, Retain}
-use Rattle.deadpool_turns.specs.Steps.{named, named_by}
-use Rattle.deadpool_turns.specs.Tickets.{AreTicketsKnown, EachTicketIsKnown, IsNamed, IsTicketKnown, NameOwn, Tickets}
-use Rattle.deadpool_turns.specs.Tickets.{nobody_waits, tickets_after, told, told_by}
+use Rattle.deadpool_turns.specs.Steps.{named_by}
+use Rattle.deadpool_turns.specs.Tickets.{AreTicketsKnown, EachTicketIsKnown, EachWaitsInTheQueue, IsNamed}
+use Rattle.deadpool_turns.specs.Tickets.{IsTicketKnown, IsTicketed, NameOwn, Tickets, nobody_waits, tickets_after}
+use Rattle.deadpool_turns.specs.Tickets.{tickets_from, told, told_by}
 use Rattle.deadpool_turns.specs.Turns.{IsOrderly, IsQueued}
 use Rattle.deadpool_turns.proofs.Steps.{keeps_order, queue_keeps}
-
--- each ticket that somebody has is in the queue, and nobody else has it
-pub record IsTicketed (has : Tickets) (d : DeskState ℕ) : Type 0 where
-  pub queued : (who t : ℕ) → has who ≡ Some t → IsQueued t d
-  pub one : (a b t : ℕ) → has a ≡ Some t → has b ≡ Some t → a ≡ b
 
 in_queue : (t : ℕ) (d : DeskState ℕ) → IsQueued t d → is_listed t d ≡ true
 in_queue t d queued = sym (has_number-append t d.granted d.waiting) ∙ queued
@@ -163,10 +161,29 @@ known_on d d' has ((c, e) ∷ log) s was (next, (step, later)) own = (
       (ticketed c e d next has s step own.0 was) later own.1,
 )
 
+ticketed_on : (d d' : DeskState ℕ) (has : Tickets) (log : List (ℕ × Entry)) → IsOrderly d → IsTicketed has d
+    → Runs d (map (λ (x : ℕ × Entry). x.1) log) d' → NameOwn has log → IsTicketed (tickets_from has log) d'
+ticketed_on d d' has [] s was runs own = rw runs was
+ticketed_on d d' has ((c, e) ∷ log) s was (next, (step, later)) own =
+    ticketed_on next d' (tickets_after c e has) log (keeps_order d next e s step).0
+    (ticketed c e d next has s step own.0 was) later own.1
+
+-- nobody waits in a pool that opens
+opens_orderly : (limit min_idle : ℕ) (mode : QueueMode) (most : Option ℕ)
+    → IsOrderly (bounded {O = ℕ} most (new_core limit mode 0 min_idle))
+opens_orderly limit min_idle mode most = record { nobody_waits = λ opens some. refl; once = tt }
+
+-- or under any ticket
+none_ticketed : (d : DeskState ℕ) → IsTicketed nobody_waits d
+none_ticketed d = record {
+  queued = λ who t is. absurd (let none : None ≡ Some t = is in cc);
+  one = λ a b t first second. absurd (let none : None ≡ Some t = first in cc);
+}
+
 pub tickets_known : EachTicketIsKnown
 tickets_known limit min_idle mode most log d runs own =
-    known_on _ d nobody_waits log (record { nobody_waits = λ opens some. refl; once = tt })
-    (record {
-      queued = λ who t is. absurd (let none : None ≡ Some t = is in cc);
-      one = λ a b t first second. absurd (let none : None ≡ Some t = first in cc);
-    }) runs own
+    known_on _ d nobody_waits log (opens_orderly limit min_idle mode most) (none_ticketed _) runs own
+
+pub waits_in_queue : EachWaitsInTheQueue
+waits_in_queue limit min_idle mode most log d runs own =
+    ticketed_on _ d nobody_waits log (opens_orderly limit min_idle mode most) (none_ticketed _) runs own

@@ -12,6 +12,7 @@ use Rattle.deadpool_gate.proofs.Numbers.{without_number-one, without_number-shor
 use Rattle.deadpool_gate.proofs.Orders.{IsOnce-front}
 use Rattle.deadpool_desk.specs.DeskState.{DeskState, places, settled}
 use Rattle.deadpool_desk.specs.DeskSteps.{Does, DoesForOwner, Serves, given_up, is_listed, resized, unqueued}
+use Rattle.deadpool_desk.specs.Replies.{named}
 use Rattle.deadpool_desk.specs.Settled.{NobodyWaits, queue}
 use Rattle.deadpool_desk.specs.declared.owner_step.OwnerReply.{OwnerReply}
 use Rattle.deadpool_desk.specs.declared.owner_step.OwnerReply.TheVariants as owner_reply
@@ -28,7 +29,7 @@ use Rattle.deadpool_desk.specs.declared.step.Step.TheVariants.{Back, Withdraw, C
 use Rattle.deadpool_journal.specs.Replay.{IsStep}
 use Rattle.deadpool_journal.specs.declared.entry.Entry.{Entry}
 use Rattle.deadpool_journal.specs.declared.entry.Entry.TheVariants.{Made, Owner, Retain}
-use Rattle.deadpool_turns.specs.Steps.{gives_up, gives_up_by, let_go, let_go_by, let_go_in, named, named_by}
+use Rattle.deadpool_turns.specs.Steps.{gives_up, gives_up_by, let_go, let_go_by, let_go_in, named_by}
 use Rattle.deadpool_turns.specs.Turns.{EachIsGrantedInTurn, EachKeepsItsPlace, EachStaysQueued, EachStepKeepsOrder}
 use Rattle.deadpool_turns.specs.Turns.{EachStepNears, IsGranted, IsGrantedWithin, IsOrderly, IsQueued, Nears, Waits}
 use Rattle.deadpool_turns.specs.Turns.{distance}

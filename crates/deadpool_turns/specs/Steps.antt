@@ -1,5 +1,6 @@
 -- What a step is to those in the queue: how many places are let go of by it, whom it names, and who gives up by it.
-use Rattle.std.specs.Prelude.{ℕ, ◌+◌, ◌==◌, ◌&&◌, Bool, false, List, [], ◌∷◌, Option, Some, None}
+use Rattle.std.specs.Prelude.{ℕ, ◌+◌, ◌==◌, ◌&&◌, Bool, false, List, [], ◌∷◌, Option, None}
+use Rattle.deadpool_desk.specs.Replies.{named}
 use Rattle.deadpool_desk.specs.declared.step.Reply.{Reply}
 use Rattle.deadpool_desk.specs.declared.step.Reply.TheVariants.{Exhausted, Kept, Detach, Dropped, Taken, Done}
 use Rattle.deadpool_desk.specs.declared.step.Step.{Step}
@@ -32,11 +33,6 @@ let_go_in [] = 0
 let_go_in (e ∷ es) = let_go_by e + let_go_in es
 
 -- the ticket that a step names
-abbrev pub named : Step → Option ℕ
-named (Ask ticket expired) = Some ticket
-named (Withdraw ticket) = Some ticket
-named _ = None
-
 abbrev pub named_by : Entry → Option ℕ
 named_by (Made step object reply) = named step
 named_by _ = None

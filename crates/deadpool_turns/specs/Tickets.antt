@@ -9,6 +9,7 @@ use Rattle.deadpool_journal.specs.Replay.{Runs}
 use Rattle.deadpool_journal.specs.declared.entry.Entry.{Entry}
 use Rattle.deadpool_journal.specs.declared.entry.Entry.TheVariants.{Made}
 use Rattle.deadpool_turns.specs.Steps.{named_by}
+use Rattle.deadpool_turns.specs.Turns.{IsQueued}
 
 -- the ticket of each, by its number
 abbrev pub Tickets : Type 0
@@ -28,6 +29,11 @@ told_by _ = None
 
 abbrev pub tickets_after : ℕ → Entry → Tickets → Tickets
 tickets_after maker e has who = if maker == who then told_by e else has who
+
+-- and after steps, each beside its maker
+abbrev pub tickets_from : Tickets → List (ℕ × Entry) → Tickets
+tickets_from has [] = has
+tickets_from has ((maker, e) ∷ log) = tickets_from (tickets_after maker e has) log
 
 -- a step names no ticket, or this one
 abbrev pub IsNamed : Option ℕ → Option ℕ → Type 0
@@ -49,7 +55,18 @@ abbrev pub AreTicketsKnown : List (ℕ × Entry) → Type 0
 AreTicketsKnown [] = ⊤
 AreTicketsKnown ((maker, e) ∷ log) = IsTicketKnown e × AreTicketsKnown log
 
--- In a run from the opening of a pool in which each names only its own ticket, no ticket is unknown.
+-- each ticket that somebody has is in the queue, and nobody else has it
+pub record IsTicketed (has : Tickets) (d : DeskState ℕ) : Type 0 where
+  pub queued : (who t : ℕ) → has who ≡ Some t → IsQueued t d
+  pub one : (a b t : ℕ) → has a ≡ Some t → has b ≡ Some t → a ≡ b
+
+-- In a run from the opening of a pool in which each names only its own ticket, each that waits is in the queue.
+abbrev pub EachWaitsInTheQueue : Type 0
+EachWaitsInTheQueue = (limit min_idle : ℕ) (mode : QueueMode) (most : Option ℕ) (log : List (ℕ × Entry))
+    (d : DeskState ℕ) → Runs (bounded most (new_core limit mode 0 min_idle)) (map (λ (x : ℕ × Entry). x.1) log) d
+    → NameOwn nobody_waits log → IsTicketed (tickets_from nobody_waits log) d
+
+-- And no ticket is unknown.
 abbrev pub EachTicketIsKnown : Type 0
 EachTicketIsKnown = (limit min_idle : ℕ) (mode : QueueMode) (most : Option ℕ) (log : List (ℕ × Entry))
     (d : DeskState ℕ) → Runs (bounded most (new_core limit mode 0 min_idle)) (map (λ (x : ℕ × Entry). x.1) log) d

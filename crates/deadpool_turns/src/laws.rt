@@ -1,9 +1,10 @@
 //! What holds of each step of a pool and of each run of steps, as a journal and a history have them. The functions here
 //! do nothing: each states a law.
 ghost use Rattle.deadpool_turns.specs.Holders.{EachHasOneHolder, EachOpensNumberedOnce, EachRunNumbersOnce};
+ghost use Rattle.deadpool_turns.specs.Leaving.{EachNumberGoesForGood, EachStepKeepsObjects};
 ghost use Rattle.deadpool_turns.specs.OtherOrders.{EachNearsBy, barged_in, freed_for_last, put_behind};
 ghost use Rattle.deadpool_turns.specs.Own.{EachHandsItsOwn, EachHoldsItsOwn};
-ghost use Rattle.deadpool_turns.specs.Tickets.{EachTicketIsKnown};
+ghost use Rattle.deadpool_turns.specs.Tickets.{EachTicketIsKnown, EachWaitsInTheQueue};
 ghost use Rattle.deadpool_turns.specs.Turns.{EachIsGrantedInTurn, EachKeepsItsPlace, EachReachedIsOrderly};
 ghost use Rattle.deadpool_turns.specs.Turns.{EachStaysQueued, EachStepKeepsOrder, EachStepNears};
 
@@ -52,6 +53,17 @@ pub fn numbers_stand_once()
     ensures run { EachRunNumbersOnce }
 {}
 
+/// An object that is idle or held is so after each step, unless its holder gives it up, or it is idle and the step is a
+/// retain, a close, or another limit or a handle less.
+pub fn no_object_is_lost()
+    ensures { EachStepKeepsObjects }
+{}
+
+/// A number of an object that is neither idle nor held, and was given, never comes back.
+pub fn no_number_returns()
+    ensures { EachNumberGoesForGood }
+{}
+
 /// What each has by its own steps, it holds there. Whatever the reply, it may give that away by its next step.
 pub fn each_holds_what_it_was_given()
     ensures holds { EachHoldsItsOwn }
@@ -66,4 +78,9 @@ pub fn one_number_has_one_holder()
 /// No ticket is unknown to a pool whose gets each name only the one under which they wait.
 pub fn no_ticket_is_unknown()
     ensures { EachTicketIsKnown }
+{}
+
+/// There who waits under a ticket, by its last step, is in the queue under it, and nobody else waits under that.
+pub fn who_waits_is_in_the_queue()
+    ensures { EachWaitsInTheQueue }
 {}

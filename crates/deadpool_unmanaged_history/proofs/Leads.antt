@@ -1,24 +1,84 @@
 -- One line more leads one step further.
-use Rattle.deadpool_unmanaged_history.proofs.Words.{◌≡◌, ◌∙◌, ℕ, List, [], ◌∷◌, ◌++◌, map, Option, ap, sym}
+use Rattle.deadpool_unmanaged_history.proofs.Words.{◌≡◌, ◌∙◌, ℕ, List, [], ◌∷◌, ◌++◌, map, Option, Some, None, ap, sym}
 use Rattle.deadpool_unmanaged_history.proofs.Words.{map-append, IsPrefix, Calls, Knowing, State, CoreState, bounded}
 use Rattle.deadpool_unmanaged_history.proofs.Words.{opened, silent, RunsCounted-snoc, runs, step_silent, Journaling}
 use Rattle.deadpool_unmanaged_history.proofs.Words.{Notes, noted, size, counted, no_tally, Tally, IsTallyOf, refl, ◌-◌}
 use Rattle.deadpool_unmanaged_history.proofs.Words.{Steps, Entry, Journal, Result, Ok, Err, IfOk, AllocError, HasCalled}
-use Rattle.deadpool_unmanaged_history.proofs.Words.{IsBeginning, IsLegal, IsNext, LeadsTo, LeadsWith, entries_of}
-use Rattle.deadpool_unmanaged_history.proofs.Words.{lines_of, named, Line, false, nat_lt, length, drop, drop_all}
-use Rattle.deadpool_unmanaged_history.proofs.Words.{take-append-drop, ltb-false, TakesAddWake, TakesGetWake}
+use Rattle.deadpool_unmanaged_history.proofs.Words.{DrainsAreTold, QueuesAreTold, IsBeginning, IsDueAfter}
+use Rattle.deadpool_unmanaged_history.proofs.Words.{IsHistoryOf, IsLater, IsLegal}
+use Rattle.deadpool_unmanaged_history.proofs.Words.{IsNext, LeadsTo, LeadsWith, Reaches, entries_of, named, Line, Wake}
+use Rattle.deadpool_unmanaged_history.proofs.Words.{false, is_drained, Awaited, awaited, awaited_after, awaited_from}
+use Rattle.deadpool_unmanaged_history.proofs.Words.{is_drain_due, nobody_awaited}
+use Rattle.deadpool_unmanaged_history.proofs.Words.{nat_lt, length, drop, drop_all, take-append-drop, ltb-false}
+use Rattle.deadpool_unmanaged_history.proofs.Words.{TakesAddWake, TakesGetWake, All-push, Unnotified, unheard}
+use Rattle.deadpool_unmanaged_history.proofs.Words.{unheard_after, unheard_from, unnotified_of, told_by, append-nil}
+use Rattle.deadpool_unmanaged_history.proofs.Words.{Bool, true, ◌||◌, is_some, next_due, has_due, due_get, due_add}
 use Rattle.deadpool_unmanaged_history.proofs.First.{has_first}
-use Rattle.deadpool_unmanaged_history.specs.declared.line.Line.TheVariants.{Opening, Next}
+use Rattle.deadpool_unmanaged_history.proofs.Heard.{heard}
+use Rattle.deadpool_unmanaged_history.proofs.Turns.{tells_on}
+use Rattle.deadpool_unmanaged_history.specs.declared.line.Line.TheVariants.{Opening, Next, Told, Ending}
+use Rattle.deadpool_unmanaged_history.specs.declared.line.Wake.TheVariants.{Get, Add}
 use Rattle.deadpool_unmanaged_journal.specs.declared.entry.Entry.TheVariants.{Made, Owner}
 
 module _ {T : Type 0} where
-  entries_of-snoc : (steps : List (ℕ × Entry T)) (n : ℕ) (e : Entry T)
-      → entries_of (steps ++ (n, e) ∷ []) ≡ entries_of steps ++ e ∷ []
-  entries_of-snoc steps n e = map-append (λ (x : ℕ × Entry T). x.1) steps ((n, e) ∷ [])
+  entries_of-append : (lines more : List (ℕ × Line T))
+      → entries_of (lines ++ more) ≡ entries_of lines ++ entries_of more
+  entries_of-append [] more = refl
+  entries_of-append ((m, Next f) ∷ lines) more =
+      ap (λ (es : List (Entry T)). f ∷ es) (entries_of-append lines more)
+  entries_of-append ((m, Told wake) ∷ lines) more = entries_of-append lines more
+  entries_of-append ((m, Ending drains departing) ∷ lines) more = entries_of-append lines more
+  entries_of-append ((m, Opening limit max_waiting) ∷ lines) more = entries_of-append lines more
 
-  lines_of-snoc : (steps : List (ℕ × Entry T)) (n : ℕ) (e : Entry T)
-      → lines_of (steps ++ (n, e) ∷ []) ≡ lines_of steps ++ (n, Next e) ∷ []
-  lines_of-snoc steps n e = map-append (λ (x : ℕ × Entry T). (x.0, Next x.1)) steps ((n, e) ∷ [])
+  entries_of-next : (lines : List (ℕ × Line T)) (n : ℕ) (e : Entry T)
+      → entries_of (lines ++ (n, Next e) ∷ []) ≡ entries_of lines ++ e ∷ []
+  entries_of-next lines n e = entries_of-append lines ((n, Next e) ∷ [])
+
+  -- a line that is no step
+  entries_of-silent : (lines : List (ℕ × Line T)) (n : ℕ) (line : Line T) → entries_of ((n, line) ∷ []) ≡ []
+      → entries_of (lines ++ (n, line) ∷ []) ≡ entries_of lines
+  entries_of-silent lines n line none =
+      entries_of-append lines ((n, line) ∷ []) ∙ ap (λ (es : List (Entry T)). entries_of lines ++ es) none
+      ∙ append-nil (entries_of lines)
+
+  unheard-snoc : (before : Unnotified) (log : List (ℕ × Line T)) (n : ℕ) (line : Line T)
+      → unheard_from before (log ++ (n, line) ∷ []) ≡ unheard_after line (unheard_from before log)
+  unheard-snoc before [] n line = refl
+  unheard-snoc before ((m, first) ∷ log) n line = unheard-snoc (unheard_after first before) log n line
+
+  unheard-grows : (log : List (ℕ × Line T)) (n : ℕ) (line : Line T)
+      → unheard (log ++ (n, line) ∷ []) ≡ unheard_after line (unheard log)
+  unheard-grows log n line = unheard-snoc (record { gets = []; adds = [] }) log n line
+
+  awaited-snoc : (before : Awaited) (log : List (ℕ × Line T)) (n : ℕ) (line : Line T)
+      → awaited_from before (log ++ (n, line) ∷ []) ≡ awaited_after line (awaited_from before log)
+  awaited-snoc before [] n line = refl
+  awaited-snoc before ((m, first) ∷ log) n line = awaited-snoc (awaited_after first before) log n line
+
+  pub awaited_then : (log log' : List (ℕ × Line T)) (n drains departing : ℕ)
+      → log' ≡ log ++ (n, Ending drains departing) ∷ []
+      → awaited log' ≡ record { drains = drains; departing = departing }
+  awaited_then log log' n drains departing is = rw is (awaited-snoc nobody_awaited log n (Ending drains departing))
+
+  -- one line more
+  history_grows : (limit : ℕ) (max_waiting : Option ℕ) (lines log : List (ℕ × Line T)) (n : ℕ) (line : Line T)
+      → IsLater line → IsHistoryOf limit max_waiting lines log
+      → IsHistoryOf limit max_waiting (lines ++ (n, line) ∷ []) (log ++ (n, line) ∷ [])
+  history_grows limit max_waiting lines log n line later is = (
+    (is.0.0, ap (λ (l : List (ℕ × Line T)). l ++ (n, line) ∷ []) is.0.1),
+    All-push (λ (x : ℕ × Line T). IsLater x.1) lines (n, line) is.1 later,
+  )
+
+nobody : (named : Option ℕ) → is_some named ≡ false → named ≡ None
+nobody None none = refl
+nobody (Some t) none = cc
+
+wake_of : {T : Type 0} (w v : Wake) (line : Line T) → line ≡ Told w → line ≡ Told v → w ≡ v
+wake_of w v line one other = cc
+
+neither : (one other : Bool) → (one || other) ≡ false → (one ≡ false) × (other ≡ false)
+neither true other h = cc
+neither false other h = (refl, h)
 
 -- nothing stands after the first, if there are no more
 nothing_after : {E : Type 0} (most : ℕ) (es : List E) → nat_lt most (length es) ≡ false → drop most es ≡ []
@@ -51,24 +111,46 @@ module _ {T O : Type 0} (name : T → O) where
             RunsCounted-snoc (bounded j.max_waiting (opened j.limit [])) (silent j.core.pool) (silent j'.core.pool)
                 no_tally j.tally es e leads.1.1.0 (step_silent j.core.pool j'.core.pool e made),
             rw all (has_first j.log (map (named name) es) (named name e) leads.1.1.1),
+            heard j.core.pool j'.core.pool e made ∙ ap (unheard_after (Next e)) leads.1.1.2,
+            leads.1.1.3,
           ),
         ),
       )
 
+  pub reaches : (j : Journaling T O) (log : List (ℕ × Line T)) → LeadsTo name j log
+      → Reaches log (silent j.core.pool)
+  reaches j log leads =
+      let run = runs (bounded j.max_waiting (opened j.limit [])) (silent j.core.pool) no_tally j.tally
+      (entries_of leads.0) leads.1.1.0 in
+      (j.limit, (j.max_waiting, (leads.0, (leads.1.0, run))))
+
+  -- whoever the pool names is due
+  get_is_due : (j : Journaling T O) (log : List (ℕ × Line T)) (t : ℕ) → LeadsTo name j log
+      → Some t ≡ due_get j.core.pool → IsDueAfter log (Get t)
+  get_is_due j log t leads named =
+      let gets = ap (λ (us : Unnotified). us.gets) leads.1.1.2 in
+      (silent j.core.pool, (reaches j log leads, sym (rw gets at named)))
+
+  add_is_due : (j : Journaling T O) (log : List (ℕ × Line T)) (t : ℕ) → LeadsTo name j log
+      → Some t ≡ due_add j.core.pool → IsDueAfter log (Add t)
+  add_is_due j log t leads named =
+      let adds = ap (λ (us : Unnotified). us.adds) leads.1.1.2 in
+      (silent j.core.pool, (reaches j log leads, sym (rw adds at named)))
+
   pub noted_leads : (j : Journaling T O) (log log' : List (ℕ × Line T)) (n : ℕ) (e : Entry T)
       → log' ≡ log ++ (n, Next e) ∷ [] → LeadsWith name j log e → LeadsTo name j log'
   noted_leads j log log' n e is leads =
-      let steps = leads.0 in
-      let told = leads.1.0 in
-      let first : ℕ × Line T = (told.0, Opening j.limit j.max_waiting) in (
-        steps ++ (n, e) ∷ [],
+      let lines = leads.0 in
+      rw is (
+        lines ++ (n, Next e) ∷ [],
         (
+          history_grows j.limit j.max_waiting lines log n (Next e) tt leads.1.0,
           (
-            told.0,
-            is ∙ ap (λ (l : List (ℕ × Line T)). l ++ (n, Next e) ∷ []) told.1
-                ∙ ap (λ (l : List (ℕ × Line T)). first ∷ l) (sym (lines_of-snoc steps n e)),
+            rw (entries_of-next lines n e) leads.1.1.0,
+            rw (entries_of-next lines n e) leads.1.1.1,
+            leads.1.1.2 ∙ sym (unheard-grows log n (Next e)),
+            tells_on log n (Next e) (λ w is. absurd (let no : Next e ≡ Told w = is in cc)) leads.1.1.3,
           ),
-          rw (entries_of-snoc steps n e) leads.1.1,
         ),
       )
 
@@ -82,10 +164,37 @@ module _ {T O : Type 0} (name : T → O) where
       (leads_with j j' log e notes made leads)
 
   pub is_legal : (j : Journaling T O) (log : List (ℕ × Line T)) → LeadsTo name j log → IsLegal log
-  is_legal j log leads =
-      let run = runs (bounded j.max_waiting (opened j.limit [])) (silent j.core.pool) no_tally j.tally
-      (entries_of leads.0) leads.1.1.0 in
-      (j.limit, (j.max_waiting, (leads.0, (leads.1.0, (silent j.core.pool, run)))))
+  is_legal j log leads = ((silent j.core.pool, reaches j log leads), leads.1.1.3)
+
+  -- nobody in a queue is due to be told
+  pub queues_are_told : (j : Journaling T O) (log : List (ℕ × Line T)) → LeadsTo name j log
+      → has_due j.core.pool ≡ false → QueuesAreTold log
+  queues_are_told j log leads none =
+      let d = j.core.pool in
+      let no = neither (is_some (next_due d.is_open d.gets.granted d.unnotified_gets))
+      (is_some (next_due d.is_open d.adds.granted d.unnotified_adds)) none in
+      let gets = ap (λ (us : Unnotified). us.gets) leads.1.1.2 in
+      let adds = ap (λ (us : Unnotified). us.adds) leads.1.1.2 in (
+        (
+          silent d,
+          (
+            reaches j log leads,
+            nobody (next_due d.is_open d.gets.granted (unheard log).gets) (rw gets at no.0),
+            nobody (next_due d.is_open d.adds.granted (unheard log).adds) (rw adds at no.1),
+          ),
+        ),
+        is_legal j log leads,
+      )
+
+  -- who has seen all of the history knows it then
+  pub told_if_none : (j : Journaling T O) (log seen : List (ℕ × Line T)) (is_due : Bool) → LeadsTo name j log
+      → is_due ≡ has_due j.core.pool → is_due ≡ false → seen ≡ log → QueuesAreTold seen
+  told_if_none j log seen is_due leads due none is = rw is (queues_are_told j log leads (sym due ∙ none))
+
+  -- nor is a drain
+  pub drains_are_told : (j : Journaling T O) (log : List (ℕ × Line T)) → LeadsTo name j log
+      → is_drain_due (is_drained j.core.pool) (awaited log) ≡ false → DrainsAreTold log
+  drains_are_told j log leads none = (silent j.core.pool, (reaches j log leads, none))
 
   pub is_tally_of : (j : Journaling T O) (log : List (ℕ × Line T)) → LeadsTo name j log → IsTallyOf log j.tally
   is_tally_of j log leads =
@@ -113,22 +222,71 @@ module _ {T O : Type 0} (name : T → O) where
         ),
       )
 
-  -- who is to be woken is no matter of the history
-  told_leads : (j : Journaling T O) (core : CoreState T) (log : List (ℕ × Line T))
-      → silent core.pool ≡ silent j.core.pool → LeadsTo name j log → LeadsTo name (record j { core = core }) log
-  told_leads j core log same leads = (leads.0, (leads.1.0, (rw same leads.1.1.0, leads.1.1.1)))
+  -- nobody was told
+  same_leads : (j : Journaling T O) (core : CoreState T) (log : List (ℕ × Line T)) → core.pool ≡ j.core.pool
+      → LeadsTo name j log → LeadsTo name (record j { core = core }) log
+  same_leads j core log same leads = rw same leads
 
-  pub told_get_leads : (j j' : Journaling T O) (log : List (ℕ × Line T)) (told : Option ℕ)
+  -- one in a queue was
+  told_leads : (j : Journaling T O) (core : CoreState T) (log : List (ℕ × Line T)) (n : ℕ) (w : Wake)
+      → IsDueAfter log w → silent core.pool ≡ silent j.core.pool
+      → unnotified_of core.pool ≡ unheard_after {T = T} (Told w) (unnotified_of j.core.pool) → LeadsTo name j log
+      → LeadsTo name (record j { core = core }) (log ++ (n, Told w) ∷ [])
+  told_leads j core log n w due same told leads =
+      let lines = leads.0 in
+      let line : Line T = Told w in (
+        lines ++ (n, Told w) ∷ [],
+        (
+          history_grows j.limit j.max_waiting lines log n (Told w) tt leads.1.0,
+          (
+            rw (entries_of-silent lines n (Told w) refl, same) leads.1.1.0,
+            rw (entries_of-silent lines n (Told w) refl) leads.1.1.1,
+            told ∙ ap (unheard_after {T = T} (Told w)) leads.1.1.2 ∙ sym (unheard-grows log n (Told w)),
+            tells_on log n line (λ v is. rw (wake_of w v line refl is) at due) leads.1.1.3,
+          ),
+        ),
+      )
+
+  -- who waits for the end, and what is still to be dropped
+  pub ending_leads : (j : Journaling T O) (log log' : List (ℕ × Line T)) (n drains departing : ℕ)
+      → log' ≡ log ++ (n, Ending drains departing) ∷ [] → LeadsTo name j log → LeadsTo name j log'
+  ending_leads j log log' n drains departing is leads =
+      let lines = leads.0 in
+      let line : Line T = Ending drains departing in
+      rw is (
+        lines ++ (n, line) ∷ [],
+        (
+          history_grows j.limit j.max_waiting lines log n line tt leads.1.0,
+          (
+            rw (entries_of-silent lines n line refl) leads.1.1.0,
+            rw (entries_of-silent lines n line refl) leads.1.1.1,
+            leads.1.1.2 ∙ sym (unheard-grows log n line),
+            tells_on log n line (λ w told. absurd (let no : line ≡ Told w = told in cc)) leads.1.1.3,
+          ),
+        ),
+      )
+
+  pub told_get_leads : (j j' : Journaling T O) (log log' : List (ℕ × Line T)) (n : ℕ) (told : Option ℕ)
       → TakesGetWake j.core.pool told j'.core.pool × (j' ≡ record j { core = j'.core })
-      → LeadsTo name j log → LeadsTo name j' log
-  told_get_leads j j' log told h leads =
-      rw h.1 (told_leads j j'.core log (ap (λ (d : State T). silent d) h.0.1) leads)
+      → log' ≡ log ++ told_by (λ t. Get t) n told → LeadsTo name j log → LeadsTo name j' log'
+  told_get_leads j j' log log' n (Some t) h is leads =
+      rw (is, h.1) (told_leads j j'.core log n (Get t) (get_is_due j log t leads h.0.0)
+      (ap (λ (d : State T). silent d) h.0.1)
+      (ap (λ (d : State T). unnotified_of d) h.0.1) leads)
+  told_get_leads j j' log log' n None h is leads =
+      let same : log' ≡ log = is ∙ append-nil log in
+      rw (same, h.1) (same_leads j j'.core log h.0.1 leads)
 
-  pub told_add_leads : (j j' : Journaling T O) (log : List (ℕ × Line T)) (told : Option ℕ)
+  pub told_add_leads : (j j' : Journaling T O) (log log' : List (ℕ × Line T)) (n : ℕ) (told : Option ℕ)
       → TakesAddWake j.core.pool told j'.core.pool × (j' ≡ record j { core = j'.core })
-      → LeadsTo name j log → LeadsTo name j' log
-  told_add_leads j j' log told h leads =
-      rw h.1 (told_leads j j'.core log (ap (λ (d : State T). silent d) h.0.1) leads)
+      → log' ≡ log ++ told_by (λ t. Add t) n told → LeadsTo name j log → LeadsTo name j' log'
+  told_add_leads j j' log log' n (Some t) h is leads =
+      rw (is, h.1) (told_leads j j'.core log n (Add t) (add_is_due j log t leads h.0.0)
+      (ap (λ (d : State T). silent d) h.0.1)
+      (ap (λ (d : State T). unnotified_of d) h.0.1) leads)
+  told_add_leads j j' log log' n None h is leads =
+      let same : log' ≡ log = is ∙ append-nil log in
+      rw (same, h.1) (same_leads j j'.core log h.0.1 leads)
 
   -- what a copy has
   is_beginning : (j : Journaling T O) (log : List (ℕ × Line T)) (journal : Journal O) → LeadsTo name j log

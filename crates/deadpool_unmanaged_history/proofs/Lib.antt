@@ -1,5 +1,8 @@
 -- What the proofs of a history of an unmanaged pool share.
+pub mod Closers
 pub mod First
+pub mod Heard
 pub mod Leads
 pub mod Objects
+pub mod Turns
 pub mod Words

@@ -10,15 +10,27 @@ use deadpool_unmanaged_journal::{Naming, OwnerReply, OwnerStep};
 
 // Without a history nothing is known of a step that was made.
 impl<T: Drop> KeepsState<T> for Core<T> {
-    ghost use Rattle.std.specs.Prelude.{⊤};
+    ghost use Rattle.std.specs.Prelude.{⊤, None};
 
     type Caller = ();
 
     ghost state_of = { λ core. core };
 
+    ghost awaited_of = { λ _. None };
+
     ghost is_new = { λ _. ⊤ };
 
     ghost calls = { λ _ _ _. ⊤ };
+
+    ghost keeps = { λ _ _. ⊤ };
+
+    ghost is_quiet = { λ _. ⊤ };
+
+    ghost has_closed = { λ _. ⊤ };
+
+    fn keeps_all() {}
+
+    fn closers_stay() {}
 
     fn admit(&mut self, _caller: &mut ()) -> () {}
 
@@ -34,6 +46,12 @@ impl<T: Drop> KeepsState<T> for Core<T> {
 
     fn is_closed(&self) -> bool {
         Core::is_closed(self)
+    }
+
+    fn stay_closed(&mut self, _caller: &mut ()) {
+        if !Core::is_closed(self) {
+            OwnerStep::Close.make(self);
+        }
     }
 
     fn is_drained(&self) -> bool {
@@ -56,30 +74,47 @@ impl<T: Drop> KeepsState<T> for Core<T> {
         Core::next_add(self)
     }
 
-    fn take_get_wake(&mut self) -> Option<Ticket> {
+    fn take_get_wake(&mut self, _caller: &mut ()) -> Option<Ticket> {
         Core::take_get_wake(self)
     }
 
-    fn take_add_wake(&mut self) -> Option<Ticket> {
+    fn take_add_wake(&mut self, _caller: &mut ()) -> Option<Ticket> {
         Core::take_add_wake(self)
     }
 
-    fn is_wake_due(&self) -> bool {
+    fn note_ending(&mut self, _caller: &mut (), _drains: usize, _departing: u64) {}
+
+    fn is_wake_due(&mut self, _caller: &mut ()) -> bool {
         Core::is_wake_due(self)
     }
 }
 
 impl<T: Drop, K: Naming<T>, H: Chronicle> KeepsState<T> for Recorded<T, K, H> {
-    ghost use Rattle.std.specs.Prelude.{◌≡◌, []};
-    ghost use Rattle.deadpool_unmanaged_history.specs.History.{HasCalled};
+    ghost use Rattle.std.specs.Prelude.{◌≡◌, [], Some};
+    ghost use Rattle.deadpool_chronicle.specs.History.{SeesMore};
+    ghost use Rattle.deadpool_unmanaged_history.specs.Awaited.{awaited};
+    ghost use Rattle.deadpool_unmanaged_history.specs.Closers.{IsCloser};
+    ghost use Rattle.deadpool_unmanaged_history.specs.History.{AllAreTold, HasCalled};
 
     type Caller = Caller<Line<T>, H>;
 
     ghost state_of = { λ recorded. recorded.pool.core };
 
+    ghost awaited_of = { λ recorded. Some (awaited recorded.log) };
+
     ghost is_new = { λ caller. (caller.mine ≡ []) × (caller.admitted ≡ 0) };
 
     ghost calls = { λ e. HasCalled (λ x. x ≡ e) };
+
+    ghost keeps = { SeesMore };
+
+    ghost is_quiet = { λ caller. AllAreTold caller.seen };
+
+    ghost has_closed = { IsCloser };
+
+    fn keeps_all() {}
+
+    fn closers_stay() {}
 
     fn admit(&mut self, caller: &mut Caller<Line<T>, H>) -> Caller<Line<T>, H> {
         Recorded::admit(self, caller)
@@ -104,6 +139,10 @@ impl<T: Drop, K: Naming<T>, H: Chronicle> KeepsState<T> for Recorded<T, K, H> {
         Recorded::is_closed(self)
     }
 
+    fn stay_closed(&mut self, caller: &mut Caller<Line<T>, H>) {
+        self.audit(caller);
+    }
+
     fn is_drained(&self) -> bool {
         Recorded::is_drained(self)
     }
@@ -124,15 +163,19 @@ impl<T: Drop, K: Naming<T>, H: Chronicle> KeepsState<T> for Recorded<T, K, H> {
         Recorded::next_add(self)
     }
 
-    fn take_get_wake(&mut self) -> Option<Ticket> {
-        Recorded::take_get_wake(self)
+    fn take_get_wake(&mut self, caller: &mut Caller<Line<T>, H>) -> Option<Ticket> {
+        Recorded::take_get_wake(self, caller)
     }
 
-    fn take_add_wake(&mut self) -> Option<Ticket> {
-        Recorded::take_add_wake(self)
+    fn take_add_wake(&mut self, caller: &mut Caller<Line<T>, H>) -> Option<Ticket> {
+        Recorded::take_add_wake(self, caller)
     }
 
-    fn is_wake_due(&self) -> bool {
-        Recorded::is_wake_due(self)
+    fn note_ending(&mut self, caller: &mut Caller<Line<T>, H>, drains: usize, departing: u64) {
+        Recorded::note_ending(self, caller, drains, departing);
+    }
+
+    fn is_wake_due(&mut self, caller: &mut Caller<Line<T>, H>) -> bool {
+        Recorded::is_wake_due(self, caller)
     }
 }

@@ -7,5 +7,5 @@ mod line;
 mod recorded;
 
 pub use keeps_state::KeepsState;
-pub use line::Line;
+pub use line::{Line, Wake};
 pub use recorded::Recorded;

@@ -1,5 +1,5 @@
 //! A pool's state, with the history that leads to it.
-ghost use Rattle.std.specs.Prelude.{◌≡◌, ◌+◌, [], ◌∷◌, IfOk, nat_lt, not};
+ghost use Rattle.std.specs.Prelude.{◌≡◌, ◌+◌, [], ◌∷◌, ◌++◌, IfOk, false, nat_lt, not};
 ghost use Rattle.std.specs.Option.{option_or};
 ghost use mathlib.Core.List.{IsPrefix};
 ghost use Rattle.deadpool_chronicle.specs.History.{Calls, calls_by};
@@ -16,11 +16,13 @@ ghost use Rattle.deadpool_unmanaged_journal.specs.Tally.{AreBalanced};
 ghost use Rattle.deadpool_unmanaged_journal.specs.declared.entry.Entry.TheVariants as entry;
 ghost use Rattle.deadpool_unmanaged_journal.specs.declared.owner_step.OwnerReply.TheVariants as owner_reply;
 ghost use Rattle.deadpool_unmanaged_journal.specs.declared.owner_step.OwnerStep.TheVariants as step;
-ghost use Rattle.deadpool_unmanaged_history.specs.History.{HasCalled, IsBeginning, IsLegal, IsNext};
-ghost use Rattle.deadpool_unmanaged_history.specs.History.{IsTallyOf, LeadsTo, object_of};
+ghost use Rattle.deadpool_unmanaged_history.specs.Awaited.{awaited};
+ghost use Rattle.deadpool_unmanaged_history.specs.History.{HasCalled, IsBeginning, IsLegal, IsNext, QueuesAreTold};
+ghost use Rattle.deadpool_unmanaged_history.specs.History.{IsTallyOf, LeadsTo, object_of, told_by};
 ghost use Rattle.deadpool_unmanaged_history.specs.declared.line.Line.TheVariants as line;
+ghost use Rattle.deadpool_unmanaged_history.specs.declared.line.Wake.TheVariants as wake;
 
-use crate::line::Line;
+use crate::line::{Line, Wake};
 use deadpool_chronicle::{Author, Beginning, Caller, Chronicle, Says};
 use deadpool_unmanaged::gate::Ticket;
 use deadpool_unmanaged::{Reply, Status, Step};
@@ -69,8 +71,29 @@ impl<T, K: Naming<T>> Says<Journaled<T, K>, (), Line<T>> for ToOpening {
     ghost entry = { λ pool _ _ line. line ≡ Opening pool.limit pool.max_waiting };
 }
 
+// The line of one in a queue that is told.
+struct ToTold;
+
+impl<T> Says<Wake, (), Line<T>> for ToTold {
+    ghost use Rattle.std.specs.Prelude.{◌≡◌};
+    ghost use Rattle.deadpool_unmanaged_history.specs.declared.line.Line.TheVariants.{Told};
+
+    ghost entry = { λ wake _ _ line. line ≡ Told wake };
+}
+
+// The line of those that wait for the end of the pool, and of what is still to be dropped.
+struct ToEnding;
+
+impl<T> Says<(usize, u64), (), Line<T>> for ToEnding {
+    ghost use Rattle.std.specs.Prelude.{◌≡◌};
+    ghost use Rattle.deadpool_unmanaged_history.specs.declared.line.Line.TheVariants.{Ending};
+
+    ghost entry = { λ counts _ _ line. line ≡ Ending counts.0 counts.1 };
+}
+
 /// A pool's state with its journal, and who adds to the history. The history's entries are the pool's steps, from the
-/// state that it opened with to the one that it has.
+/// state that it opened with to the one that it has, and by its lines those in the queues were told whom the pool has
+/// told.
 #[derive(Drop)]
 pub struct Recorded<T, K: Naming<T>, H: Chronicle> {
     pool: Journaled<T, K>,
@@ -296,30 +319,73 @@ impl<T: Drop, K: Naming<T>, H: Chronicle> Recorded<T, K, H> {
         self.pool.next_add()
     }
 
-    /// The next get in the queue that is due to be woken. It is no step, and stands in no history.
-    pub fn take_get_wake(&mut self) -> Option<Ticket>
+    /// The next get in the queue that is due to be woken. It is no step. Who was named stands in the history, in the
+    /// name of the caller, which is one of the pool's own.
+    pub fn take_get_wake(&mut self, caller: &mut Caller<Line<T>, H>) -> Option<Ticket>
         ensures told { TellsGetUnnoted self.old.pool result self.new.pool }
-        ensures log { self.new.log ≡ self.old.log }
+        ensures log { self.new.log
+            ≡ self.old.log ++ told_by (λ ticket. wake.Get ticket) caller.old.number result }
     {
-        let Recorded { pool, .. } = self;
-        pool.take_get_wake()
+        let Recorded { pool, author, .. } = self;
+        let ticket = pool.take_get_wake()?;
+        note_told(author, caller, &Wake::Get(ticket));
+        Some(ticket)
     }
 
-    /// The next add in the queue that is due to be woken. It is no step, and stands in no history.
-    pub fn take_add_wake(&mut self) -> Option<Ticket>
+    /// The next add in the queue that is due to be woken. It is no step. Who was named stands in the history, in the
+    /// name of the caller, which is one of the pool's own.
+    pub fn take_add_wake(&mut self, caller: &mut Caller<Line<T>, H>) -> Option<Ticket>
         ensures told { TellsAddUnnoted self.old.pool result self.new.pool }
-        ensures log { self.new.log ≡ self.old.log }
+        ensures log { self.new.log
+            ≡ self.old.log ++ told_by (λ ticket. wake.Add ticket) caller.old.number result }
     {
-        let Recorded { pool, .. } = self;
-        pool.take_add_wake()
+        let Recorded { pool, author, .. } = self;
+        let ticket = pool.take_add_wake()?;
+        note_told(author, caller, &Wake::Add(ticket));
+        Some(ticket)
     }
 
-    /// Whether `take_get_wake` or `take_add_wake` would name somebody. It is no step.
-    pub fn is_wake_due(&self) -> bool
-        ensures { result ≡ has_due self.now.pool.core.pool }
+    /// From here on so many drains wait for the end of the pool, and so many holders have let go of an object that they
+    /// have not dropped yet. It is no step. That stands in the history, in the name of the caller, which is one of the
+    /// pool's own.
+    pub fn note_ending(&mut self, caller: &mut Caller<Line<T>, H>, drains: usize, departing: u64)
+        ensures pool { self.new.pool ≡ self.old.pool }
+        ensures log { self.new.log
+            ≡ self.old.log ++ (caller.old.number, line.Ending drains departing) ∷ [] }
+        ensures awaited { awaited self.new.log
+            ≡ record { drains = drains; departing = departing } }
     {
-        self.pool.is_wake_due()
+        let Recorded { author, .. } = self;
+        author.note::<(usize, u64), (), ToEnding>(caller, &(drains, departing), &());
     }
+
+    /// Whether `take_get_wake` or `take_add_wake` would name somebody. The caller that sees it has then seen all of the
+    /// history, at whose end all in the queues are told if nobody is due. It is no step.
+    #[inline]
+    pub fn is_wake_due(&mut self, seer: &mut Caller<Line<T>, H>) -> bool
+        ensures due { result ≡ has_due self.old.pool.core.pool }
+        ensures same { self.new ≡ self.old }
+        ensures seer { seer.new ≡ record seer.old { seen = self.old.log } }
+        ensures seen { IsPrefix seer.old.seen self.old.log }
+        ensures leads { LeadsTo K.name_of self.old.pool self.old.log }
+        ensures quiet { result ≡ false → QueuesAreTold seer.new.seen }
+    {
+        let Recorded { pool, author, .. } = self;
+        author.audit(seer);
+        pool.is_wake_due()
+    }
+}
+
+// Who was named stands in the history, in this caller's name.
+#[inline(always)]
+fn note_told<T, H: Chronicle>(
+    author: &mut Author<Line<T>, H>,
+    caller: &mut Caller<Line<T>, H>,
+    wake: &Wake,
+)
+    ensures { author.new.log ≡ author.old.log ++ (caller.old.number, line.Told wake.now) ∷ [] }
+{
+    author.note::<Wake, (), ToTold>(caller, wake, &());
 }
 
 // A step that was made is one entry more, by what it left.

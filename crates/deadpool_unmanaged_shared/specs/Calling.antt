@@ -1,10 +1,12 @@
 -- What a poll or a call adds to the history, as its caller sees it. The relation says what a caller knows of a step
 -- that it made, by its entry.
-use Rattle.std.specs.Prelude.{◌≡◌, ◌⊎◌, true, false, Option, Some, None, Result, Err}
+use Rattle.std.specs.Prelude.{◌≡◌, ◌⊎◌, [], true, false, Option, Some, None, Result, Ok, Err}
 use Rattle.futures.specs.declared.task.Poll.{Poll}
 use Rattle.futures.specs.declared.task.Poll.TheVariants.{Ready}
+use Rattle.deadpool_chronicle.specs.History.{Knowing}
 use Rattle.deadpool_parts.specs.declared.moment.Moment.{Moment}
 use Rattle.deadpool_parts.specs.declared.moment.Runtime.{Runtime}
+use Rattle.deadpool_parts.specs.declared.status.Status.{Status}
 use Rattle.deadpool_unmanaged.specs.Adds as adds
 use Rattle.deadpool_unmanaged.specs.Gets as gets
 use Rattle.deadpool_unmanaged.specs.Queueing.{get_joins, add_joins}
@@ -18,9 +20,26 @@ use Rattle.deadpool_unmanaged.specs.declared.get.GetStage.{GetStage}
 use Rattle.deadpool_unmanaged.specs.declared.get.GetStage.TheVariants as getting
 use Rattle.deadpool_unmanaged.specs.declared.step.Reply.{Reply}
 use Rattle.deadpool_unmanaged.specs.declared.step.Step.TheVariants.{AddEnter, Back, GetEnter, Take}
+use Rattle.deadpool_unmanaged_history.specs.History.{HasCalled, IsTallyOf}
 use Rattle.deadpool_unmanaged_history.specs.Polls.{CallsAdd, CallsGet}
+use Rattle.deadpool_unmanaged_history.specs.declared.line.Line.{Line}
 use Rattle.deadpool_unmanaged_journal.specs.declared.entry.Entry.{Entry}
-use Rattle.deadpool_unmanaged_journal.specs.declared.entry.Entry.TheVariants.{Made}
+use Rattle.deadpool_unmanaged_journal.specs.declared.entry.Entry.TheVariants.{Made, Owner}
+use Rattle.deadpool_unmanaged_journal.specs.declared.owner_step.OwnerReply.{OwnerReply}
+use Rattle.deadpool_unmanaged_journal.specs.declared.owner_step.OwnerReply.TheVariants as owner_reply
+use Rattle.deadpool_unmanaged_journal.specs.declared.owner_step.OwnerStep.{OwnerStep}
+use Rattle.deadpool_unmanaged_journal.specs.declared.owner_step.OwnerStep.TheVariants as owner_step
+use Rattle.deadpool_unmanaged_journal.specs.declared.tally.Tally.{Tally}
+
+-- These calls were made in the name of a new caller, of which nothing is given out but what is said here.
+abbrev pub ByNewCaller : {C : Type 0} → (C → Type 0) → (C → C → Type 0) → Type 0
+ByNewCaller is_new calls = (c : _) × ((c' : _) × (is_new c × calls c c'))
+
+-- handles are counted by this step
+abbrev pub CountsBy : {T C : Type 0} → OwnerStep → ((C → C → Type 0) → C → C → Type 0) → (C → Type 0)
+    → (Entry T → C → C → Type 0) → Type 0
+CountsBy step then_tells is_new calls =
+    (made : OwnerReply) × ByNewCaller is_new (then_tells (calls (Owner step made)))
 
 -- a future has its caller from its first poll on
 abbrev pub IsSupplied : {C : Type 0} → (C → Type 0) → Option C → C → Type 0
@@ -61,3 +80,19 @@ module _ {T C : Type 0} (calls : Entry T → C → C → Type 0) where
 
   abbrev pub CallsTake : C → C → Type 0
   CallsTake c c' = (answer : Reply) × calls (Made Take None answer) c c'
+
+  -- an entry that does not wait, whose object leaves for good, if it is given one
+  abbrev pub CallsTryRemove : ((C → C → Type 0) → C → C → Type 0) → Result T PoolError → C → C → Type 0
+  CallsTryRemove tells (Ok value) c c' =
+      (out : C) × (tells (CallsTryGet (Ok value)) c out × tells CallsTake out c')
+  CallsTryRemove tells (Err cause) c c' = tells (CallsTryGet (Err cause)) c c'
+
+module _ {T : Type 0} where
+  -- a caller of a history that has made no step yet
+  abbrev pub IsNewCaller : Knowing (Line T) → Type 0
+  IsNewCaller c = (c.mine ≡ []) × (c.admitted ≡ 0)
+
+  -- the caller has asked for this status, and the history that it has seen then has this tally
+  abbrev pub AsksTally : Tally → Status → Knowing (Line T) → Knowing (Line T) → Type 0
+  AsksTally tally status c c' =
+      HasCalled (λ e. e ≡ Owner owner_step.Status (owner_reply.Stands status)) c c' × IsTallyOf c'.seen tally

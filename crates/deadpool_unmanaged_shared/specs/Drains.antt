@@ -1,5 +1,5 @@
 -- A drain, as contracts see it, how it ends, and which calls it makes for its caller.
-use Rattle.std.specs.Prelude.{◌≡◌, ◌⊎◌, ◌<◌, ℕ, Bool, true, false, not, is_some, Option, Some, None, Result, Ok, Err}
+use Rattle.std.specs.Prelude.{◌≡◌, ◌<◌, ℕ, Bool, true, false, not, is_some, Option, Some, None, Result, Ok, Err}
 use Rattle.futures.specs.declared.task.Poll.{Poll}
 use Rattle.futures.specs.declared.task.Poll.TheVariants.{Ready, Pending}
 use Rattle.deadpool_lock.specs.Ends.{status_in}
@@ -40,11 +40,13 @@ EndsAt is_drained departing is_late (Err (OutOfMemory status)) =
 EndsAt is_drained departing is_late (Err (Departing status)) =
     IsEmpty status × (is_drained ≡ true) × (0 < departing)
 
-module _ {T C : Type 0} (calls : Entry T → C → C → Type 0) where
-  -- The pool is closed by a call of this caller's, which a later poll need not make if it was closed already.
+-- The first relation says what a caller has seen since, and the other what it knows of a step that it made, by its
+-- entry.
+module _ {T C : Type 0} (keeps : C → C → Type 0) (calls : Entry T → C → C → Type 0) where
+  -- The first poll of a drain closes the pool. A later one makes no such call, as it stays closed.
   abbrev pub HasClosed : Bool → C → C → Type 0
   HasClosed true c c' = calls (Owner owner_step.Close owner_reply.Done) c c'
-  HasClosed false c c' = calls (Owner owner_step.Close owner_reply.Done) c c' ⊎ (c' ≡ c)
+  HasClosed false c c' = keeps c c'
 
   -- After that a drain that ends asks for the status that it gives, and one that waits on asks for nothing.
   abbrev pub HasEnded : Poll (Result Status DrainError) → C → C → Type 0
@@ -55,9 +57,9 @@ module _ {T C : Type 0} (calls : Entry T → C → C → Type 0) where
   CallsOfDrain is_first polled c c' = (closed : C) × (HasClosed is_first c closed × HasEnded polled closed c')
 
 -- one poll of a drain between threads
-abbrev pub PollsDrainFrom : {T C : Type 0} → (C → Type 0) → (Entry T → C → C → Type 0) → Drain C
-    → Poll (Result Status DrainError) → Drain C → Type 0
-PollsDrainFrom is_new calls drain polled left =
+abbrev pub PollsDrainFrom : {T C : Type 0} → ((C → C → Type 0) → C → C → Type 0) → (C → C → Type 0) → (C → Type 0)
+    → (Entry T → C → C → Type 0) → Drain C → Poll (Result Status DrainError) → Drain C → Type 0
+PollsDrainFrom tells keeps is_new calls drain polled left =
     (c : _) × ((c' : _)
-    × (IsSupplied is_new drain.caller c × CallsOfDrain calls (not (is_some drain.caller)) polled c c'
+    × (IsSupplied is_new drain.caller c × tells (CallsOfDrain keeps calls (not (is_some drain.caller)) polled) c c'
     × (left ≡ record drain { caller = Some c' })))

@@ -3,12 +3,13 @@ ghost use Rattle.std.specs.Prelude.{◌≡◌, Some, Err, IfOk, IfErr, IfSome};
 ghost use Rattle.deadpool_lock.specs.Asked.{IfRefused};
 ghost use Rattle.deadpool_unmanaged.specs.Adds.{held_by, IsUnpolled};
 ghost use Rattle.deadpool_unmanaged.specs.declared.error.PoolError.TheVariants.{OutOfMemory};
+ghost use Rattle.deadpool_unmanaged_history.specs.Telling.{ThenTells};
 ghost use Rattle.deadpool_unmanaged_shared.specs.Asking.{CancelsAddFrom, CancelsFrom, PollsAddFrom, PollsFrom};
 ghost use Rattle.deadpool_unmanaged_shared.specs.Asking.{PollsToRemove, adding, getting};
 
 use crate::object::Object;
 use crate::shared::Shared;
-use deadpool_lock::{Home, Registration, Request, Stage, wake_at};
+use deadpool_lock::{Home, Registered, Request, Stage, wake_at};
 use deadpool_unmanaged::{AddState, Clock, Core, GetState, PoolError};
 use deadpool_unmanaged_history::KeepsState;
 use futures::task::{Context, Poll};
@@ -66,16 +67,17 @@ impl<T: Drop, C: Clock, R: Wait + Drop, S: KeepsState<T>> Request for Getting<T,
     ghost refuses = { λ _ ended. ended ≡ Err OutOfMemory };
 
     ghost polls = { λ shared get turn left. PollsFrom (λ object. object.value) (λ object. object.caller)
-        S.is_new S.calls shared.runtime get turn left };
+        (ThenTells S.keeps S.is_quiet) S.is_new S.calls shared.runtime get turn left };
 
-    ghost cancels = { λ _ get left. CancelsFrom S.is_new S.calls get left };
+    ghost cancels = { λ _ get left. CancelsFrom (ThenTells S.keeps S.is_quiet)
+        S.is_new S.calls get left };
 
     #[inline(always)]
     fn poll(
         &mut self,
         stage: &mut Stage<Home<Shared<T, C, R, S>>>,
         shared: &Shared<T, C, R, S>,
-        registration: &mut Registration,
+        registered: &mut Registered,
         cx: &mut Context<'_>,
     ) -> Poll<Result<Object<T, C, R, S>, PoolError>> {
         let now = shared.clock.now();
@@ -86,9 +88,9 @@ impl<T: Drop, C: Clock, R: Wait + Drop, S: KeepsState<T>> Request for Getting<T,
             &mut self.state,
             shared.runtime,
             now,
-            registration.waker(),
+            registered,
         );
-        shared.lock.end(step);
+        shared.lock.end(step, &mut caller);
         drop(spare);
         match polled {
             Poll::Ready(Ok(value)) => Poll::Ready(Ok(Object {
@@ -119,7 +121,7 @@ impl<T: Drop, C: Clock, R: Wait + Drop, S: KeepsState<T>> Request for Getting<T,
         let mut step = shared.lock.begin();
         let mut caller = step.kept().supply(caller);
         let spare = step.kept().cancel_get(&mut caller, state);
-        shared.lock.end(step);
+        shared.lock.end(step, &mut caller);
         drop(spare);
         caller
     }
@@ -172,19 +174,20 @@ impl<T: Drop, C: Clock, R: Wait + Drop, S: KeepsState<T>> Request for Removing<T
 
     ghost polls = { λ shared get turn left. PollsToRemove
         (λ (o : Out T C R S C.Alarm S.Caller). o.value) (λ (o : Out T C R S C.Alarm S.Caller). o.caller)
-        S.is_new S.calls shared.runtime get turn left };
+        (ThenTells S.keeps S.is_quiet) S.is_new S.calls shared.runtime get turn left };
 
-    ghost cancels = { λ _ get left. CancelsFrom S.is_new S.calls get left };
+    ghost cancels = { λ _ get left. CancelsFrom (ThenTells S.keeps S.is_quiet)
+        S.is_new S.calls get left };
 
     #[inline(always)]
     fn poll(
         &mut self,
         stage: &mut Stage<Home<Shared<T, C, R, S>>>,
         shared: &Shared<T, C, R, S>,
-        registration: &mut Registration,
+        registered: &mut Registered,
         cx: &mut Context<'_>,
     ) -> Poll<Result<T, PoolError>> {
-        match self.get.poll(stage, shared, registration, cx) {
+        match self.get.poll(stage, shared, registered, cx) {
             Poll::Ready(Ok(object)) => {
                 let (value, caller) = Object::take_by(object);
                 self.get.caller = Some(caller);
@@ -256,23 +259,25 @@ impl<T: Drop, C: Clock, R: Wait + Drop, S: KeepsState<T>> Request for Adding<T, 
 
     ghost refuses = { λ add ended. IfSome (held_by add.stage) (λ value. ended ≡ Err (value, OutOfMemory)) };
 
-    ghost polls = { λ _ add turn left. PollsAddFrom S.is_new S.calls add turn left };
+    ghost polls = { λ _ add turn left. PollsAddFrom (ThenTells S.keeps S.is_quiet)
+        S.is_new S.calls add turn left };
 
-    ghost cancels = { λ _ add left. CancelsAddFrom S.is_new S.calls add left };
+    ghost cancels = { λ _ add left. CancelsAddFrom (ThenTells S.keeps S.is_quiet)
+        S.is_new S.calls add left };
 
     fn poll(
         &mut self,
         stage: &mut Stage<()>,
         shared: &Shared<T, C, R, S>,
-        registration: &mut Registration,
+        registered: &mut Registered,
         _cx: &mut Context<'_>,
     ) -> Poll<Result<(), (T, PoolError)>> {
         let mut step = shared.lock.begin();
         let mut caller = step.kept().supply(self.caller.take());
         let (polled, spare) = step
             .kept()
-            .poll_add(&mut caller, &mut self.state, registration.waker());
-        shared.lock.end(step);
+            .poll_add(&mut caller, &mut self.state, registered);
+        shared.lock.end(step, &mut caller);
         self.caller = Some(caller);
         drop(spare);
         if polled.is_ready() {
@@ -290,7 +295,7 @@ impl<T: Drop, C: Clock, R: Wait + Drop, S: KeepsState<T>> Request for Adding<T, 
         let mut step = shared.lock.begin();
         let mut caller = step.kept().supply(caller);
         let (value, spare) = step.kept().cancel_add(&mut caller, state);
-        shared.lock.end(step);
+        shared.lock.end(step, &mut caller);
         drop(spare);
         (value, caller)
     }

@@ -1,9 +1,10 @@
 //! What a drain asks: that the pool closes, and that no object is left.
-ghost use Rattle.std.specs.Prelude.{◌≡◌, is_some};
+ghost use Rattle.std.specs.Prelude.{◌≡◌, is_some, IfSome};
+ghost use Rattle.deadpool_unmanaged_history.specs.Telling.{ThenTells};
 ghost use Rattle.deadpool_unmanaged_shared.specs.Drains.{EndsEmpty, PollsDrainFrom, draining};
 
 use crate::shared::Shared;
-use deadpool_lock::{DrainError, Registration, Request, Stage, wake_at};
+use deadpool_lock::{DrainError, Registered, Request, Stage, wake_at};
 use deadpool_parts::deadline::{deadline_after, is_reached};
 use deadpool_unmanaged::gate::Ticket;
 use deadpool_unmanaged::{Clock, Core, Moment, Status};
@@ -71,9 +72,13 @@ impl<T: Drop, C: Clock, R: Wait + Drop, S: KeepsState<T>> Request for Draining<T
     // Its caller, if it was polled.
     type Left = Option<S::Caller>;
 
+    // Its caller has closed the pool.
+    ghost fits = { λ _ drain. IfSome drain.caller S.has_closed };
+
     ghost gives = { λ drain _ ended. EndsEmpty drain.is_limited ended };
 
-    ghost polls = { λ _ drain turn left. PollsDrainFrom S.is_new S.calls drain turn left };
+    ghost polls = { λ _ drain turn left. PollsDrainFrom (ThenTells S.keeps S.is_quiet)
+        S.keeps S.is_new S.calls drain turn left };
 
     // That it waits no longer is no step.
     ghost cancels = { λ _ drain left. left ≡ drain.caller };
@@ -82,9 +87,10 @@ impl<T: Drop, C: Clock, R: Wait + Drop, S: KeepsState<T>> Request for Draining<T
         &mut self,
         stage: &mut Stage<()>,
         shared: &Shared<T, C, R, S>,
-        registration: &mut Registration,
+        registered: &mut Registered,
         cx: &mut Context<'_>,
     ) -> Poll<Result<Status, DrainError>> {
+        S::closers_stay();
         let now = shared.clock.now();
         let begun = self.begun.unwrap_or(now);
         let deadline = deadline_after(begun, self.limit);
@@ -96,9 +102,9 @@ impl<T: Drop, C: Clock, R: Wait + Drop, S: KeepsState<T>> Request for Draining<T
             is_first,
             is_reached(deadline, now),
             &mut self.ticket,
-            registration.waker(),
+            registered,
         );
-        shared.lock.end(step);
+        shared.lock.end(step, &mut caller);
         drop(spare);
         self.begun = Some(begun);
         self.caller = Some(caller);

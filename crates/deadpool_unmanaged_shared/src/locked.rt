@@ -1,25 +1,28 @@
 //! What the lock of a pool keeps.
-ghost use Rattle.std.specs.Prelude.{◌≡◌, ◌⊎◌, ◌||◌, not, is_some, [], Some, None, IfSome, IsSome};
-ghost use Rattle.deadpool_lock.specs.Places.{Follows, waker_at};
+ghost use Rattle.std.specs.Prelude.{◌≡◌, ◌||◌, true, false, not, is_some, [], Some, None, IfSome, IsSome};
+ghost use Rattle.deadpool_lock.specs.Places.{Follows};
 ghost use Rattle.deadpool_unmanaged.specs.Adds as adds;
 ghost use Rattle.deadpool_unmanaged.specs.Closing.{is_drained};
 ghost use Rattle.deadpool_unmanaged.specs.Gets as gets;
-ghost use Rattle.deadpool_unmanaged.specs.State.{has_due};
+ghost use Rattle.deadpool_unmanaged.specs.Queueing.{add_joins, get_joins};
+ghost use Rattle.deadpool_unmanaged.specs.State.{due_get, has_due};
 ghost use Rattle.deadpool_unmanaged.specs.StateSteps.{Does};
 ghost use Rattle.deadpool_unmanaged.specs.Replies.{Leaves};
 ghost use Rattle.deadpool_unmanaged.specs.declared.step.Step.TheVariants.{Back, Take};
 ghost use Rattle.deadpool_unmanaged_history.specs.Polls.{CancelsAdd, CancelsGet};
+ghost use Rattle.futures.specs.Poll.{OnPending};
 ghost use Rattle.deadpool_unmanaged_journal.specs.OwnerSteps.{DoesForOwner, IsOwnerReplyTo};
 ghost use Rattle.deadpool_unmanaged_journal.specs.declared.entry.Entry.TheVariants as entry;
 ghost use Rattle.deadpool_unmanaged_shared.specs.Calling.{CallsOrRefusesAdd, CallsOrRefusesGet, IsSupplied};
 ghost use Rattle.deadpool_unmanaged_shared.specs.Calling.{CallsTryAdd, CallsTryGet};
 ghost use Rattle.deadpool_unmanaged_shared.specs.Locked.{PollsGet, PollsAdd, TriesGet, TriesAdd};
-ghost use Rattle.deadpool_lock.specs.Ends.{Departs};
-ghost use Rattle.deadpool_unmanaged_shared.specs.Locked.{TellsIfDue, is_end_due, next_waker, told};
+ghost use Rattle.deadpool_lock.specs.Ends.{Departs, one_less};
+ghost use Rattle.deadpool_unmanaged_shared.specs.Locked.{FollowsOrRefuses, TellsIfDue, awaited_by, is_end_due};
+ghost use Rattle.deadpool_unmanaged_shared.specs.Locked.{due_add_alone, next_waker, told, without_waker};
 
 mod draining;
 
-use deadpool_lock::{Departure, Ends, Wakers, Wakes};
+use deadpool_lock::{Departed, Departure, Ends, Owed, Registered, Wakers, Wakes};
 use deadpool_unmanaged::{AddState, GetState, Moment, PoolError, Reply, Runtime, Step};
 use deadpool_unmanaged_history::KeepsState;
 use deadpool_unmanaged_journal::{OwnerReply, OwnerStep};
@@ -63,6 +66,7 @@ impl<T: Drop, S: KeepsState<T>> Locked<T, S> {
         ensures same { S.state_of self.new.state ≡ S.state_of self.old.state }
         ensures gets { self.new.gets ≡ self.old.gets }
         ensures adds { self.new.adds ≡ self.old.adds }
+        ensures ends { self.new.ends ≡ self.old.ends }
     {
         let Locked { state, first, .. } = self;
         state.admit(first)
@@ -75,6 +79,7 @@ impl<T: Drop, S: KeepsState<T>> Locked<T, S> {
         ensures same { S.state_of self.new.state ≡ S.state_of self.old.state }
         ensures gets { self.new.gets ≡ self.old.gets }
         ensures adds { self.new.adds ≡ self.old.adds }
+        ensures ends { self.new.ends ≡ self.old.ends }
     {
         match caller {
             Some(caller) => caller,
@@ -83,32 +88,36 @@ impl<T: Drop, S: KeepsState<T>> Locked<T, S> {
     }
 
     /// One poll of a get, and the waker that is to be let go with the lock given back. While it waits its waker is
-    /// kept. If it would join the queue and there is no memory for its waker, no step is made and it has ended.
+    /// kept. If it would join the queue and there is no waker, or no memory for it, no step is made and it has ended.
     pub fn poll_get(
         &mut self,
         caller: &mut S::Caller,
         get: &mut GetState,
         runtime: Option<Runtime>,
         now: Moment,
-        waker: &mut Option<Waker>,
+        registered: &mut Registered,
     ) -> (Poll<Result<T, PoolError>>, Option<Waker>)
         ensures polls { PollsGet runtime now get.old (S.state_of self.old.state).pool result.0
             get.new (S.state_of self.new.state).pool }
-        ensures waits { IfSome (gets.ticket_of get.new)
-            (λ ticket. (waker_at ticket self.new.gets ≡ waker.old) ⊎ (result.1 ≡ waker.old)) }
+        ensures waits { FollowsOrRefuses (get_joins runtime now get.old (S.state_of self.old.state).pool)
+            (S.state_of self.old.state).next_get (gets.ticket_of get.old) (gets.ticket_of get.new)
+            self.old.gets registered.old result.1 self.new.gets registered.new }
+        ensures heard { get_joins runtime now get.old (S.state_of self.old.state).pool ≡ true
+            → OnPending result.0 (is_some registered.old ≡ true) }
         ensures others { self.new.adds ≡ self.old.adds }
+        ensures ends { self.new.ends ≡ self.old.ends }
         ensures call { CallsOrRefusesGet S.calls runtime now get.old result.0 get.new
             caller.old caller.new }
     {
         let Locked { state, gets, .. } = self;
         let would_queue = state.get_joins(get, runtime, now);
-        if would_queue && gets.make_room(state.next_get()).is_err() {
+        if would_queue && gets.make_room(state.next_get(), registered).is_err() {
             drop(get.take());
             return (Poll::Ready(Err(PoolError::OutOfMemory)), None);
         }
         let before = get.ticket();
         let polled = state.poll_get(caller, get, runtime, now);
-        (polled, gets.follow(before, get.ticket(), waker))
+        (polled, gets.follow(before, get.ticket(), registered))
     }
 
     /// A get is given up. The answer is the waker that was kept for it.
@@ -118,34 +127,38 @@ impl<T: Drop, S: KeepsState<T>> Locked<T, S> {
         ensures waker { Follows (gets.ticket_of get)
             None self.old.gets None result self.new.gets None }
         ensures others { self.new.adds ≡ self.old.adds }
+        ensures ends { self.new.ends ≡ self.old.ends }
         ensures call { CancelsGet S.calls get caller.old caller.new }
     {
         let Locked { state, gets, .. } = self;
-        let mut none = None;
-        let spare = gets.follow(get.ticket(), None, &mut none);
+        let spare = gets.follow(get.ticket(), None, &mut Registered::nobody());
         state.cancel_get(caller, get);
         spare
     }
 
     /// One poll of an add, and the waker that is to be let go with the lock given back. While it waits its waker is
-    /// kept. If it would join the queue and there is no memory for its waker, no step is made, and its object comes
-    /// back.
+    /// kept. If it would join the queue and there is no waker, or no memory for it, no step is made, and its object
+    /// comes back.
     pub fn poll_add(
         &mut self,
         caller: &mut S::Caller,
         add: &mut AddState<T>,
-        waker: &mut Option<Waker>,
+        registered: &mut Registered,
     ) -> (Poll<Result<(), (T, PoolError)>>, Option<Waker>)
         ensures polls { PollsAdd add.old (S.state_of self.old.state).pool result.0
             add.new (S.state_of self.new.state).pool }
-        ensures waits { IfSome (adds.ticket_of add.new)
-            (λ ticket. (waker_at ticket self.new.adds ≡ waker.old) ⊎ (result.1 ≡ waker.old)) }
+        ensures waits { FollowsOrRefuses (add_joins add.old (S.state_of self.old.state).pool)
+            (S.state_of self.old.state).next_add (adds.ticket_of add.old) (adds.ticket_of add.new)
+            self.old.adds registered.old result.1 self.new.adds registered.new }
+        ensures heard { add_joins add.old (S.state_of self.old.state).pool ≡ true
+            → OnPending result.0 (is_some registered.old ≡ true) }
         ensures others { self.new.gets ≡ self.old.gets }
+        ensures ends { self.new.ends ≡ self.old.ends }
         ensures call { CallsOrRefusesAdd S.calls add.old result.0 add.new caller.old caller.new }
     {
         let Locked { state, adds, .. } = self;
         let would_queue = state.add_joins(add);
-        if would_queue && adds.make_room(state.next_add()).is_err() {
+        if would_queue && adds.make_room(state.next_add(), registered).is_err() {
             return match add.take().begin() {
                 Some((_, value)) => (Poll::Ready(Err((value, PoolError::OutOfMemory))), None),
                 None => unreachable!(),
@@ -153,7 +166,7 @@ impl<T: Drop, S: KeepsState<T>> Locked<T, S> {
         }
         let before = add.ticket();
         let polled = state.poll_add(caller, add);
-        (polled, adds.follow(before, add.ticket(), waker))
+        (polled, adds.follow(before, add.ticket(), registered))
     }
 
     /// An add is given up. The answer is its object, and the waker that was kept for it.
@@ -168,18 +181,21 @@ impl<T: Drop, S: KeepsState<T>> Locked<T, S> {
         ensures waker { Follows (adds.ticket_of add)
             None self.old.adds None result.1 self.new.adds None }
         ensures others { self.new.gets ≡ self.old.gets }
+        ensures ends { self.new.ends ≡ self.old.ends }
         ensures call { CancelsAdd S.calls add caller.old caller.new }
     {
         let Locked { state, adds, .. } = self;
-        let mut none = None;
-        let spare = adds.follow(add.ticket(), None, &mut none);
+        let spare = adds.follow(add.ticket(), None, &mut Registered::nobody());
         (state.cancel_add(caller, add), spare)
     }
 
-    /// An object at once, if one is free.
+    /// An object at once, if one is free. No waker comes or goes with it.
     pub fn try_get(&mut self, caller: &mut S::Caller) -> Result<T, PoolError>
         ensures tries { TriesGet (S.state_of self.old.state).pool result
             (S.state_of self.new.state).pool }
+        ensures gets { self.new.gets ≡ self.old.gets }
+        ensures adds { self.new.adds ≡ self.old.adds }
+        ensures ends { self.new.ends ≡ self.old.ends }
         ensures call { CallsTryGet S.calls result caller.old caller.new }
     {
         let mut hand = None;
@@ -193,10 +209,13 @@ impl<T: Drop, S: KeepsState<T>> Locked<T, S> {
         }
     }
 
-    /// An object joins at once, if there is room. Otherwise it comes back.
+    /// An object joins at once, if there is room. Otherwise it comes back. No waker comes or goes with it.
     pub fn try_add(&mut self, caller: &mut S::Caller, value: T) -> Result<(), (T, PoolError)>
         ensures tries { TriesAdd (S.state_of self.old.state).pool value result
             (S.state_of self.new.state).pool }
+        ensures gets { self.new.gets ≡ self.old.gets }
+        ensures adds { self.new.adds ≡ self.old.adds }
+        ensures ends { self.new.ends ≡ self.old.ends }
         ensures call { CallsTryAdd S.calls value result caller.old caller.new }
     {
         let mut hand = Some(value);
@@ -214,7 +233,7 @@ impl<T: Drop, S: KeepsState<T>> Locked<T, S> {
     }
 
     /// The object in the hand comes back. It stays there if the pool has no use for it, and counts as departing from
-    /// then on.
+    /// then on. No waker comes or goes with it.
     pub fn back(
         &mut self,
         caller: &mut S::Caller,
@@ -225,6 +244,8 @@ impl<T: Drop, S: KeepsState<T>> Locked<T, S> {
         ensures back { Does (S.state_of self.old.state).pool Back hand.old result
             (S.state_of self.new.state).pool }
         ensures hand { Leaves result hand.old hand.new }
+        ensures gets { self.new.gets ≡ self.old.gets }
+        ensures adds { self.new.adds ≡ self.old.adds }
         ensures call { S.calls (entry.Made Back hand.old result) caller.old caller.new }
         ensures departs { Departs (is_some hand.new) self.old.ends departure.old self.new.ends departure.new }
     {
@@ -234,10 +255,13 @@ impl<T: Drop, S: KeepsState<T>> Locked<T, S> {
         reply
     }
 
-    /// An object that is out leaves for good.
+    /// An object that is out leaves for good. No waker comes or goes with it.
     pub fn take(&mut self, caller: &mut S::Caller) -> Reply
         ensures take { Does (S.state_of self.old.state).pool Take None result
             (S.state_of self.new.state).pool }
+        ensures gets { self.new.gets ≡ self.old.gets }
+        ensures adds { self.new.adds ≡ self.old.adds }
+        ensures ends { self.new.ends ≡ self.old.ends }
         ensures call { S.calls (entry.Made Take None result) caller.old caller.new }
     {
         self.state.make(caller, &Step::Take, &mut None)
@@ -284,30 +308,69 @@ fn depart(ends: &mut Ends, departure: &mut Option<Departure>, lets_go: bool)
 }
 
 impl<T: Drop, S: KeepsState<T>> Wakes for Locked<T, S> {
-    fn is_wake_due(&self) -> bool
-        ensures { result ≡ (has_due (S.state_of self.now.state).pool
-            || is_end_due self.now.ends (S.state_of self.now.state).pool) }
-    {
-        self.state.is_wake_due() || self.is_end_due()
+    type Seer = S::Caller;
+
+    ghost keeps = { S.keeps };
+
+    ghost is_quiet = { S.is_quiet };
+
+    fn keeps_all() {
+        S::keeps_all();
     }
 
-    fn take_wake(&mut self) -> Option<Waker>
+    fn is_wake_due(&mut self, seer: &mut S::Caller) -> bool
+        ensures due { result ≡ (has_due (S.state_of self.old.state).pool
+            || is_end_due self.old.ends (S.state_of self.old.state).pool) }
+        ensures same { S.state_of self.new.state ≡ S.state_of self.old.state }
+        ensures gets { self.new.gets ≡ self.old.gets }
+        ensures adds { self.new.adds ≡ self.old.adds }
+        ensures ends { self.new.ends ≡ self.old.ends }
+        ensures noted { IfSome (S.awaited_of self.new.state) (λ a. a ≡ awaited_by self.old.ends) }
+        ensures keeps { S.keeps seer.old seer.new }
+        ensures quiet { result ≡ false → S.is_quiet seer.new }
+    {
+        let Locked {
+            state,
+            first,
+            ends,
+            ..
+        } = self;
+        state.note_ending(first, ends.waiting(), ends.departing());
+        self.state.is_wake_due(seer) || self.is_end_due()
+    }
+
+    fn take_wake(&mut self) -> Option<Owed>
         ensures waker { result ≡ next_waker (S.state_of self.old.state).pool
             self.old.gets self.old.adds self.old.ends }
         ensures told { (S.state_of self.new.state).pool ≡ told (S.state_of self.old.state).pool }
+        ensures gets { self.new.gets ≡ without_waker (due_get (S.state_of self.old.state).pool) self.old.gets }
+        ensures adds { self.new.adds ≡ without_waker (due_add_alone (S.state_of self.old.state).pool)
+            self.old.adds }
         ensures ends { TellsIfDue (has_due (S.state_of self.old.state).pool)
             (is_end_due self.old.ends (S.state_of self.old.state).pool)
             self.old.ends result self.new.ends }
     {
-        if let Some(ticket) = self.state.take_get_wake() {
-            return self.gets.take(ticket);
+        let Locked { state, first, .. } = self;
+        if let Some(ticket) = state.take_get_wake(first) {
+            return self.gets.tell(ticket);
         }
-        if let Some(ticket) = self.state.take_add_wake() {
-            return self.adds.take(ticket);
+        if let Some(ticket) = state.take_add_wake(first) {
+            return self.adds.tell(ticket);
         }
         if self.is_end_due() {
             return self.ends.take_wake();
         }
         None
+    }
+
+    // (it is no step)
+    fn has_departed(&mut self, departed: Departed)
+        ensures same { S.state_of self.new.state ≡ S.state_of self.old.state }
+        ensures gets { self.new.gets ≡ self.old.gets }
+        ensures adds { self.new.adds ≡ self.old.adds }
+        ensures ends { self.new.ends
+            ≡ record self.old.ends { departing = one_less self.old.ends.departing } }
+    {
+        self.ends.has_departed(departed);
     }
 }

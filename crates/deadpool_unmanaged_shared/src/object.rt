@@ -1,5 +1,6 @@
 //! An object that is out.
 ghost use Rattle.std.specs.Prelude.{◌≡◌};
+ghost use Rattle.deadpool_unmanaged_history.specs.Telling.{ThenTells};
 ghost use Rattle.deadpool_unmanaged_shared.specs.Calling.{CallsBack, CallsTake};
 
 use crate::shared::Shared;
@@ -21,7 +22,8 @@ pub struct Object<T: Drop, C: Clock, R: Wait + Drop, S: KeepsState<T> = Core<T>>
 impl<T: Drop, C: Clock, R: Wait + Drop, S: KeepsState<T>> Object<T, C, R, S> {
     /// Takes the value out of the pool for good. Its room is free.
     pub fn take(this: Self) -> T
-        ensures { result ≡ this.value }
+        ensures value { result ≡ this.value }
+        ensures call { (c : S.Caller) × ThenTells S.keeps S.is_quiet (CallsTake S.calls) this.caller c }
     {
         let (value, _) = Object::take_by(this);
         value
@@ -30,7 +32,7 @@ impl<T: Drop, C: Clock, R: Wait + Drop, S: KeepsState<T>> Object<T, C, R, S> {
     /// `take`, and the caller that the history has it of.
     pub fn take_by(this: Self) -> (T, S::Caller)
         ensures value { result.0 ≡ this.value }
-        ensures call { CallsTake S.calls this.caller result.1 }
+        ensures call { ThenTells S.keeps S.is_quiet (CallsTake S.calls) this.caller result.1 }
     {
         let Self {
             home,
@@ -43,7 +45,7 @@ impl<T: Drop, C: Clock, R: Wait + Drop, S: KeepsState<T>> Object<T, C, R, S> {
 
     /// Gives the object back, as its drop does, and the caller that the history has it of.
     pub fn give_back(this: Self) -> S::Caller
-        ensures { CallsBack S.calls this.value this.caller result }
+        ensures { ThenTells S.keeps S.is_quiet (CallsBack S.calls this.value) this.caller result }
     {
         let Self {
             home,
@@ -56,7 +58,9 @@ impl<T: Drop, C: Clock, R: Wait + Drop, S: KeepsState<T>> Object<T, C, R, S> {
 }
 
 impl<T: Drop, C: Clock, R: Wait + Drop, S: KeepsState<T>> Drop for Object<T, C, R, S> {
-    fn drop(self) {
+    fn drop(self)
+        ensures { (c : S.Caller) × ThenTells S.keeps S.is_quiet (CallsBack S.calls self.value) self.caller c }
+    {
         Object::give_back(self);
     }
 }

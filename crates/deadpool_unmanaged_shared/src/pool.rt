@@ -1,13 +1,15 @@
 //! The handles of a pool.
-ghost use Rattle.std.specs.Prelude.{◌≡◌, ◌⊎◌, true, false, None, Err, IfOk, IfErr};
+ghost use Rattle.std.specs.Prelude.{◌≡◌, ◌⊎◌, true, false, None, Err, IfOk, IfErr, IfSome};
 ghost use Rattle.deadpool_parts.specs.Result.{result_map};
 ghost use Rattle.deadpool_unmanaged.specs.declared.error.PoolError.TheVariants.{OutOfMemory};
 ghost use Rattle.deadpool_lock.specs.Asked.{Asks, BorrowingAsks, OwnAsks};
 ghost use Rattle.deadpool_unmanaged_journal.specs.declared.entry.Entry.TheVariants as entry;
 ghost use Rattle.deadpool_unmanaged_journal.specs.declared.owner_step.OwnerReply.TheVariants as reply;
 ghost use Rattle.deadpool_unmanaged_journal.specs.declared.owner_step.OwnerStep.TheVariants as step;
+ghost use Rattle.deadpool_unmanaged_history.specs.Telling.{ThenTells};
 ghost use Rattle.deadpool_unmanaged_shared.specs.Asking.{adding, getting};
-ghost use Rattle.deadpool_unmanaged_shared.specs.Calling.{CallsTryAdd, CallsTryGet};
+ghost use Rattle.deadpool_unmanaged_shared.specs.Calling.{ByNewCaller, CallsTryAdd, CallsTryGet, CallsTryRemove};
+ghost use Rattle.deadpool_unmanaged_shared.specs.Calling.{CountsBy};
 ghost use Rattle.deadpool_unmanaged_shared.specs.Drains.{CallsOfDrain, EndsEmpty, draining};
 ghost use Rattle.futures.specs.declared.task.Poll.TheVariants.{Ready};
 
@@ -48,7 +50,8 @@ pub type AddRef<'a, T, C, R, S = Core<T>> = Borrowed<'a, Adding<T, C, R, S>>;
 pub type Drain<'a, T, C, R, S = Core<T>> = Borrowed<'a, Draining<T, C, R, S>>;
 
 /// A handle of a pool whose objects are those that its users add. The last handle that is dropped takes the idle
-/// objects with it. Each future holds a handle of its own, but for those that borrow one.
+/// objects with it. Each future holds a handle of its own, which it counts and gives back, but for those that borrow
+/// one.
 ///
 /// `C` tells the time, and with `R` the lock is taken. Contracts see what its handles share.
 #[derive(Drop)]
@@ -148,7 +151,9 @@ impl<T: Drop, C: Clock, R: Wait + Drop, S: KeepsState<T>> Pool<T, C, R, S> {
 
     /// A get that waits as long as the configuration says.
     pub fn get(&self) -> Get<T, C, R, S>
-        ensures { OwnAsks self.now self.now (getting self.now.timeout) result }
+        ensures asks { OwnAsks self.now self.now (getting self.now.timeout) result }
+        ensures counted { IfSome result.shared
+            (λ _. CountsBy step.CloneHandle (ThenTells S.keeps S.is_quiet) S.is_new S.calls) }
     {
         self.timeout_get(self.shared().timeout)
     }
@@ -156,7 +161,9 @@ impl<T: Drop, C: Clock, R: Wait + Drop, S: KeepsState<T>> Pool<T, C, R, S> {
     /// A get that may wait so long; none set is without an end. A wait of zero tries once. The get takes a handle now;
     /// if that finds no memory, its first poll answers `OutOfMemory`.
     pub fn timeout_get(&self, timeout: Option<Duration>) -> Get<T, C, R, S>
-        ensures { OwnAsks self.now self.now (getting timeout) result }
+        ensures asks { OwnAsks self.now self.now (getting timeout) result }
+        ensures counted { IfSome result.shared
+            (λ _. CountsBy step.CloneHandle (ThenTells S.keeps S.is_quiet) S.is_new S.calls) }
     {
         Owned::new(self.begin(), Getting::new(timeout))
     }
@@ -175,27 +182,36 @@ impl<T: Drop, C: Clock, R: Wait + Drop, S: KeepsState<T>> Pool<T, C, R, S> {
         Borrowed::new(&self.inner, self.inner.uncounted(), Getting::new(timeout))
     }
 
-    /// An object at once. `Timeout` if none is free, also if one is idle that a get was granted.
+    /// An object at once, which has the caller that got it. `Timeout` if none is free, also if one is idle that a get
+    /// was granted. Without memory for the object no step is made.
     pub fn try_get(&self) -> Result<Object<T, C, R, S>, PoolError>
-        ensures { IfOk result (λ object. object.home ≡ self.now) }
+        ensures home { IfOk result (λ object. object.home ≡ self.now) }
+        ensures call { ByNewCaller S.is_new (λ c c'. ThenTells S.keeps S.is_quiet
+            (CallsTryGet S.calls (result_map (λ object. object.value) result)) c c'
+            × IfOk result (λ object. object.caller ≡ c'))
+            ⊎ (result ≡ Err OutOfMemory) }
     {
         let Ok(home) = self.inner.uncounted() else {
             return Err(PoolError::OutOfMemory);
         };
-        let (value, caller) = home.shared().try_get()?;
-        Ok(Object {
-            home,
-            value,
-            caller,
-        })
+        match home.shared().try_get() {
+            Ok((value, caller)) => Ok(Object {
+                home,
+                value,
+                caller,
+            }),
+            Err(cause) => Err(cause),
+        }
     }
 
     /// `try_get` by a caller that the history has it of. The object has a new caller of its own. Without memory for the
     /// object no step is made.
     pub fn try_get_by(&self, caller: &mut S::Caller) -> Result<Object<T, C, R, S>, PoolError>
         ensures home { IfOk result (λ object. object.home ≡ self.now) }
-        ensures call { CallsTryGet S.calls (result_map (λ object. object.value) result) caller.old caller.new
+        ensures call { ThenTells S.keeps S.is_quiet
+            (CallsTryGet S.calls (result_map (λ object. object.value) result)) caller.old caller.new
             ⊎ ((result ≡ Err OutOfMemory) × (caller.new ≡ caller.old)) }
+        ensures own { IfOk result (λ object. S.is_new object.caller) }
     {
         let Ok(home) = self.inner.uncounted() else {
             return Err(PoolError::OutOfMemory);
@@ -210,7 +226,9 @@ impl<T: Drop, C: Clock, R: Wait + Drop, S: KeepsState<T>> Pool<T, C, R, S> {
 
     /// An add, which waits for room without an end. If it is refused the object comes back.
     pub fn add(&self, value: T) -> Add<T, C, R, S>
-        ensures { OwnAsks self.now tt (adding value) result }
+        ensures asks { OwnAsks self.now tt (adding value) result }
+        ensures counted { IfSome result.shared
+            (λ _. CountsBy step.CloneHandle (ThenTells S.keeps S.is_quiet) S.is_new S.calls) }
     {
         Owned::new(self.begin_add(), Adding::new(value))
     }
@@ -224,7 +242,9 @@ impl<T: Drop, C: Clock, R: Wait + Drop, S: KeepsState<T>> Pool<T, C, R, S> {
 
     /// Adds an object at once. `Timeout` if there is no room, also if there is some that an add was granted.
     pub fn try_add(&self, value: T) -> Result<(), (T, PoolError)>
-        ensures { IfErr result (λ refused. refused.0 ≡ value) }
+        ensures value { IfErr result (λ refused. refused.0 ≡ value) }
+        ensures call { ByNewCaller S.is_new
+            (ThenTells S.keeps S.is_quiet (CallsTryAdd S.calls value result)) }
     {
         self.shared().try_add(value)
     }
@@ -232,39 +252,56 @@ impl<T: Drop, C: Clock, R: Wait + Drop, S: KeepsState<T>> Pool<T, C, R, S> {
     /// `try_add` by a caller that the history has it of.
     pub fn try_add_by(&self, caller: &mut S::Caller, value: T) -> Result<(), (T, PoolError)>
         ensures value { IfErr result (λ refused. refused.0 ≡ value) }
-        ensures call { CallsTryAdd S.calls value result caller.old caller.new }
+        ensures call { ThenTells S.keeps S.is_quiet (CallsTryAdd S.calls value result)
+            caller.old caller.new }
     {
         self.shared().try_add_by(caller, value)
     }
 
     /// A get whose object leaves the pool for good.
     pub fn remove(&self) -> Remove<T, C, R, S>
-        ensures { OwnAsks self.now self.now (getting self.now.timeout) result }
+        ensures asks { OwnAsks self.now self.now (getting self.now.timeout) result }
+        ensures counted { IfSome result.shared
+            (λ _. CountsBy step.CloneHandle (ThenTells S.keeps S.is_quiet) S.is_new S.calls) }
     {
         self.timeout_remove(self.shared().timeout)
     }
 
     /// A get with a timeout of its own, whose object leaves the pool for good.
     pub fn timeout_remove(&self, timeout: Option<Duration>) -> Remove<T, C, R, S>
-        ensures { OwnAsks self.now self.now (getting timeout) result }
+        ensures asks { OwnAsks self.now self.now (getting timeout) result }
+        ensures counted { IfSome result.shared
+            (λ _. CountsBy step.CloneHandle (ThenTells S.keeps S.is_quiet) S.is_new S.calls) }
     {
         Owned::new(self.begin(), Removing::new(timeout))
     }
 
-    /// An object at once, which leaves the pool for good.
-    pub fn try_remove(&self) -> Result<T, PoolError> {
-        Ok(Object::take(self.try_get()?))
+    /// An object at once, which leaves the pool for good. Without memory for the object no step is made.
+    pub fn try_remove(&self) -> Result<T, PoolError>
+        ensures { ByNewCaller S.is_new (CallsTryRemove S.calls (ThenTells S.keeps S.is_quiet) result)
+            ⊎ (result ≡ Err OutOfMemory) }
+    {
+        match self.try_get() {
+            Ok(object) => Ok(Object::take(object)),
+            Err(cause) => Err(cause),
+        }
     }
 
     /// Closes the pool for good. Its idle objects are dropped under the lock, so such a drop must not use the pool.
     /// Whoever waits is answered `Closed` at the next poll. An object that comes back later is dropped.
-    pub fn close(&self) {
-        self.shared().make_for_owner(&OwnerStep::Close);
+    pub fn close(&self)
+        ensures { ByNewCaller S.is_new
+            (ThenTells S.keeps S.is_quiet (S.calls (entry.Owner step.Close reply.Done))) }
+    {
+        let OwnerReply::Done = self.shared().make_for_owner(&OwnerStep::Close) else {
+            unreachable!();
+        };
     }
 
     /// `close` by a caller that the history has it of.
     pub fn close_by(&self, caller: &mut S::Caller)
-        ensures { S.calls (entry.Owner step.Close reply.Done) caller.old caller.new }
+        ensures { ThenTells S.keeps S.is_quiet (S.calls (entry.Owner step.Close reply.Done))
+            caller.old caller.new }
     {
         let OwnerReply::Done = self.shared().make_for_owner_by(caller, &OwnerStep::Close) else {
             unreachable!();
@@ -294,7 +331,9 @@ impl<T: Drop, C: Clock, R: Wait + Drop, S: KeepsState<T>> Pool<T, C, R, S> {
     /// Closes the pool, as `close`, and does not wait: `Timeout` says that an object is left, with the status, and
     /// `Departing` that one which has left is still to be dropped.
     pub fn try_drain(&self) -> Result<Status, DrainError>
-        ensures { EndsEmpty true result }
+        ensures ends { EndsEmpty true result }
+        ensures calls { ByNewCaller S.is_new
+            (ThenTells S.keeps S.is_quiet (CallsOfDrain S.keeps S.calls true (Ready result))) }
     {
         self.shared().try_drain_by(&mut self.caller())
     }
@@ -302,7 +341,8 @@ impl<T: Drop, C: Clock, R: Wait + Drop, S: KeepsState<T>> Pool<T, C, R, S> {
     /// `try_drain` by a caller that the history has its calls of: the close, and the status that it gives.
     pub fn try_drain_by(&self, caller: &mut S::Caller) -> Result<Status, DrainError>
         ensures ends { EndsEmpty true result }
-        ensures calls { CallsOfDrain S.calls true (Ready result) caller.old caller.new }
+        ensures calls { ThenTells S.keeps S.is_quiet (CallsOfDrain S.keeps S.calls true (Ready result))
+            caller.old caller.new }
     {
         self.shared().try_drain_by(caller)
     }
@@ -313,7 +353,9 @@ impl<T: Drop, C: Clock, R: Wait + Drop, S: KeepsState<T>> Pool<T, C, R, S> {
     }
 
     /// How the pool stands.
-    pub fn status(&self) -> Status {
+    pub fn status(&self) -> Status
+        ensures { ByNewCaller S.is_new (S.calls (entry.Owner step.Status (reply.Stands result))) }
+    {
         self.shared().status()
     }
 
@@ -333,7 +375,9 @@ impl<T: Drop, C: Clock, R: Wait + Drop, S: KeepsState<T>> Pool<T, C, R, S> {
 
     /// One handle more.
     pub fn clone(&self) -> Result<Self, AllocError>
-        ensures { IfOk result (λ pool. pool ≡ self.now) }
+        ensures pool { IfOk result (λ pool. pool ≡ self.now) }
+        ensures counted { IfOk result
+            (λ _. CountsBy step.CloneHandle (ThenTells S.keeps S.is_quiet) S.is_new S.calls) }
     {
         Ok(Pool {
             inner: self.inner.clone()?,
@@ -345,6 +389,8 @@ impl<T: Drop, C: Clock, R: Wait + Drop, S: KeepsState<T>> Pool<T, C, R, S> {
     fn begin(&self) -> Result<(Handle<Shared<T, C, R, S>>, Home<Shared<T, C, R, S>>), AllocError>
         ensures handle { IfOk result (λ begun. begun.0 ≡ self.now) }
         ensures home { IfOk result (λ begun. begun.1 ≡ self.now) }
+        ensures counted { IfOk result
+            (λ _. CountsBy step.CloneHandle (ThenTells S.keeps S.is_quiet) S.is_new S.calls) }
     {
         let home = self.inner.uncounted()?;
         Ok((self.inner.clone()?, home))
@@ -353,7 +399,9 @@ impl<T: Drop, C: Clock, R: Wait + Drop, S: KeepsState<T>> Pool<T, C, R, S> {
     // What a new add has, if there is memory for it.
     #[inline(always)]
     fn begin_add(&self) -> Result<(Handle<Shared<T, C, R, S>>, ()), AllocError>
-        ensures { IfOk result (λ begun. begun.0 ≡ self.now) }
+        ensures handle { IfOk result (λ begun. begun.0 ≡ self.now) }
+        ensures counted { IfOk result
+            (λ _. CountsBy step.CloneHandle (ThenTells S.keeps S.is_quiet) S.is_new S.calls) }
     {
         Ok((self.inner.clone()?, ()))
     }

@@ -9,6 +9,7 @@ ghost use Rattle.deadpool_unmanaged_journal.specs.Tally.{AreBalanced};
 ghost use Rattle.deadpool_unmanaged_journal.specs.declared.entry.Entry.TheVariants as entry;
 ghost use Rattle.deadpool_unmanaged_journal.specs.declared.owner_step.OwnerReply.TheVariants as reply;
 ghost use Rattle.deadpool_unmanaged_journal.specs.declared.owner_step.OwnerStep.TheVariants as step;
+ghost use Rattle.deadpool_unmanaged_shared.specs.Calling.{AsksTally, ByNewCaller, IsNewCaller};
 
 use crate::pool::Pool;
 use crate::shared::Shared;
@@ -69,7 +70,8 @@ where
 
     /// The same by a new caller.
     pub fn tally(&self) -> (Tally, Status)
-        ensures { AreBalanced result.1.size result.0 }
+        ensures call { ByNewCaller (IsNewCaller {T = T}) (AsksTally result.0 result.1) }
+        ensures balances { AreBalanced result.1.size result.0 }
     {
         let mut locked = self.lock.look();
         let mut caller = locked.admit();
@@ -170,7 +172,8 @@ where
     /// books balance: each object that was stored is in the pool, or is counted where it was given up. A pool that
     /// another call opens keeps a bare `Core`, and counts nothing.
     pub fn tally(&self) -> (Tally, Status)
-        ensures { AreBalanced result.1.size result.0 }
+        ensures call { ByNewCaller (IsNewCaller {T = T}) (AsksTally result.0 result.1) }
+        ensures balances { AreBalanced result.1.size result.0 }
     {
         self.shared().tally()
     }

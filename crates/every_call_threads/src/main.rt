@@ -3,6 +3,7 @@
 //! Its proof says of each that it can be called: a caller meets what it requires, at a type of its own.
 #![tactic(auto)]
 
+mod built;
 mod keeper;
 mod numbers;
 mod sheets;
@@ -17,5 +18,6 @@ fn main(rt: HostRuntime) -> io::Result<()> {
     keeper::calls(rt)?;
     unmanaged::calls(rt)?;
     timer::calls(rt)?;
-    sheets::calls(rt)
+    sheets::calls(rt)?;
+    built::calls(rt)
 }

@@ -1,11 +1,15 @@
 //! A pool with the one history of its callers. What each has there is what it asked, with the answers that it got.
-ghost use Rattle.std.specs.Prelude.{◌≡◌, [], ◌∷◌, Some, false};
+ghost use Rattle.std.specs.Prelude.{◌≡◌, ℕ, [], ◌∷◌, Some, false};
+ghost use Rattle.deadpool_chronicle.specs.History.{Knowing};
 ghost use Rattle.deadpool_unmanaged.specs.declared.step.Reply.{Reply};
 ghost use Rattle.deadpool_unmanaged.specs.declared.step.Step.TheVariants.{AddEnter};
+ghost use Rattle.deadpool_unmanaged_history.specs.History.{CallsAndTells};
+ghost use Rattle.deadpool_unmanaged_history.specs.declared.line.Line.{Line};
 ghost use Rattle.deadpool_unmanaged_history.specs.declared.line.Line.TheVariants.{Next};
 ghost use Rattle.deadpool_unmanaged_journal.specs.declared.entry.Entry.TheVariants.{Made, Owner};
 ghost use Rattle.deadpool_unmanaged_journal.specs.declared.owner_step.OwnerReply.TheVariants as reply;
 ghost use Rattle.deadpool_unmanaged_journal.specs.declared.owner_step.OwnerStep.TheVariants as step;
+ghost use Rattle.deadpool_unmanaged_shared.specs.Calling.{ByNewCaller};
 
 use crate::host::Host;
 use crate::{Numbers, all};
@@ -24,13 +28,21 @@ type Recording<R, H> = Numbers<R, Recorded<u64, Nameless, H>>;
 
 type Opening<H> = Beginning<Line<u64>, H>;
 
+// Adds a number, or is refused at once. This caller has then seen a moment at which all were told.
+fn adds<R: Host, H: Chronicle>(pool: &Recording<R, H>, me: &mut Caller<Line<u64>, H>)
+    ensures { (added : Reply) × CallsAndTells (λ e. e ≡ Made (AddEnter false) (Some 7) added)
+        me.old me.new }
+{
+    drop(pool.try_add_by(me, 7));
+}
+
 // Adds a number and asks how the pool stands, which are two entries of this caller's.
 fn asks<R: Host, H: Chronicle>(pool: &Recording<R, H>, me: &mut Caller<Line<u64>, H>) -> Status
     requires { me.old.mine ≡ [] }
     ensures { (added : Reply) × (me.new.mine ≡ Next (Made (AddEnter false) (Some 7) added)
         ∷ Next (Owner step.Status (reply.Stands result)) ∷ []) }
 {
-    drop(pool.try_add_by(me, 7));
+    adds(pool, me);
     pool.status_by(me)
 }
 
@@ -45,6 +57,14 @@ fn counts<R: Host, H: Chronicle>(
     pool.audit(&mut one, &mut two);
     let (by_two, by_none) = (pool.tally_by(&mut two), pool.tally());
     (size, [by_two.0.adds, by_none.0.adds])
+}
+
+// Asks how the pool stands, in the name of a new caller, whose only entry this is.
+fn stands<R: Host, H: Chronicle>(pool: &Recording<R, H>) -> Status
+    ensures { ByNewCaller (λ c. c.mine ≡ []) (λ (c c' : Knowing (Line ℕ)).
+        c'.mine ≡ Next (Owner step.Status (reply.Stands result)) ∷ []) }
+{
+    pool.status()
 }
 
 // How many entries the journal has, by a caller and by none.
@@ -69,6 +89,7 @@ fn over<R: Host + Print, H: Chronicle>(rt: R, history: Blank) -> io::Result<()>
     )?;
     println!(rt; "size and adds: {:?}", counts(&pool, &opening))?;
     println!(rt; "entries: {:?}", entries(&pool)?)?;
+    println!(rt; "size: {}", stands(&pool).size)?;
     all(&rt, &pool)
 }
 

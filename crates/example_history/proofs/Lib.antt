@@ -1,1 +1,2 @@
--- This program needs no lemma of its own.
+-- What the proofs of this program stand on.
+pub mod Returns

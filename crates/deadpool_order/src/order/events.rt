@@ -133,6 +133,7 @@ impl Order {
     pub fn begins(&mut self) -> Command
         requires leaving { IsLeaving self.old.state }
         ensures held { held_in self.new.state ≡ held_in self.old.state }
+        ensures waits { waits_in self.new.state ≡ None }
         ensures hand { whole_in self.new.state ≡ 0 }
         ensures fits { Fits self.new.state result }
         ensures follows { FollowsBegun self.old.state self.new.state }

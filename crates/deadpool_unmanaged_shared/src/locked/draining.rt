@@ -1,7 +1,8 @@
 //! What a drain does under the lock of its pool.
 ghost use Rattle.std.specs.Prelude.{◌≡◌, ◌⊎◌, false, None, IsSomeAnd};
-ghost use Rattle.deadpool_lock.specs.Ends.{Stands, has_come, listed, one_less, status_in, without};
-ghost use Rattle.deadpool_lock.specs.Places.{Follows};
+ghost use Rattle.std.specs.Option.{option_or};
+ghost use Rattle.deadpool_lock.specs.Ends.{IsGone, Stands, has_come, listed, status_in, without};
+ghost use Rattle.deadpool_lock.specs.Places.{Follows, waker_at};
 ghost use Rattle.deadpool_unmanaged.specs.Closing.{ShowsLeft, is_drained};
 ghost use Rattle.deadpool_unmanaged.specs.StateSteps.{closed_pool};
 ghost use Rattle.deadpool_unmanaged_journal.specs.declared.entry.Entry.TheVariants as entry;
@@ -11,7 +12,7 @@ ghost use Rattle.deadpool_unmanaged_shared.specs.Drains.{CallsOfDrain, EndsAt, H
 ghost use Rattle.futures.specs.Poll.{IfReady, OnPending};
 
 use super::Locked;
-use deadpool_lock::{Departure, DrainError, Ends};
+use deadpool_lock::{DrainError, Ends, Registered};
 use deadpool_unmanaged::gate::Ticket;
 use deadpool_unmanaged::{Status, laws};
 use deadpool_unmanaged_history::KeepsState;
@@ -19,17 +20,20 @@ use deadpool_unmanaged_journal::{OwnerReply, OwnerStep};
 use futures::task::{Poll, Waker};
 
 impl<T: Drop, S: KeepsState<T>> Locked<T, S> {
-    /// Closes the pool, at the first poll of a drain in any case, and ends the drain with the pool's status if its end
-    /// has come, or if the drain is late. Otherwise its task waits, under its ticket, until the end; if there is no
-    /// memory for that, the drain ends too. The waker that is kept no longer is given out.
+    /// Closes the pool at the first poll of a drain, and finds it closed by the caller at each later one. Ends the
+    /// drain with the pool's status if its end has come, or if the drain is late. Otherwise its task waits, under its
+    /// ticket, until the end; if there is no memory for that, the drain ends too. The waker that is kept no longer is
+    /// given out.
     pub fn drain(
         &mut self,
         caller: &mut S::Caller,
         is_first: bool,
         is_late: bool,
         ticket: &mut Option<Ticket>,
-        waker: &mut Option<Waker>,
+        registered: &mut Registered,
     ) -> (Poll<Result<Status, DrainError>>, Option<Waker>)
+        requires begun { is_first ≡ false → S.has_closed caller.old }
+        ensures begun { S.has_closed caller.new }
         ensures closed { (S.state_of self.new.state).pool.is_open ≡ false }
         ensures pool { ((S.state_of self.new.state).pool ≡ closed_pool (S.state_of self.old.state).pool)
             ⊎ ((S.state_of self.new.state).pool ≡ (S.state_of self.old.state).pool) }
@@ -37,17 +41,20 @@ impl<T: Drop, S: KeepsState<T>> Locked<T, S> {
             self.new.ends.departing is_late) }
         ensures waits { OnPending result.0
             ((has_come (is_drained (S.state_of self.new.state).pool) self.new.ends ≡ false)
-            × (is_late ≡ false) × IsSomeAnd ticket.new (λ at. Stands at waker.old self.new.ends)) }
+            × (is_late ≡ false) × IsSomeAnd ticket.new (λ at. Stands at
+            (option_or registered.old (waker_at at self.old.ends.wakers)) self.new.ends)) }
         ensures departing { self.new.ends.departing ≡ self.old.ends.departing }
         ensures left { IfReady result.0 (λ _. ticket.new ≡ None) }
-        ensures calls { CallsOfDrain S.calls is_first result.0 caller.old caller.new }
+        ensures line { IfReady result.0 (λ _. IsGone ticket.old self.old.ends.line self.new.ends.line) }
+        ensures calls { CallsOfDrain S.keeps S.calls is_first result.0 caller.old caller.new }
         ensures gets { self.new.gets ≡ self.old.gets }
         ensures adds { self.new.adds ≡ self.old.adds }
     {
+        S::closers_stay();
         let Locked { state, ends, .. } = self;
         close::<T, S>(state, caller, is_first);
         let is_drained = state.is_drained();
-        if !ends.has_come(is_drained) && !is_late && ends.wait(ticket, waker).is_ok() {
+        if !ends.has_come(is_drained) && !is_late && ends.wait(ticket, registered).is_ok() {
             return (Poll::Pending, None);
         }
         let spare = ends.leave(ticket);
@@ -68,31 +75,23 @@ impl<T: Drop, S: KeepsState<T>> Locked<T, S> {
     {
         self.ends.leave(ticket)
     }
-
-    /// An object that has left is dropped. It is no step.
-    pub fn has_departed(&mut self, departure: Departure)
-        ensures same { S.state_of self.new.state ≡ S.state_of self.old.state }
-        ensures gets { self.new.gets ≡ self.old.gets }
-        ensures adds { self.new.adds ≡ self.old.adds }
-        ensures ends { self.new.ends
-            ≡ record self.old.ends { departing = one_less self.old.ends.departing } }
-    {
-        self.ends.has_departed(departure);
-    }
 }
 
-// The pool is closed, once more if this is the first poll.
+// The pool is closed by the first poll, and stays closed.
 fn close<T: Drop, S: KeepsState<T>>(state: &mut S, caller: &mut S::Caller, is_first: bool)
+    requires begun { is_first ≡ false → S.has_closed caller.old }
     ensures closed { (S.state_of state.new).pool.is_open ≡ false }
     ensures pool { ((S.state_of state.new).pool ≡ closed_pool (S.state_of state.old).pool)
         ⊎ ((S.state_of state.new).pool ≡ (S.state_of state.old).pool) }
-    ensures call { HasClosed S.calls is_first caller.old caller.new }
+    ensures call { HasClosed S.keeps S.calls is_first caller.old caller.new }
 {
-    if is_first || !state.is_closed() {
-        let OwnerReply::Done = state.make_for_owner(caller, &OwnerStep::Close) else {
-            unreachable!();
-        };
+    if !is_first {
+        state.stay_closed(caller);
+        return;
     }
+    let OwnerReply::Done = state.make_for_owner(caller, &OwnerStep::Close) else {
+        unreachable!();
+    };
 }
 
 // How a closed pool stands, which shows whether an object is left in it.

@@ -3,7 +3,7 @@
 use Rattle.std.proofs.Common.{◌+◌, ◌≤◌}
 use Rattle.deadpool_order.specs.Commands.{Fits}
 use Rattle.deadpool_order.specs.Ends.{Ends, rank}
-use Rattle.deadpool_order.specs.Has.{IsInHand, held_in}
+use Rattle.deadpool_order.specs.Has.{IsInHand, IsOwnInHand, WaitsUnder, held_in}
 use Rattle.deadpool_order.proofs.ending.finish.Given as goal
 
 abbrev pub invariant-commands : goal.invariant-commands
@@ -11,6 +11,8 @@ invariant-commands g l = record {
   ends : Ends l.order.state;
   fits : Fits l.order.state l.command;
   hand : IsInHand l.order.state l.hand;
+  own : IsOwnInHand (g.D.Desk.takes_back l.desk) l.order.state l.hand;
+  waits : WaitsUnder (g.D.Desk.waits l.desk) l.order.state;
   holds : g.D.Desk.holds l.desk (held_in l.order.state);
   few : l.count + rank l.order.state ≤ rank l.initial.order.state;
 }

@@ -15,15 +15,16 @@ loop-worker-preserved g c =
           (into_iter_len c.next.new.self)
           was.left step.0 step.1;
       goes =
-          goes_on (λ w t. t.promise.worker.value ≡ w) (vec_items c.args.workers)
-          before rest done more
-          c.in-Some.worker c.in-Some-start.thread step.0 (search rules) c.in-Some-start.ensures.worker was.goes;
+          goes_on (λ w t. (t.promise.worker.value ≡ w) × (t.promise.pool.value ≡ c.args.pool.now))
+          (vec_items c.args.workers) before rest done more
+          c.in-Some.worker c.in-Some-start.thread step.0 (search rules)
+          (c.in-Some-start.ensures.worker, c.in-Some-start.ensures.pool) was.goes;
     }
 
 pub returns : goal.returns
 returns g c = record {
   workers =
-      goes_whole (λ w t. t.promise.worker.value ≡ w) (vec_items c.args.workers)
-      (into_iter_items c.loop-worker.worker-iterator) (vec_items c.loop-worker.threads)
+      goes_whole (λ w t. (t.promise.worker.value ≡ w) × (t.promise.pool.value ≡ c.args.pool.now))
+      (vec_items c.args.workers) (into_iter_items c.loop-worker.worker-iterator) (vec_items c.loop-worker.threads)
       (none_left _ _ c.loop-worker.invariant.left c.in-None.ensures.steps.0) c.loop-worker.invariant.goes;
 }

@@ -8,6 +8,6 @@ abbrev pub invariant-loop-worker : goal.invariant-loop-worker
 invariant-loop-worker g l = record {
   left : into_iter_len l.worker-iterator ≡ length (into_iter_items l.worker-iterator);
   goes :
-      Goes (λ w t. t.promise.worker.value ≡ w) (vec_items l.fn.workers)
-      (into_iter_items l.worker-iterator) (vec_items l.threads);
+      Goes (λ w t. (t.promise.worker.value ≡ w) × (t.promise.pool.value ≡ l.fn.pool))
+      (vec_items l.fn.workers) (into_iter_items l.worker-iterator) (vec_items l.threads);
 }

@@ -13,7 +13,7 @@ invariant_of-self-2 c =
       c.withdraw.ensures.waiters,
       c.in_ok-at.ensures.waiters,
       c.close.ensures.waiters,
-      c.take.ensures.places,
+      c.tell.ensures.places,
       length-set,
     )
     (have_removed _ _ _ (have_told _ _ _ c.self.invariant))

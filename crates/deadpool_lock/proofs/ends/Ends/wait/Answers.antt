@@ -1,6 +1,7 @@
 -- A task that waits on or has joined is listed, and has a place for its waker.
 use Rattle.std.proofs.Common.{◌≡◌, ◌∙◌, ap}
-use Rattle.deadpool_lock.proofs.Lines.{exchanged_at, listed_joined, waker_at-room}
+use Rattle.std.specs.Option.{option_or}
+use Rattle.deadpool_lock.proofs.Lines.{exchanged_at, listed_joined, taken_same, waker_at-room}
 use Rattle.deadpool_lock.proofs.ends.Ends.wait.Goals as goal
 use Rattle.deadpool_lock.proofs.ends.Ends.wait.Goals.{in-Some, in-None+in_ok-at-in-None}
 use Rattle.deadpool_lock.specs.Ends.{EndsState}
@@ -24,7 +25,9 @@ returns-clause-stands c =
                 exchanged_at c.match-still_waits.at c.self.inside.wakers c.exchange.new.self _ _ _
                 (rw (w.at-is, wakers) w.in-Some.ensures.place)
                 c.exchange.ensures.has c.exchange.ensures.exchanged
-                ).2,
+                ).2
+                ∙ ap (λ places. option_or c.args.registered.now (waker_at c.match-still_waits.at places))
+                (wakers ∙ c.still_waits.ensures.wakers),
           )
       | in-None+in_ok-at-in-None w ↦
           let line = waiters_in _ _ (c.self.view_is ∙ w.self-is) in
@@ -36,7 +39,12 @@ returns-clause-stands c =
                 exchanged_at c.match-still_waits.at c.self.inside.wakers c.exchange.new.self _ _ _
                 (rw (w.at-is, wakers) w.in_ok-at-in-None.ensures.place)
                 c.exchange.ensures.has c.exchange.ensures.exchanged
-                ).2,
+                ).2
+                ∙ ap (option_or c.args.registered.now) (
+                rw (wakers ∙ w.in_ok-at-in-None.ensures.places, w.at-is, ← c.still_waits.ensures.wakers) (
+                waker_at-room w.in_ok-at-in-None.at c.still_waits.new.self.wakers
+                )
+                ),
           )
     ]
 
@@ -50,7 +58,8 @@ returns-clause-exchanged c =
           (rw (w.at-is, wakers) w.in-Some.ensures.place)
           c.exchange.ensures.has c.exchange.ensures.exchanged
           ).1
-          ∙ ap (waker_at c.match-still_waits.at) (wakers ∙ c.still_waits.ensures.wakers)
+          ∙ taken_same c.match-still_waits.at c.args.registered.now _ _
+          (ap (waker_at c.match-still_waits.at) (wakers ∙ c.still_waits.ensures.wakers))
       | in-None+in_ok-at-in-None w ↦
           let wakers = wakers_in _ _ (c.self.view_is ∙ w.self-is) in
           (
@@ -58,7 +67,9 @@ returns-clause-exchanged c =
           (rw (w.at-is, wakers) w.in_ok-at-in-None.ensures.place)
           c.exchange.ensures.has c.exchange.ensures.exchanged
           ).1
-          ∙ rw (wakers ∙ w.in_ok-at-in-None.ensures.places, w.at-is, ← c.still_waits.ensures.wakers) (
+          ∙ taken_same c.match-still_waits.at c.args.registered.now _ _ (
+          rw (wakers ∙ w.in_ok-at-in-None.ensures.places, w.at-is, ← c.still_waits.ensures.wakers) (
           waker_at-room w.in_ok-at-in-None.at c.still_waits.new.self.wakers
+          )
           )
     ]

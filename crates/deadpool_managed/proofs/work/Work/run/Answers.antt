@@ -1,7 +1,7 @@
 -- Steps up to the first that waits or ends the get are a poll, and they come to an end.
 use Rattle.deadpool_managed.proofs.Words.{refl, may, stage_of}
 use Rattle.deadpool_managed.proofs.Phases.{more_is, not_more}
-use Rattle.deadpool_managed.proofs.Polls.{polls_on, polls_once, falls_allowed}
+use Rattle.deadpool_managed.proofs.Polls.{falls_allowed, falls_out, polls_on, polls_once}
 use Rattle.deadpool_managed.proofs.work.Work.run.Goals as goal
 
 pub until_allowed-preserved : goal.until_allowed-preserved
@@ -13,6 +13,8 @@ until_allowed-preserved g c =
       placed = c.begin.ensures.leaves.placed;
       kept = λ fact h. c.begin.ensures.kept fact (l.invariant.kept fact h);
       holds = rw c.in-More.is at c.begin.ensures.leaves.holds;
+      waits = falls_out (g.D.Desk.waits c.begin.new.desk) (stage_of l.self.phase l.self.slot)
+          (stage_of c.begin.new.self.phase c.begin.new.self.slot) (c.begin.ensures.falls c.in-More.is);
       goes = λ desk stage turn rest. l.invariant.goes desk stage turn
           (polls_on g.D.Desk (may g.M.Manager g.F.SyncHook g.A.AsyncHook env.manager) env.runtime env.hooks c.args.now
           c.args.timeouts.now
@@ -52,6 +54,8 @@ allowed-preserved g c =
       placed = c.go_on.ensures.leaves.placed;
       kept = λ fact h. c.go_on.ensures.kept fact (l.invariant.kept fact h);
       holds = rw c.in-More-go_on.is at c.go_on.ensures.leaves.holds;
+      waits = falls_out (g.D.Desk.waits c.go_on.new.desk) (stage_of l.self.phase l.self.slot)
+          (stage_of c.go_on.new.self.phase c.go_on.new.self.slot) (c.go_on.ensures.falls c.in-More-go_on.is);
       allowed =
           (falls_allowed (stage_of c.allowed.self.phase c.allowed.self.slot)
           (stage_of c.go_on.new.self.phase c.go_on.new.self.slot) c.allowed.invariant.allowed

@@ -1,6 +1,6 @@
 -- While a get makes its steps: what polls over from here polls over from the beginning, in fewer steps each time.
 use Rattle.deadpool_managed.proofs.Words.{◌≡◌, false, Keeps, may, PollsOver, held_at, until_allowance, lacks_allowance}
-use Rattle.deadpool_managed.proofs.Words.{weight, IsPlaced, stage_of, Stage, Turn}
+use Rattle.deadpool_managed.proofs.Words.{weight, IsPlaced, WaitsUnder, stage_of, Stage, Turn}
 use Rattle.deadpool_managed.proofs.work.Work.run.Given as goal
 
 -- what polls over from here polls over from the beginning
@@ -9,6 +9,7 @@ invariant-until_allowed g l = record {
   placed : IsPlaced g.M.Manager.is_ready l.self.phase l.self.slot;
   kept : Keeps l.fn.cx l.cx;
   holds : g.D.Desk.holds l.desk (held_at (stage_of l.self.phase l.self.slot));
+  waits : WaitsUnder (g.D.Desk.waits l.desk) (stage_of l.self.phase l.self.slot);
   goes : (desk : g.row.D.Denot)
       (stage : Stage g.row.M-Type.Denot g.row.M-Creating.Denot g.row.M-Recycling.Denot g.row.A-State.Denot)
       (turn : Turn g.row.M-Type.Denot g.row.M-Error.Denot)
@@ -28,6 +29,7 @@ invariant-allowed g l = record {
   placed : IsPlaced g.M.Manager.is_ready l.self.phase l.self.slot;
   kept : Keeps l.fn.cx l.cx;
   holds : g.D.Desk.holds l.desk (held_at (stage_of l.self.phase l.self.slot));
+  waits : WaitsUnder (g.D.Desk.waits l.desk) (stage_of l.self.phase l.self.slot);
   allowed : lacks_allowance (stage_of l.self.phase l.self.slot) ≡ false;
   goes : (desk : g.row.D.Denot)
       (stage : Stage g.row.M-Type.Denot g.row.M-Creating.Denot g.row.M-Recycling.Denot g.row.A-State.Denot)

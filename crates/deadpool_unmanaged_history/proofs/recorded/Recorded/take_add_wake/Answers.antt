@@ -1,8 +1,9 @@
--- That an add is named to be woken leaves the history where it was.
+-- That an add is named to be woken is noted, and the history still leads to the state.
 use Rattle.deadpool_unmanaged_history.proofs.Leads.{told_add_leads}
 use Rattle.deadpool_unmanaged_history.proofs.recorded.Recorded.take_add_wake.Goals as goal
 
-pub invariant_of-self : goal.invariant_of-self
-invariant_of-self g c =
+pub invariant_of-self-2 : goal.invariant_of-self-2
+invariant_of-self-2 g c =
     told_add_leads g.K.Naming.name_of c.self.inside.pool c.take_add_wake.new.self c.self.inside.author.log
-    c.take_add_wake.result c.take_add_wake.ensures c.self.invariant
+    c.note_told.new.author.log c.args.caller.now.number c.take_add_wake.result c.take_add_wake.ensures
+    (rw (c.in_ok-ticket.was) c.note_told.ensures) c.self.invariant

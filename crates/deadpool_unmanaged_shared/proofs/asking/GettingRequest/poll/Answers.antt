@@ -11,10 +11,13 @@ returns-in-Ready-Ok-clause-polls g c =
         (
           c.supply-caller.result,
           (
-            c.poll_get-polled.new.caller,
+            c.end.new.seer,
             (
               rw (c.take.ensures.value) at c.supply-caller.ensures.caller,
-              c.poll_get-polled.ensures.call,
+              (
+                c.poll_get-polled.new.caller,
+                (c.poll_get-polled.ensures.call, c.end.ensures.keeps, c.end.ensures.quiet),
+              ),
               rw (c.in-Ready-Ok.is, c.in-Ready-Ok.field-0-is) (refl, refl),
             ),
           ),
@@ -31,10 +34,13 @@ returns-in-Ready-Err-clause-polls g c =
         (
           c.supply-caller.result,
           (
-            c.poll_get-polled.new.caller,
+            c.end.new.seer,
             (
               rw (c.take.ensures.value) at c.supply-caller.ensures.caller,
-              c.poll_get-polled.ensures.call,
+              (
+                c.poll_get-polled.new.caller,
+                (c.poll_get-polled.ensures.call, c.end.ensures.keeps, c.end.ensures.quiet),
+              ),
               rw (c.in-Ready-Err.is, c.in-Ready-Err.field-0-is) (refl, refl),
             ),
           ),

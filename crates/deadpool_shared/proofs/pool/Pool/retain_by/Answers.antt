@@ -1,0 +1,28 @@
+-- By number nothing is said of the retainer.
+use Rattle.deadpool_shared.proofs.pool.Pool.retain_by.Goals as goal
+
+pub returns : goal.returns
+returns g c =
+    let tells = c.retain_by.ensures.call in
+    let call = tells.1.0 in
+    let may = call.1.0 in
+    record {
+      call = (
+        tells.0,
+        (
+          (
+            call.0,
+            (
+              (may.0, (may.1.0, (may.1.1.0, (may.1.1.1.0, may.1.1.1.1)))),
+              call.1.1,
+              call.1.2,
+              call.1.3,
+              call.1.4,
+              call.1.5,
+            ),
+          ),
+          tells.1.1,
+          tells.1.2,
+        ),
+      );
+    }

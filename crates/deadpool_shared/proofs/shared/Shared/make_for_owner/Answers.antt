@@ -1,0 +1,18 @@
+-- The step is made by a caller that has seen how the pool opened, and after it all are told.
+use Rattle.deadpool_shared.proofs.shared.Shared.make_for_owner.Goals as goal
+
+pub returns-clause-call : goal.returns-clause-call
+returns-clause-call g c = (
+  c.admit_after-caller.result,
+  (
+    c.end.new.seer,
+    (
+      c.admit_after-caller.ensures.caller,
+      c.admit_after-caller.ensures.earlier,
+      (
+        c.make_for_owner-reply.new.caller,
+        (c.make_for_owner-reply.ensures.call, c.end.ensures.keeps, c.end.ensures.quiet),
+      ),
+    ),
+  ),
+)

@@ -1,0 +1,22 @@
+-- A retain is made by a caller that has seen how the pool opened, and after it all are told.
+use Rattle.deadpool_shared.proofs.shared.Shared.retain.Goals as goal
+
+pub returns-clause-call : goal.returns-clause-call
+returns-clause-call g c = (
+  c.admit_after-caller.result,
+  (
+    c.end.new.seer,
+    (
+      c.admit_after-caller.ensures.caller,
+      c.admit_after-caller.ensures.earlier,
+      (
+        c.retain-retained.new.caller,
+        (
+          c.retain-retained.ensures.which,
+          c.end.ensures.keeps,
+          c.end.ensures.quiet,
+        ),
+      ),
+    ),
+  ),
+)
