@@ -138,6 +138,66 @@ fn configurations_are_read_and_written() {
     assert_eq!((config.max_size, config.timeout, config.runtime), (5, Some(HOUR), None));
 }
 
+/// A configuration's timeout, of this value, and the wait of timeouts of it.
+fn timeouts_of(value: &str) -> (Option<Duration>, Option<Duration>) {
+    let of_pool = serde_json::from_str::<unmanaged::PoolConfig>(&format!(r#"{{"max_size":1,"timeout":{value}}}"#));
+    let all = serde_json::from_str::<Timeouts>(&format!(r#"{{"wait":{value}}}"#));
+    (of_pool.expect("a configuration").timeout, all.expect("timeouts").wait)
+}
+
+#[test]
+fn a_duration_may_be_a_text() {
+    for (text, secs, millis) in [
+        ("0s", 0, 0),
+        ("30s", 30, 0),
+        ("500ms", 0, 500),
+        ("1500ms", 1, 500),
+        ("5m", 300, 0),
+        ("90m", 5400, 0),
+        ("1h", 3600, 0),
+        ("1m 30s", 90, 0),
+        ("2h 3m 4s 5ms", 7384, 5),
+        ("1h 1ms", 3600, 1),
+        ("007s", 7, 0),
+        ("18446744073709551615ms", 18_446_744_073_709_551, 615),
+    ] {
+        let expected = Some(Duration::new(secs, millis * 1_000_000));
+        assert_eq!(timeouts_of(&format!("\"{text}\"")), (expected, expected), "{text}");
+    }
+    let all: Timeouts = serde_json::from_str(r#"{"create":"2s","recycle":"3ms"}"#).expect("timeouts");
+    assert_eq!((all.create, all.recycle), (Some(Duration::from_secs(2)), Some(Duration::from_millis(3))));
+    let limits: Limits = serde_json::from_str(r#"{"lifetime":"30m","idle":"90s"}"#).expect("limits");
+    assert_eq!(limits, Limits::none().lifetime(HOUR / 2).idle(Duration::from_secs(90)));
+    // (it is written as ever)
+    let text = serde_json::to_string(&limits).expect("a text");
+    assert_eq!(text, r#"{"lifetime":{"secs":1800,"nanos":0},"idle":{"secs":90,"nanos":0},"uses":null}"#);
+}
+
+#[test]
+fn a_duration_is_read_as_ever() {
+    for (value, expected) in [
+        (r#"{"secs":1,"nanos":2}"#, Duration::new(1, 2)),
+        (r#"{"nanos":4294967295,"secs":1}"#, Duration::new(5, 294_967_295)),
+        ("[1,2]", Duration::new(1, 2)),
+    ] {
+        assert_eq!(timeouts_of(value), (Some(expected), Some(expected)), "{value}");
+    }
+    assert_eq!(timeouts_of("null"), (None, None));
+    let refused = |value: &str| {
+        let read = serde_json::from_str::<unmanaged::PoolConfig>(&format!(r#"{{"max_size":1,"timeout":{value}}}"#));
+        read.map(|_| ()).expect_err("it is no duration").to_string()
+    };
+    let expected = r#"expected a duration, as "30s" or an object of secs and nanos at line 1 column 25"#;
+    assert_eq!(refused("5"), format!("invalid type: integer `5`, {expected}"));
+    assert_eq!(refused(r#"{"secs":1}"#), "missing field `nanos` at line 1 column 34");
+    assert!(refused("[1]").starts_with("invalid length 1, expected struct Duration"));
+    assert!(refused(r#"{"secs":1,"nanos":0,"x":1}"#).starts_with("unknown field `x`, expected `secs` or `nanos`"));
+    assert!(refused(r#"{"secs":18446744073709551615,"nanos":1000000000}"#).starts_with("overflow"));
+    // (what has no keys has all values)
+    let short = serde_json::from_str::<Timeouts>("[null,null]").map(|_| ()).expect_err("one is missing").to_string();
+    assert!(short.starts_with("invalid length 2, expected struct Timeouts with 3 elements"), "{short}");
+}
+
 #[test]
 fn a_bound_is_written_if_it_is_set() {
     let settings = Settings { max_waiting: Some(0), ..PoolConfig::new(3).into() };

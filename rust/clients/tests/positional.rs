@@ -157,6 +157,10 @@ impl Serializer for &mut Writer {
     ) -> Result<Self::SerializeStructVariant, Fault> {
         none()
     }
+
+    fn is_human_readable(&self) -> bool {
+        false
+    }
 }
 
 impl SerializeStruct for &mut Writer {
@@ -212,6 +216,10 @@ impl<'de> Deserializer<'de> for &mut Reader<'_> {
     ) -> Result<V::Value, Fault> {
         let at = u32::try_from(self.next()?).map_err(|_| Fault("no kind".into()))?;
         visitor.visit_enum(IntoDeserializer::<Fault>::into_deserializer(at))
+    }
+
+    fn is_human_readable(&self) -> bool {
+        false
     }
 
     serde::forward_to_deserialize_any! {

@@ -15,7 +15,7 @@ fn managed_shown(text: &str) -> String {
 }
 
 fn unmanaged_shown(text: &str) -> String {
-    shown(serde_json::from_str(text).map(|Strict::<unmanaged::Settings>(settings)| settings))
+    shown(serde_json::from_str(text).map(Strict::<unmanaged::Settings>::into_inner))
 }
 
 /// What stands before the arrow of each line is read as what stands behind it.
@@ -69,6 +69,47 @@ fn faults_of_an_unmanaged_pool_name_the_key() {
     each_reads(lines, unmanaged_shown);
 }
 
+/// A text that is no duration is in the error, with why.
+#[test]
+fn a_text_that_is_no_duration_is_told() {
+    let lines = r#"{"timeout":""} => timeout: "" is no duration: a whole number is missing
+{"timeout":"-5s"} => timeout: "-5s" is no duration: a whole number is missing
+{"timeout":"+5s"} => timeout: "+5s" is no duration: a whole number is missing
+{"timeout":"1m  30s"} => timeout: "1m  30s" is no duration: a whole number is missing
+{"timeout":"1m "} => timeout: "1m " is no duration: a whole number is missing
+{"timeout":"m"} => timeout: "m" is no duration: a whole number is missing
+{"timeout":"30"} => timeout: "30" is no duration: its unit is none of h, m, s and ms
+{"timeout":"30 s"} => timeout: "30 s" is no duration: its unit is none of h, m, s and ms
+{"timeout":"1.5s"} => timeout: "1.5s" is no duration: its unit is none of h, m, s and ms
+{"timeout":"5M"} => timeout: "5M" is no duration: its unit is none of h, m, s and ms
+{"timeout":"7 d"} => timeout: "7 d" is no duration: its unit is none of h, m, s and ms
+{"timeout":"1m30s"} => timeout: "1m30s" is no duration: its unit is none of h, m, s and ms
+{"timeout":"30s 1m"} => timeout: "30s 1m" is no duration: its units do not fall
+{"timeout":"1s 1s"} => timeout: "1s 1s" is no duration: its units do not fall
+{"timeout":"18446744073709551616ms"} => timeout: "18446744073709551616ms" is no duration: it is too long
+{"timeout":"5124095576030432h"} => timeout: "5124095576030432h" is no duration: it is too long"#;
+    for line in lines.lines() {
+        let (text, expected) = line.split_once(" => ").expect("an arrow");
+        let unmanaged = format!(r#"{{"max_size":1,{}"#, &text[1..]);
+        assert_eq!(unmanaged_shown(&unmanaged), expected);
+        let managed = text.replace("timeout", "wait");
+        let managed = managed_shown(&format!(r#"{{"max_size":1,"timeouts":{managed}}}"#));
+        assert_eq!(managed, expected.replacen("timeout", "timeouts.wait", 1));
+        // (without strictness the format says where)
+        let told = expected.strip_prefix("timeout: ").expect("the key");
+        let told = format!("{told} at line 1 column {}", unmanaged.len() - 1);
+        assert_eq!(shown(serde_json::from_str::<unmanaged::PoolConfig>(&unmanaged)), told);
+    }
+}
+
+#[test]
+fn a_duration_may_be_a_text() {
+    let text = r#"{"max_size":3,"timeouts":{"wait":"30s","create":"1h 1m 30s","recycle":"500ms"}}"#;
+    let timeouts = "timeouts: Timeouts { wait: Some(30s), create: Some(3690s), recycle: Some(500ms) }";
+    assert!(managed_shown(text).contains(timeouts), "{}", managed_shown(text));
+    assert!(unmanaged_shown(r#"{"max_size":3,"timeout":"5m"}"#).contains("timeout: Some(300s)"));
+}
+
 /// What has no fault is read as it is without strictness.
 #[test]
 fn what_is_known_is_read_as_ever() {
@@ -78,6 +119,7 @@ fn what_is_known_is_read_as_ever() {
         r#"{"max_size":3,"max_waiting":0}"#,
         r#"{"max_size":3,"timeouts":{"wait":{"secs":1,"nanos":2},"create":null},"queue_mode":"Lifo","max_waiting":9}"#,
         r#"{"queue_mode":"Fifo","max_size":0,"timeouts":{"recycle":{"nanos":4294967295,"secs":0}}}"#,
+        r#"{"max_size":3,"timeouts":{"wait":"30s","create":"1m 30s","recycle":"500ms"}}"#,
     ] {
         assert_eq!(managed_shown(text), shown(serde_json::from_str::<managed::Settings>(text)));
         assert!(managed_shown(text).starts_with("Settings"), "{text}");
@@ -86,6 +128,7 @@ fn what_is_known_is_read_as_ever() {
         r#"{"max_size":3}"#,
         r#"{"max_size":3,"max_waiting":0}"#,
         r#"{"max_size":3,"timeout":{"secs":1,"nanos":2},"max_waiting":9}"#,
+        r#"{"max_size":3,"timeout":"1h"}"#,
     ] {
         assert_eq!(unmanaged_shown(text), shown(serde_json::from_str::<unmanaged::Settings>(text)));
         assert!(unmanaged_shown(text).starts_with("Settings"), "{text}");

@@ -1,4 +1,5 @@
 //! Closures that may block, on threads of their own.
+use crate::owed::{Owed, give_back};
 use crate::runtime::Runtime;
 use std::any::Any;
 use std::fmt;
@@ -58,12 +59,13 @@ impl Runtime {
         let set = end.clone();
         let started = self.start(move || {
             let result = catch_unwind(AssertUnwindSafe(f));
-            let waker = {
-                let mut end = locked(&set);
-                end.result = Some(result);
-                end.waker.take()
-            };
-            waker.into_iter().for_each(Waker::wake);
+            let mut end = locked(&set);
+            end.result = Some(result);
+            let owed = end.waker.take().map(Owed::new);
+            let free = give_back(end);
+            if let Some(owed) = owed {
+                owed.pay(&free);
+            }
         });
         started.map_err(|error| SpawnBlockingError::Panic(Box::new(format!("no thread starts: {error}"))))?;
         let result = poll_fn(move |cx| {

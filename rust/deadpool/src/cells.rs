@@ -76,9 +76,8 @@ impl<V> Cells<V> {
     /// Has a get answered in its cell, if that is empty and there is an answer. It is called under the pool's lock.
     #[inline]
     pub(crate) fn put(&self, number: u64, answer: impl FnOnce() -> Option<Answer<V>>) {
-        if let Some(cell) = self.of(number).filter(|cell| cell.is_of(0))
-            && let Some(answer) = answer()
-        {
+        let Some(cell) = self.of(number).filter(|cell| cell.is_of(0)) else { return };
+        if let Some(answer) = answer() {
             *cell.answer() = Some(answer);
             cell.of.store(number, Ordering::Relaxed);
         }

@@ -13,6 +13,8 @@
 //! | what sees or refuses an object | [`Manager::recycle`], [`Hook`], [`Limits`] | |
 //! | give up what is idle | [`retain`], [`resize`], [`keeper`] | [`try_remove`] |
 //! | how it stands, what has happened | [`status`], [`tally`], [`journal`] | the same |
+//! | the same of several pools, for Prometheus | [`Reports`] | the same |
+//! | who holds what is out | [`holders`], [`held_by`] | |
 //! | end it | [`close`], [`drain`], [`drain_for`] | the same |
 //!
 //! A call with a future can be dropped at any await: its page has a section on that, *Cancel safety*.
@@ -40,6 +42,8 @@
 //! [`status`]: managed::Pool::status
 //! [`tally`]: managed::Pool::tally
 //! [`journal`]: managed::Pool::journal
+//! [`holders`]: managed::Pool::holders
+//! [`held_by`]: managed::held_by
 //! [`close`]: managed::Pool::close
 //! [`drain`]: managed::Pool::drain
 //! [`drain_for`]: managed::Pool::drain_for
@@ -59,6 +63,8 @@ mod cells;
 )]
 mod cores;
 mod desk;
+#[cfg(feature = "serde")]
+mod durations;
 mod ending;
 mod errors;
 mod journal;
@@ -66,13 +72,16 @@ mod lends;
 #[cfg(feature = "managed")]
 pub mod managed;
 mod moment;
+mod owed;
 mod parcel;
 mod rattle;
+mod reports;
 mod runtime;
 mod shared;
 #[cfg(feature = "serde")]
 mod strict;
 mod timed;
+mod trace;
 #[cfg(feature = "unmanaged")]
 pub mod unmanaged;
 mod wait;
@@ -82,6 +91,7 @@ mod wakers;
 pub use blocking::SpawnBlockingError;
 pub use cores::parts::Status;
 pub use errors::Named;
+pub use reports::Reports;
 pub use runtime::{Runtime, Sleep, Timers};
 #[cfg(feature = "serde")]
 pub use strict::Strict;

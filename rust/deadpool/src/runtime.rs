@@ -1,5 +1,6 @@
 //! Timers, which end a wait, a creation or a recycling that has lasted too long.
 
+use crate::owed::{Owed, give_back, take_again};
 use crate::timed::{self, in_time};
 use std::collections::BTreeMap;
 use std::fmt;
@@ -147,11 +148,11 @@ fn serve() {
         let next = waiting.first_key_value().map(|((at, _), _)| at.saturating_duration_since(Instant::now()));
         let left = next.unwrap_or(Duration::MAX);
         if left.is_zero() {
-            let reached = waiting.pop_first();
-            drop(waiting);
+            let reached = waiting.pop_first().map(|(_, waker)| Owed::new(waker));
+            let free = give_back(waiting);
             // (a waker that panics ends its own wake, and no other alarm)
-            let _ = catch_unwind(AssertUnwindSafe(|| reached.into_iter().for_each(|(_, waker)| waker.wake())));
-            waiting = wakers();
+            let _ = catch_unwind(AssertUnwindSafe(|| reached.into_iter().for_each(|owed| owed.pay(&free))));
+            waiting = take_again(free, wakers);
         } else {
             waiting = HAVE_CHANGED.wait_timeout(waiting, left).unwrap_or_else(PoisonError::into_inner).0;
         }

@@ -2,7 +2,9 @@
 use crate::Status;
 use crate::cells::Cells;
 use crate::desk::Desk;
+use crate::owed::{Free, Owed, give_back, take_again};
 use crate::parcel::Boxed;
+use crate::trace::{Teller, Why};
 use crate::wakers::Wakers;
 use std::fmt;
 use std::hint::spin_loop;
@@ -12,7 +14,6 @@ use std::ops::Deref;
 use std::panic::{AssertUnwindSafe, catch_unwind, resume_unwind};
 use std::sync::atomic::{AtomicBool, Ordering};
 use std::sync::{Arc, Mutex, MutexGuard, OnceLock, TryLockError, Weak};
-use std::task::Waker;
 use std::thread;
 
 /// How many are taken out under the lock at a time to be woken: seldom more than one is due, and of a crowd many are.
@@ -20,7 +21,7 @@ const FEW: usize = 4;
 const MANY: usize = 32;
 
 /// Takes the waker of the next one that is due.
-type Due<D> = fn(&mut State<D>, &Cells<<D as Desk>::Value>) -> Option<Waker>;
+type Due<D> = fn(&mut State<D>, &Cells<<D as Desk>::Value>) -> Option<Owed>;
 
 /// What stands under a pool's lock.
 ///
@@ -75,11 +76,11 @@ impl<D: Desk> State<D> {
     }
 
     /// Calls all wakers and drops the idle values of a state that a panic has left within a step. No step is made on it.
-    fn abandon(self) {
+    fn abandon(self, free: &Free) {
         let State { desk, gets, adds, keepers, drains, .. } = self;
         // (none of these panics goes on, as another one is under way)
         for mut wakers in [gets, adds, keepers, drains] {
-            from_fn(|| wakers.pop()).for_each(|waker| _ = catch_unwind(AssertUnwindSafe(|| waker.wake())));
+            from_fn(|| wakers.pop()).for_each(|owed| _ = catch_unwind(AssertUnwindSafe(|| owed.pay(free))));
         }
         let _ = catch_unwind(AssertUnwindSafe(|| {
             let idle = (0..).map_while(|at| desk.idle(at));
@@ -95,19 +96,19 @@ impl<D: Desk> State<D> {
     }
 
     /// The next one that is due to be woken. A get is handed its object over, if one is idle.
-    fn due(&mut self, cells: &Cells<D::Value>) -> Option<Waker> {
+    fn due(&mut self, cells: &Cells<D::Value>) -> Option<Owed> {
         let State { desk, gets, adds, .. } = self;
         while let Some(ticket) = desk.next_get() {
-            if let Some((waker, number)) = gets.take_numbered(ticket.number()) {
+            if let Some((owed, number)) = gets.owed_numbered(ticket.number()) {
                 cells.put(number, || desk.hand_over(ticket));
-                return Some(waker);
+                return Some(owed);
             }
         }
-        from_fn(|| desk.next_add()).find_map(|ticket| adds.take(ticket.number()))
+        from_fn(|| desk.next_add()).find_map(|ticket| adds.owed(ticket.number()))
     }
 
     /// The next one that is due in a pool that has ended.
-    fn due_at_end(&mut self, cells: &Cells<D::Value>) -> Option<Waker> {
+    fn due_at_end(&mut self, cells: &Cells<D::Value>) -> Option<Owed> {
         let turn = self.due(cells).or_else(|| self.keepers.pop());
         turn.or_else(|| if self.is_drained() { self.drains.pop() } else { None })
     }
@@ -126,6 +127,7 @@ pub(crate) struct Shared<C, D: Desk> {
     pub(crate) cells: Cells<D::Value>,
     /// Tells the manager of an object that leaves the pool.
     detach: fn(&C, &mut D::Value),
+    pub(crate) teller: Teller<C, D::Value>,
 }
 
 impl<C, D: Desk> Shared<C, D> {
@@ -197,10 +199,10 @@ impl<C, D: Desk> Shared<C, D> {
         }
         let broken = replace(&mut *state, State::new(D::closed()));
         self.has_ended.store(true, Ordering::Relaxed);
-        drop(state);
+        let free = give_back(state);
         // (a panic of a drop ends no other: another one is under way)
         self.cells.end(|slot| _ = catch_unwind(AssertUnwindSafe(|| drop(slot.value.take()))));
-        broken.abandon();
+        broken.abandon(&free);
     }
 
     #[cold]
@@ -230,15 +232,17 @@ impl<C, D: Desk> Shared<C, D> {
     /// of the panics goes on.
     #[inline(never)]
     fn wake<'a>(&'a self, state: MutexGuard<'a, State<D>>, due: Due<D>) {
-        let (are_all, called) = self.wake_some::<FEW>(state, due);
-        go_on(if are_all { called } else { called.and(self.wake_crowd(due)) });
+        let (free, are_all, called) = self.wake_some::<FEW>(state, due);
+        go_on(if are_all { called } else { called.and(self.wake_crowd(free, due)) });
     }
 
     #[cold]
-    fn wake_crowd(&self, due: Due<D>) -> thread::Result<()> {
+    fn wake_crowd(&self, mut free: Free, due: Due<D>) -> thread::Result<()> {
         let mut all_called = Ok(());
         loop {
-            let (are_all, called) = self.wake_some::<MANY>(self.lock(), due);
+            let state = take_again(free, || self.lock());
+            let (are_all, called);
+            (free, are_all, called) = self.wake_some::<MANY>(state, due);
             all_called = all_called.and(called);
             if are_all {
                 return all_called;
@@ -251,7 +255,7 @@ impl<C, D: Desk> Shared<C, D> {
         &'a self,
         state: MutexGuard<'a, State<D>>,
         due: Due<D>,
-    ) -> (bool, thread::Result<()>) {
+    ) -> (Free, bool, thread::Result<()>) {
         let closes = Closes(self);
         // (a panic gives the lock back before the pool is closed)
         let mut state = state;
@@ -261,10 +265,12 @@ impl<C, D: Desk> Shared<C, D> {
             *place = due(&mut state, &self.cells);
             place.is_none()
         });
-        drop(state);
+        let free = give_back(state);
         forget(closes);
-        let calls = some.into_iter().map_while(|it| it).map(|waker| catch_unwind(AssertUnwindSafe(|| waker.wake())));
-        (are_all, calls.fold(Ok(()), Result::and))
+        let owed = some.into_iter().map_while(|it| it);
+        let calls = owed.map(|owed| catch_unwind(AssertUnwindSafe(|| owed.pay(&free))));
+        let called = calls.fold(Ok(()), Result::and);
+        (free, are_all, called)
     }
 
     /// Tells those that wait for the end of a pool that has ended, if they are due. It is called when something has left it, and
@@ -314,6 +320,7 @@ impl<C, D: Desk> Shared<C, D> {
             }
             step(&mut state.desk);
         });
+        gone.iter().chain(&surplus).for_each(|value| self.tell(value, Why::Closed));
         for value in &mut surplus {
             (self.detach)(&self.setup, value);
         }
@@ -331,6 +338,9 @@ impl<C, D: Desk> Shared<C, D> {
             }
             (step(&mut state.desk), gone)
         });
+        for value in &gone {
+            self.tell(value, Why::Surplus);
+        }
         drop(gone);
         reply
     }
@@ -404,7 +414,13 @@ struct Counted<C, D: Desk> {
 
 impl<C, D: Desk> Handle<C, D> {
     /// The first handle of a new pool. Where each handle is counted, each step of a get is one that the get makes.
-    pub(crate) fn new(setup: C, desk: D, counts_each: bool, detach: fn(&C, &mut D::Value)) -> Self {
+    pub(crate) fn new(
+        setup: C,
+        desk: D,
+        counts_each: bool,
+        detach: fn(&C, &mut D::Value),
+        teller: Teller<C, D::Value>,
+    ) -> Self {
         let shared = Arc::new(Shared {
             setup,
             state: Mutex::new(State::new(desk)),
@@ -412,6 +428,7 @@ impl<C, D: Desk> Handle<C, D> {
             has_ended: AtomicBool::new(false),
             cells: Cells::new(!counts_each),
             detach,
+            teller,
         });
         let counted = Arc::new(Counted { shared, is_each: counts_each });
         if !counts_each {

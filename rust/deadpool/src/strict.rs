@@ -8,6 +8,7 @@ use std::time::Duration;
 ///
 /// It reads what these themselves read, but refuses a key that they do not have, one that stands twice, and a list in
 /// place of an object. The error names the key and why, as in `timeouts.wait: no duration`. The first fault is told: keys come first.
+/// A duration is an object of `secs` and `nanos`, or a text as `30s`, `500ms` or `1m 30s`, of whole numbers with units `h`, `m`, `s`, `ms`.
 ///
 /// ```
 /// # #[cfg(feature = "managed")]
@@ -191,12 +192,19 @@ impl Value {
     fn duration(&self, key: &str, within: &str) -> Result<Option<Duration>, Fault> {
         match self.get(key) {
             None | Some(Value::Null) => Ok(None),
-            Some(value) => value.as_duration().map(Some).ok_or_else(|| fault(format!("{within}{key}"), "no duration")),
+            Some(value) => value.as_duration().map(Some).map_err(|why| fault(format!("{within}{key}"), why)),
+        }
+    }
+
+    fn as_duration(&self) -> Result<Duration, Cow<'static, str>> {
+        match self {
+            Value::Text(text) => Ok(crate::durations::duration_of(text)?),
+            value => value.seconds().ok_or("no duration".into()),
         }
     }
 
     /// Whole seconds and nanoseconds, and nothing else. Those past a second carry.
-    fn as_duration(&self) -> Option<Duration> {
+    fn seconds(&self) -> Option<Duration> {
         let Value::Object(members) = self else { return None };
         let [Some(Value::Number(Some(secs))), Some(Value::Number(Some(nanos)))] =
             ["secs", "nanos"].map(|it| self.get(it))

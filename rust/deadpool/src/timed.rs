@@ -33,7 +33,12 @@ impl Alarm {
     }
 
     /// Whether it is reached. A sleep is not polled any more once it is over.
+    #[inline]
     pub(crate) fn is_over(&mut self, cx: &mut Context<'_>) -> bool {
+        !matches!(self, Alarm::Unset) && self.is_reached(cx)
+    }
+
+    fn is_reached(&mut self, cx: &mut Context<'_>) -> bool {
         if let Alarm::Set(duration, runtime) = *self {
             *self = Alarm::Asleep(runtime.sleep(duration));
         }

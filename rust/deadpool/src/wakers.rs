@@ -1,5 +1,6 @@
 //! The wakers of those that wait.
 use crate::errors::OutOfMemory;
+use crate::owed::Owed;
 use std::mem::{replace, take};
 use std::task::Waker;
 
@@ -9,10 +10,17 @@ mod tests;
 /// How many wakers lie together.
 const GROUP: usize = 64;
 
+/// A place for a waker, and the number of the get that had one there last.
+#[derive(Default)]
+struct Place {
+    waker: Option<Waker>,
+    number: u64,
+}
+
 /// The wakers in one group of places. One that has never had a waker has no memory.
 #[derive(Default)]
 struct Group {
-    wakers: Vec<Option<(Waker, u64)>>,
+    places: Option<Box<[Place; GROUP]>>,
     /// How many there are.
     count: usize,
 }
@@ -36,17 +44,19 @@ impl Wakers {
 
     /// The same of a get with this number.
     pub(crate) fn keep_of(&mut self, number: u64, at: usize, waker: &Waker) -> Result<Option<Waker>, OutOfMemory> {
-        let (of, at) = (at / GROUP, at % GROUP);
-        if self.groups.get(of).is_none_or(|group| group.wakers.is_empty()) {
+        let of = at / GROUP;
+        if self.groups.get(of).is_none_or(|group| group.places.is_none()) {
             self.reserve(of)?;
         }
-        let group = &mut self.groups[of];
-        match &mut group.wakers[at] {
-            Some((kept, _)) if kept.will_wake(waker) => Ok(None),
-            place => {
-                let replaced = place.replace((waker.clone(), number));
-                group.count += usize::from(replaced.is_none());
-                Ok(replaced.map(|(waker, _)| waker))
+        let Group { places, count } = &mut self.groups[of];
+        let place = &mut places.as_mut().ok_or(OutOfMemory)?[at % GROUP];
+        match &place.waker {
+            Some(kept) if kept.will_wake(waker) => Ok(None),
+            _ => {
+                let replaced = place.waker.replace(waker.clone());
+                place.number = number;
+                *count += usize::from(replaced.is_none());
+                Ok(replaced)
             }
         }
     }
@@ -57,35 +67,53 @@ impl Wakers {
         let more = (of + 1).saturating_sub(self.groups.len());
         self.groups.try_reserve(more).map_err(|_| OutOfMemory)?;
         self.groups.extend((0..more).map(|_| Group::default()));
-        let wakers = &mut self.groups[of].wakers;
-        wakers.try_reserve_exact(GROUP).map_err(|_| OutOfMemory)?;
-        wakers.resize(GROUP, None);
+        let mut places = Vec::new();
+        places.try_reserve_exact(GROUP).map_err(|_| OutOfMemory)?;
+        places.extend((0..GROUP).map(|_| Place::default()));
+        self.groups[of].places = places.try_into().ok();
         Ok(())
     }
 
+    /// Takes the waker of one that waits no more, which is dropped without the lock.
     pub(crate) fn take(&mut self, at: usize) -> Option<Waker> {
-        Some(self.take_numbered(at)?.0)
+        Some(self.take_if(at, |_| true)?.0)
     }
 
     /// The same, if it is that of the get with this number.
+    #[inline]
     pub(crate) fn take_of(&mut self, number: u64, at: usize) -> Option<Waker> {
-        let kept = self.groups.get(at / GROUP)?.wakers.get(at % GROUP)?.as_ref()?;
-        if kept.1 == number { self.take(at) } else { None }
+        Some(self.take_if(at, |of| of == number)?.0)
+    }
+
+    /// Takes the waker of one that is due.
+    pub(crate) fn owed(&mut self, at: usize) -> Option<Owed> {
+        Some(self.owed_numbered(at)?.0)
     }
 
     /// The same, with the number of its get.
-    pub(crate) fn take_numbered(&mut self, at: usize) -> Option<(Waker, u64)> {
+    pub(crate) fn owed_numbered(&mut self, at: usize) -> Option<(Owed, u64)> {
+        let (waker, number) = self.take_if(at, |_| true)?;
+        Some((Owed::new(waker), number))
+    }
+
+    #[inline]
+    fn take_if(&mut self, at: usize, is_taken: impl FnOnce(u64) -> bool) -> Option<(Waker, u64)> {
         let of = at / GROUP;
-        let group = self.groups.get_mut(of)?;
-        let taken = group.wakers.get_mut(at % GROUP)?.take()?;
-        group.count -= 1;
-        if group.count == 0 {
+        let Group { places, count } = self.groups.get_mut(of)?;
+        let place = &mut places.as_mut()?[at % GROUP];
+        if !is_taken(place.number) {
+            return None;
+        }
+        let taken = (place.waker.take()?, place.number);
+        *count -= 1;
+        if *count == 0 {
             self.has_emptied(of);
         }
         Some(taken)
     }
 
     /// One group has become empty. The one that did so before gives its memory back, if it still is.
+    #[inline]
     fn has_emptied(&mut self, of: usize) {
         let before = replace(&mut self.emptied, of);
         match self.groups.get_mut(before) {
@@ -97,16 +125,17 @@ impl Wakers {
     /// A place that nobody has.
     pub(crate) fn free_place(&self) -> usize {
         let of = self.groups.iter().position(|group| group.count < GROUP).unwrap_or(self.groups.len());
-        let at = self.groups.get(of).and_then(|group| group.wakers.iter().position(Option::is_none));
+        let places = self.groups.get(of).and_then(|group| group.places.as_ref());
+        let at = places.and_then(|places| places.iter().position(|place| place.waker.is_none()));
         of * GROUP + at.unwrap_or(0)
     }
 
-    /// Takes one of them.
-    pub(crate) fn pop(&mut self) -> Option<Waker> {
+    /// Takes one of them, all of which are due.
+    pub(crate) fn pop(&mut self) -> Option<Owed> {
         let of = self.groups.iter().rposition(|group| group.count > 0);
         self.groups.truncate(of.map_or(0, |of| of + 1));
         let of = self.groups.len().checked_sub(1)?;
-        let at = self.groups[of].wakers.iter().rposition(Option::is_some)?;
-        self.take(of * GROUP + at)
+        let at = self.groups[of].places.as_ref()?.iter().rposition(|place| place.waker.is_some())?;
+        self.owed(of * GROUP + at)
     }
 }

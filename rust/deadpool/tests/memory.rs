@@ -122,33 +122,51 @@ fn an_add_that_finds_no_memory_gives_its_value_back() {
 
 #[test]
 fn an_add_that_finds_no_memory_to_wait_is_not_in_the_queue() {
+    let mut told = 0;
     let refused = at_each_allocation(
-        || unmanaged::Pool::from([1]),
-        |pool, may_fail| match poll_once(pin!(pool.add(2))) {
-            Poll::Pending => (),
-            Poll::Ready(Err((2, NO_MEMORY))) if may_fail => (),
-            other => panic!("there is no room: {other:?}"),
+        || (unmanaged::Pool::from([1]), Count::waker()),
+        |(pool, (waker, woken)), may_fail| {
+            let (mut add, before) = (pin!(pool.add(2)), woken.get());
+            match add.as_mut().poll(&mut Context::from_waker(waker)) {
+                Poll::Pending => {
+                    assert_eq!(pool.try_remove().ok(), Some(1));
+                    assert_eq!(woken.get(), before + 1);
+                    assert!(add.as_mut().poll(&mut Context::from_waker(waker)).is_ready());
+                }
+                Poll::Ready(Err((2, NO_MEMORY))) if may_fail => {
+                    assert_eq!(counts(pool.status()), [1, 1, 0]);
+                    told += 1;
+                }
+                other => panic!("there is no room: {other:?}"),
+            }
         },
     );
-    assert!(refused > 0);
+    assert!(told > 0 && told == refused, "{told} of {refused} refusals are told");
 }
 
 #[test]
 fn a_get_of_an_unmanaged_pool_that_finds_no_memory_to_wait_is_not_in_the_queue() {
+    let mut told = 0;
     let refused = at_each_allocation(
-        || unmanaged::Pool::from([1]),
-        |pool, may_fail| {
+        || (unmanaged::Pool::from([1]), Count::waker()),
+        |(pool, (waker, woken)), may_fail| {
             let held = pool.try_get().expect("no get in the queue takes it first");
-            match poll_once(pin!(pool.get())) {
-                Poll::Pending => (),
-                Poll::Ready(Err(NO_MEMORY)) if may_fail => (),
+            let (mut get, before) = (pin!(pool.get()), woken.get());
+            match get.as_mut().poll(&mut Context::from_waker(waker)) {
+                Poll::Pending => {
+                    assert_eq!(pool.status().waiting, 1);
+                    drop(held);
+                    assert_eq!(woken.get(), before + 1);
+                }
+                Poll::Ready(Err(NO_MEMORY)) if may_fail => {
+                    assert_eq!(pool.status().waiting, 0);
+                    told += 1;
+                }
                 other => panic!("no object is free: {other:?}"),
             }
-            assert_eq!(pool.status().waiting, 0);
-            drop(held);
         },
     );
-    assert!(refused > 0);
+    assert!(told > 0 && told == refused, "{told} of {refused} refusals are told");
 }
 
 #[test]

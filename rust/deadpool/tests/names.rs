@@ -4,11 +4,11 @@ mod common;
 
 use common::{Numbers, block_on};
 use deadpool::managed::{
-    BuildError, CreatePoolError, DrainError, Hook, HookError, HookFuture, HookResult, Journal, Limits, Metrics, Object,
-    ObjectId, Pool, PoolBuilder, PoolConfig, PoolError, QueueMode, RecycleError, RecycleResult, Report, RetainResult,
-    Settings, Tally, Timeouts, WeakPool,
+    BuildError, CreatePoolError, DrainError, Holder, Hook, HookError, HookFuture, HookResult, Journal, Limits, Metrics,
+    Object, ObjectId, Pool, PoolBuilder, PoolConfig, PoolError, QueueMode, RecycleError, RecycleResult, Report,
+    RetainResult, Settings, Tally, Timeouts, WeakPool, held_by,
 };
-use deadpool::{Runtime, Status, unmanaged};
+use deadpool::{Reports, Runtime, Status, unmanaged};
 use std::convert::Infallible;
 use std::error::Error;
 use std::fmt::{Debug, Display};
@@ -198,8 +198,20 @@ fn what_is_this_crates_own_has_its_names() {
     let _: fn(&unmanaged::Settings) -> Result<Items, unmanaged::OutOfMemory> = Items::try_from_settings;
     let _: fn(&Pool<Numbers>) -> Option<&str> = Pool::name;
     let _: fn(&Object<Numbers>) -> Duration = Object::waited;
+    let _: fn(PoolBuilder<Numbers>, bool) -> PoolBuilder<Numbers> = PoolBuilder::tracks_holders;
+    let _: fn(PoolBuilder<Numbers>, Option<Duration>) -> PoolBuilder<Numbers> = PoolBuilder::hold_threshold;
+    let _: fn(&Pool<Numbers>) -> Vec<backend::Holder> = Pool::holders;
+    let _: fn(&Holder) -> Duration = Holder::held;
+    is_shared::<Holder>();
+    gives::<Result<Object<Numbers>, PoolError<Infallible>>>(held_by("own", pool.get()));
+    gives::<u8>(held_by(String::from("own"), std::future::ready(1)));
+    gives::<u8>(backend::held_by("own", std::future::ready(1)));
     let _: for<'a> fn(&'a Pool<Numbers>) -> Report<'a> = Pool::tally;
     let _: fn(&Items) -> unmanaged::Report<'static> = Items::tally;
+    is_shared::<Reports>();
+    let _: fn(Report<'static>) -> backend::Reports = Reports::from;
+    let _: fn(unmanaged::Report<'static>) -> Reports = Reports::from;
+    let _: fn(&mut Reports, Report<'static>) = Reports::push;
     is_plain::<Limits>();
     is_plain::<Tally>();
     is_plain::<unmanaged::Tally>();

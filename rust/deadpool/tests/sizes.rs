@@ -37,8 +37,10 @@ fn futures_are_small() {
     let timeout_get = size_of_val(&pool.timeout_get(&Timeouts::new()));
     let items = unmanaged::Pool::<[u64; 4]>::new(1);
     let of_unmanaged = [size_of_val(&items.get()), size_of_val(&items.add([0; 4]))];
-    assert!(get <= 336, "a get has {get} bytes");
-    assert!(timeout_get <= 320, "one with timeouts has {timeout_get} bytes");
+    // (a span is held by the get and by what polls it)
+    let spans = if cfg!(feature = "tracing") { 80 } else { 0 };
+    assert!(get <= 336 + spans, "a get has {get} bytes");
+    assert!(timeout_get <= 320 + spans, "one with timeouts has {timeout_get} bytes");
     assert!(of_unmanaged.iter().all(|it| *it <= 160), "those of an unmanaged pool have {of_unmanaged:?} bytes");
 }
 

@@ -3,7 +3,7 @@
 mod common;
 
 use common::{Numbers, Task, block_on};
-use deadpool::managed::{Limits, Metrics, Object, Pool, PoolBuilder};
+use deadpool::managed::{Limits, Metrics, Object, Pool, PoolBuilder, held_by};
 use std::thread;
 use std::time::Duration;
 
@@ -28,6 +28,18 @@ fn a_wait_is_not_measured() {
     thread::sleep(Duration::from_millis(2));
     drop(held);
     assert_eq!(Object::waited(&waits.ready().expect("the object")), Duration::ZERO);
+}
+
+#[test]
+fn a_hold_is_not_measured() {
+    let pool: Pool<Numbers> = one().tracks_holders(true).build().expect("a pool");
+    let object = block_on(held_by("somebody", pool.get())).expect("an object");
+    thread::sleep(Duration::from_millis(2));
+    let holder = pool.holders().pop().expect("a holder");
+    assert_eq!((holder.object, holder.name.as_deref()), (Object::id(&object), Some("somebody")));
+    assert_eq!((holder.held(), holder.waited), (Duration::ZERO, Duration::ZERO));
+    drop(object);
+    assert!(pool.holders().is_empty());
 }
 
 #[test]

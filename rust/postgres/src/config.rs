@@ -12,7 +12,7 @@ const SOCKETS: [&str; 3] = ["/run/postgresql", "/var/run/postgresql", "/tmp"];
 
 /// Where the database is, how its connections are recycled, and how many there are. What is not set is as tokio-postgres has it.
 ///
-/// With the feature `serde` it can be read and written:
+/// With the feature `serde` it can be read and written. A duration that is read may be a text, as `30s`, `500ms` or `1m 30s`.
 ///
 /// ```
 /// # #[cfg(feature = "serde")]
@@ -58,10 +58,12 @@ pub struct Config {
     /// A port of each machine, if they differ.
     pub ports: Option<Vec<u16>>,
     /// How long a connection to one address may take.
+    #[cfg_attr(feature = "serde", serde(default, deserialize_with = "crate::durations::read"))]
     pub connect_timeout: Option<Duration>,
     /// Whether idle connections are kept up.
     pub keepalives: Option<bool>,
     /// After which time.
+    #[cfg_attr(feature = "serde", serde(default, deserialize_with = "crate::durations::read"))]
     pub keepalives_idle: Option<Duration>,
     /// Which server is connected to, where several are named.
     pub target_session_attrs: Option<TargetSessionAttrs>,

@@ -27,6 +27,8 @@ mod watched;
 
 mod client;
 mod config;
+#[cfg(feature = "serde")]
+mod durations;
 mod generic;
 mod manager;
 mod options;

@@ -122,6 +122,28 @@ fn a_key_that_is_not_known_is_refused_where_it_is_read_strictly() {
         let text = whole.replace(&format!("\"{right}\""), &format!("\"{wrong}\""));
         let fault = read(&text).expect_err("a misspelt key").to_string();
         assert!(fault.starts_with(&format!("{path}: ")), "{fault}");
-        assert!(serde_json::from_str::<Config>(&text).is_ok(), "else it passes in silence, as with the crate of that name");
+        assert!(
+            serde_json::from_str::<Config>(&text).is_ok(),
+            "else it passes in silence, as with the crate of that name"
+        );
     }
+}
+
+#[cfg(feature = "serde")]
+#[test]
+fn a_duration_may_be_a_text() {
+    let read = |text: &str| Config::read_strictly(&mut serde_json::Deserializer::from_str(text));
+    let config = read(r#"{"connect_timeout":"30s","keepalives_idle":"1m 30s"}"#).expect("a configuration");
+    let told = (config.connect_timeout, config.keepalives_idle);
+    assert_eq!(told, (Some(Duration::from_secs(30)), Some(Duration::from_secs(90))));
+    let written = serde_json::to_string(&config).expect("a text");
+    assert!(written.contains(r#""connect_timeout":{"secs":30,"nanos":0}"#), "{written}");
+    let config = read(r#"{"keepalives_idle":{"secs":3,"nanos":4},"connect_timeout":null}"#).expect("as ever");
+    assert_eq!((config.connect_timeout, config.keepalives_idle), (None, Some(Duration::new(3, 4))));
+    let refused = |value: &str| {
+        let read = read(&format!(r#"{{"connect_timeout":{value}}}"#));
+        read.expect_err("it is no duration").to_string()
+    };
+    assert_eq!(refused("\"5d\""), r#""5d" is no duration: its unit is none of h, m, s and ms at line 1 column 23"#);
+    assert!(refused("5").starts_with("invalid type: integer `5`, expected a duration"));
 }

@@ -105,7 +105,8 @@ fn the_scripts_of_its_tests_have_their_replies() {
         }
     }
     println!("{outcome:?}");
-    assert!(outcome.whole >= 90, "{outcome:?}");
+    // (the README has these numbers)
+    assert_eq!((outcome.whole, outcome.left), (137, 11), "{outcome:?}");
 }
 
 #[test]
@@ -119,5 +120,5 @@ fn random_scripts_have_their_replies() {
         }
     }
     println!("{outcome:?}");
-    assert!(outcome.whole >= 2900, "{outcome:?}");
+    assert_eq!((outcome.whole, outcome.left), (2_924, 76), "{outcome:?}");
 }

@@ -11,3 +11,4 @@ pub(crate) mod order;
 pub(crate) mod parts;
 pub(crate) mod unmanaged;
 pub(crate) mod unmanaged_journal;
+pub(crate) mod unmanaged_order;

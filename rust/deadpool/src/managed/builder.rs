@@ -1,10 +1,12 @@
 //! How a pool is built.
+use super::holders::Holders;
 use super::hooks::Hooks;
 use super::object::Kept;
 use super::{Core, Handle, Hook, Manager, Object, Pool, PoolConfig, QueueMode, Settings, Timeouts};
 use crate::errors::error_texts;
 use crate::rattle::Global;
 use crate::runtime::Runtime;
+use crate::trace::Teller;
 use std::borrow::Cow;
 use std::fmt;
 use std::marker::PhantomData;
@@ -49,6 +51,8 @@ pub(super) struct Setup<M: Manager> {
     pub(super) timeouts: Timeouts,
     pub(super) runtime: Option<Runtime>,
     pub(super) times_waits: bool,
+    /// The list of what is out, if it is asked for: then waits are timed as well.
+    pub(super) holders: Option<Box<Holders>>,
 }
 
 /// What a pool is built by.
@@ -62,6 +66,8 @@ pub struct PoolBuilder<M: Manager, W: From<Object<M>> = Object<M>> {
     min_idle: usize,
     entries: usize,
     times_waits: bool,
+    tracks_holders: bool,
+    hold_threshold: Option<Duration>,
     wrapper: PhantomData<fn() -> W>,
 }
 
@@ -76,6 +82,8 @@ impl<M: Manager, W: From<Object<M>>> PoolBuilder<M, W> {
             min_idle: 0,
             entries: 0,
             times_waits: false,
+            tracks_holders: false,
+            hold_threshold: None,
             wrapper: PhantomData,
         }
     }
@@ -90,7 +98,7 @@ impl<M: Manager, W: From<Object<M>>> PoolBuilder<M, W> {
     ///
     /// Without the feature `refusals`, if no memory is found.
     pub fn build(self) -> Result<Pool<M, W>, BuildError> {
-        let PoolBuilder { name, manager, settings, runtime, hooks, times_waits, .. } = self;
+        let PoolBuilder { name, manager, settings, runtime, hooks, hold_threshold, .. } = self;
         let Settings { config: PoolConfig { max_size, timeouts, queue_mode }, max_waiting } = settings;
         if timeouts.is_any_set() && runtime.is_none() {
             return Err(BuildError::NoRuntimeSpecified);
@@ -100,9 +108,13 @@ impl<M: Manager, W: From<Object<M>>> PoolBuilder<M, W> {
         let desk = desk.map_err(|_| BuildError::OutOfMemory)?;
         #[cfg(not(feature = "refusals"))]
         let desk = desk.unwrap_or_else(|_| panic!("memory for a pool"));
-        let setup = Setup { name, manager, hooks, timeouts, runtime, times_waits };
+        let tracks_holders = self.tracks_holders || hold_threshold.is_some();
+        let holders = tracks_holders.then(|| Box::new(Holders::new(hold_threshold)));
+        let times_waits = self.times_waits || tracks_holders;
+        let setup = Setup { name, manager, hooks, timeouts, runtime, times_waits, holders };
         let detach = |setup: &Setup<M>, kept: &mut Kept<M>| setup.manager.detach(&mut kept.value);
-        Ok(Pool::of(Handle::new(setup, desk.bounded(max_waiting), self.entries > 0, detach)))
+        let teller = Teller::new(|setup: &Setup<M>| setup.name.as_deref(), |kept: &Kept<M>| Some(kept.number));
+        Ok(Pool::of(Handle::new(setup, desk.bounded(max_waiting), self.entries > 0, detach, teller)))
     }
 
     /// Sets the name by which the pool is told from others: in its `Debug`, its tally, and the errors that [`Pool::named`] gives.
@@ -117,7 +129,7 @@ impl<M: Manager, W: From<Object<M>>> PoolBuilder<M, W> {
             config: PoolConfig => settings.config;
             /// Sets what the settings have. It is this crate's own.
             settings: Settings => settings;
-            /// Sets the greatest number of objects.
+            /// Sets the limit, at first twice the processors.
             max_size: usize => settings.config.max_size;
             /// Sets all timeouts.
             timeouts: Timeouts => settings.config.timeouts;
@@ -129,7 +141,7 @@ impl<M: Manager, W: From<Object<M>>> PoolBuilder<M, W> {
             recycle_timeout: Option<Duration> => settings.config.timeouts.recycle;
             /// Sets which idle object is handed out next.
             queue_mode: QueueMode => settings.config.queue_mode;
-            /// Sets how many gets may wait for a place; none is without a bound. It is this crate's own.
+            /// Sets how many gets may wait for a place; `None` is no bound. It is this crate's own.
             max_waiting: Option<usize> => settings.max_waiting;
             /// Sets where the pool has its timers from.
             runtime: Runtime => runtime;
@@ -140,6 +152,15 @@ impl<M: Manager, W: From<Object<M>>> PoolBuilder<M, W> {
             /// Sets whether a get that waits reads the clock, so that its object tells how long ([`Object::waited`]). At first it does
             /// not. It is this crate's own.
             times_waits: bool => times_waits;
+            /// Sets whether the pool keeps a list of who holds its objects ([`Pool::holders`](super::Pool::holders)). At first it does
+            /// not. With it waits are timed ([`PoolBuilder::times_waits`]), a get reads the clock, and a get and a return take a lock more. It is this crate's
+            /// own.
+            tracks_holders: bool => tracks_holders;
+            /// Sets how long an object may be held until a line of the log tells who holds it: none at first. With it holders are
+            /// tracked ([`PoolBuilder::tracks_holders`]). The line is an event of the feature `tracing`, of the level `WARN`; without that
+            /// feature nothing is told, nor on wasm32. There is one for each time that an object is out: as it comes back or is taken, or before that
+            /// as the list is asked for, or as a get ends that found no place in time. No thread looks for it. It is this crate's own.
+            hold_threshold: Option<Duration> => hold_threshold;
         }
         lists {
             /// Adds a hook that sees a new object.

@@ -56,7 +56,7 @@ pub struct Settings {
     /// What the crate deadpool has too.
     #[cfg_attr(feature = "serde", serde(flatten))]
     pub config: PoolConfig,
-    /// How many gets may wait for a place; none is without a bound.
+    /// How many gets may wait for a place; `None` is no bound.
     #[cfg_attr(feature = "serde", serde(default, skip_serializing_if = "Option::is_none"))]
     pub max_waiting: Option<usize>,
 }
@@ -68,7 +68,7 @@ impl From<PoolConfig> for Settings {
     }
 }
 
-/// How long each phase of a get may last; none is without an end.
+/// How long each phase of a get may last; `None` is no timeout. A duration that is read may be a text, as `30s`, `500ms` or `1m 30s`.
 ///
 /// ```
 /// use deadpool::managed::{PoolConfig, Timeouts};
@@ -79,7 +79,7 @@ impl From<PoolConfig> for Settings {
 /// assert_eq!(config.timeouts.wait, Some(Duration::from_millis(50)));
 /// ```
 #[derive(Clone, Copy, Debug, Default)]
-#[cfg_attr(feature = "serde", derive(serde::Deserialize, serde::Serialize))]
+#[cfg_attr(feature = "serde", derive(serde::Deserialize, serde::Serialize), serde(from = "read::Timeouts"))]
 pub struct Timeouts {
     /// The wait for a place. Zero is not to wait, and needs no runtime.
     pub wait: Option<Duration>,
@@ -120,6 +120,26 @@ error_texts! { CreatePoolError<C> {
     Self::Config(cause) => "Config: {cause}",
     Self::Build(cause) => "Build: {cause}",
 } }
+
+/// What is read of timeouts, each of which may be a text.
+#[cfg(feature = "serde")]
+mod read {
+    use crate::durations::Spelt;
+
+    #[derive(serde::Deserialize)]
+    pub(super) struct Timeouts {
+        wait: Option<Spelt>,
+        create: Option<Spelt>,
+        recycle: Option<Spelt>,
+    }
+
+    impl From<Timeouts> for super::Timeouts {
+        fn from(Timeouts { wait, create, recycle }: Timeouts) -> Self {
+            let [wait, create, recycle] = [wait, create, recycle].map(|it| it.map(|Spelt(duration)| duration));
+            super::Timeouts { wait, create, recycle }
+        }
+    }
+}
 
 /// The names of the queue modes in a configuration. The type itself is made of the proved text.
 #[cfg(feature = "serde")]

@@ -15,6 +15,10 @@ pub enum TimeoutType {
 
 /// Why a get ended without an object. It then holds neither a place nor an object.
 ///
+/// None can say how the pool stood, as programs match these kinds by all that they have. With the feature `tracing` a get that found no
+/// place in time is an event, which says so. Without it `format!("{error}: {pool:?}")` says how the pool stands, unless a step is under way, and who [holds what is
+/// out](super::Pool::holders).
+///
 /// The last three kinds are this crate's own, and come with its feature `refusals`. Without that the kinds are those of the crate
 /// deadpool: instead of `Crowded` and `OutOfMemory` comes `Timeout(TimeoutType::Wait)`, and instead of `NumbersExhausted`
 /// `Timeout(TimeoutType::Create)`.

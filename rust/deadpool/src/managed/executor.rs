@@ -6,7 +6,7 @@
 //!
 //! The step `Ask` of a get in the queue may be made for it by the step that makes it due: then a cell has what the desk has answered
 //! (`cells`), and the get is out of the queue. The executor tells that reply when it would make the step.
-use super::object::{Kept, comes_back};
+use super::object::{Kept, comes_back_rarely};
 use super::{Core, Manager, Shared};
 use crate::cells::Answer;
 use crate::cores::desk::{Desk, Reply, Slot, Step};
@@ -15,6 +15,7 @@ use crate::cores::order::{Cause, Command, HookCounts, Order};
 use crate::desk::Desk as _;
 use crate::parcel::{Boxed, Parcel};
 use crate::shared::State;
+use crate::trace::{Reason, Why};
 use std::mem::replace;
 use std::panic::{AssertUnwindSafe, catch_unwind};
 use std::task::Waker;
@@ -30,11 +31,13 @@ pub(super) struct Executor<'a, M: Manager> {
     departs: bool,
     /// The number under which its get waits.
     number: u64,
+    /// Why what is in the hand is given up.
+    pub(super) reason: Reason,
 }
 
 impl<'a, M: Manager> Executor<'a, M> {
     pub(super) fn new(pool: &'a Shared<M>, order: Order, kept: Option<Boxed<Kept<M>>>) -> Self {
-        Executor { pool, order, kept, departs: false, number: 0 }
+        Executor { pool, order, kept, departs: false, number: 0, reason: Reason::new() }
     }
 
     #[inline(always)]
@@ -146,25 +149,48 @@ impl<'a, M: Manager> Executor<'a, M> {
         }
     }
 
+    /// Makes the step by which it ends. That of a get in the queue is its last one.
+    #[inline(always)]
+    fn make_last(&mut self) -> Command {
+        if let Step::Withdraw { ticket } = self.order.step() { self.withdraw(ticket) } else { self.make_rarely() }
+    }
+
     /// A get leaves the queue, with its waker. One that was answered meanwhile has left it: its object comes back.
+    #[inline(never)]
     fn withdraw(&mut self, ticket: Ticket) -> Command {
         let (pool, step) = (self.pool, Step::Withdraw { ticket });
-        let left = pool.step(|state| {
-            // (one whose waker is there was answered nothing)
+        let mut command = None;
+        let _stale = pool.step(|state| {
             let waker = state.gets.take_of(self.number, ticket.number());
-            let answer = if waker.is_none() { pool.cells.take(self.number) } else { None };
-            answer.map_or_else(|| Ok((self.tell(state, &step, &mut None), waker)), Err)
-        });
-        match left {
-            Ok((command, _stale)) => command,
-            Err(Answer { hand, .. }) => {
-                let command = self.order.replied(&self.counts(), &step, Reply::Unknown);
-                if let Some(slot) = hand {
-                    comes_back(pool, slot.value.take());
-                }
-                command
+            // (one whose waker is there was answered nothing)
+            if waker.is_some() || !self.is_answered() {
+                command = Some(self.tell(state, &step, &mut None));
             }
+            waker
+        });
+        match command {
+            Some(command) => command,
+            None => self.leave_answered(&step),
         }
+    }
+
+    /// Takes what its get was handed over meanwhile into the hand. Says whether it was answered.
+    #[cold]
+    #[inline(never)]
+    fn is_answered(&mut self) -> bool {
+        let Some(Answer { hand, .. }) = self.pool.cells.take(self.number) else { return false };
+        self.kept = hand.and_then(|slot| slot.value.take());
+        true
+    }
+
+    #[cold]
+    #[inline(never)]
+    fn leave_answered(&mut self, step: &Step) -> Command {
+        let command = self.order.replied(&self.counts(), step, Reply::Unknown);
+        if let Some(kept) = self.kept.take() {
+            comes_back_rarely(self.pool, Some(kept));
+        }
+        command
     }
 
     /// The value that was made goes into the hand, if memory is found for it.
@@ -184,6 +210,13 @@ impl<'a, M: Manager> Executor<'a, M> {
     pub(super) fn ready(&mut self) -> Command {
         let counts = self.counts();
         self.order.ready(&counts)
+    }
+
+    /// The idle object in the hand is given up.
+    #[inline]
+    pub(super) fn give_up(&mut self, why: Why) -> Command {
+        self.reason.is(why);
+        self.order.failed(Cause::Refused)
     }
 
     /// A call has ended its get, which ends at once.
@@ -221,6 +254,7 @@ impl<'a, M: Manager> Executor<'a, M> {
                 }
                 Command::Release => {
                     let next = self.order.begins();
+                    self.reason.tell(self.pool, self.kept.as_deref());
                     drop(self.kept.take());
                     next
                 }
@@ -235,16 +269,25 @@ impl<'a, M: Manager> Executor<'a, M> {
     }
 
     /// Ends, as it is dropped or a call has panicked. A call that panics here ends no other: the first panic goes on at the end.
-    #[cold]
+    #[inline(never)]
     fn end(&mut self) {
+        self.reason.is_else(Why::Dropped);
         let Rest(executor) = &mut Rest(self);
         if !thread::panicking() {
             let command = executor.order.dropped();
-            // (a get in the queue ends by this step)
-            let command = if let Command::Make = command { executor.make_rarely() } else { command };
+            let command = if let Command::Make = command { executor.make_last() } else { command };
             if !executor.order.is_over() {
                 executor.execute_rarely(command);
             }
+        }
+    }
+
+    #[cold]
+    #[inline(never)]
+    fn end_caught(&mut self) {
+        while !self.order.is_over() {
+            let command = self.order.dropped();
+            _ = catch_unwind(AssertUnwindSafe(|| _ = self.execute_rarely(command)));
         }
     }
 }
@@ -255,9 +298,8 @@ struct Rest<'a, 'b, M: Manager>(&'a mut Executor<'b, M>);
 impl<M: Manager> Drop for Rest<'_, '_, M> {
     #[inline]
     fn drop(&mut self) {
-        while !self.0.order.is_over() {
-            let command = self.0.order.dropped();
-            _ = catch_unwind(AssertUnwindSafe(|| _ = self.0.execute_rarely(command)));
+        if !self.0.order.is_over() {
+            self.0.end_caught();
         }
     }
 }

@@ -1,5 +1,6 @@
 //! A get: its order is executed, and what may have to wait is awaited.
 use super::executor::Executor;
+use super::holders::tell_late_get;
 use super::object::Kept;
 use super::{Hook, HookResult, Manager, PoolError, Shared, TimeoutType, Timeouts};
 use crate::cores::desk::Step;
@@ -7,6 +8,7 @@ use crate::cores::order::{Cause, Command, Order};
 use crate::moment::Instant;
 use crate::parcel::Boxed;
 use crate::timed::{Alarm, lacks_timers, poll_again};
+use crate::trace::Why;
 use crate::waiting::{has_to_wait, may_ask_at_once};
 use std::future::{Future, poll_fn};
 use std::pin::{Pin, pin};
@@ -28,6 +30,15 @@ pub(super) struct Get<'a, M: Manager> {
 enum Waited {
     For(Duration),
     Since(Instant),
+}
+
+impl Waited {
+    fn until_now(self) -> Duration {
+        match self {
+            Waited::For(duration) => duration,
+            Waited::Since(since) => since.elapsed(),
+        }
+    }
 }
 
 impl<'a, M: Manager> Get<'a, M> {
@@ -52,7 +63,7 @@ impl<'a, M: Manager> Get<'a, M> {
                 Command::PostRecycle(at) => get.prepare(&pool.setup.hooks.post_recycle[at]).await,
                 Command::PostCreate(at) => get.check(&pool.setup.hooks.post_create[at]).await?,
                 Command::Give { recycled } => return Ok(get.give(recycled)),
-                Command::End(cause) => return Err(error_of(cause)),
+                Command::End(cause) => return Err(get.ended(cause)),
                 _ => get.executor.execute_rarely(command),
             };
         }
@@ -140,7 +151,7 @@ impl<'a, M: Manager> Get<'a, M> {
         let Get { timeouts, alarm, executor, .. } = self;
         let setup = &executor.pool.setup;
         if lacks_timers(timeouts.recycle, setup.runtime) {
-            return executor.order.failed(Cause::NoRuntime);
+            return executor.give_up(Why::NoRuntime);
         }
         *alarm = Alarm::Unset;
         let recycled = {
@@ -151,7 +162,8 @@ impl<'a, M: Manager> Get<'a, M> {
         };
         match recycled {
             Some(Ok(())) => executor.ready(),
-            _ => executor.order.failed(Cause::Late),
+            Some(Err(_)) => executor.give_up(Why::Failed),
+            None => executor.give_up(Why::Late),
         }
     }
 
@@ -159,7 +171,7 @@ impl<'a, M: Manager> Get<'a, M> {
     async fn prepare(&mut self, hook: &Hook<M>) -> Command {
         match self.seen(hook).await {
             Ok(()) => self.executor.ready(),
-            Err(_) => self.executor.order.failed(Cause::Refused),
+            Err(_) => self.executor.give_up(Why::Refused),
         }
     }
 
@@ -168,6 +180,7 @@ impl<'a, M: Manager> Get<'a, M> {
         match self.seen(hook).await {
             Ok(()) => Ok(self.executor.ready()),
             Err(cause) => {
+                self.executor.reason.is(Why::Refused);
                 self.executor.fail(Cause::Refused);
                 Err(PoolError::PostCreateHook(cause))
             }
@@ -180,6 +193,16 @@ impl<'a, M: Manager> Get<'a, M> {
         called(call, order, |_| false).await.expect("a hook has no time")
     }
 
+    /// The error by which it ends. How the pool stands is told where its wait is over, as the error has no place for that.
+    #[cold]
+    fn ended(&self, cause: Cause) -> PoolError<M::Error> {
+        if let Cause::NoPlace = cause {
+            let pool = self.executor.pool;
+            tell_late_get(pool, pool.setup.times_waits.then(|| self.waited.until_now()));
+        }
+        error_of(cause)
+    }
+
     /// The object is out.
     fn give(&mut self, recycled: bool) -> Option<Boxed<Kept<M>>> {
         let mut given = self.executor.given();
@@ -187,7 +210,11 @@ impl<'a, M: Manager> Get<'a, M> {
             if recycled {
                 kept.metrics.recycled_now();
             }
-            kept.waited = if let Waited::For(duration) = self.waited { duration } else { Duration::ZERO };
+            let setup = &self.executor.pool.setup;
+            if setup.times_waits {
+                kept.waited = if let Waited::For(duration) = self.waited { duration } else { Duration::ZERO };
+                setup.holders.iter().for_each(|it| it.begin(kept));
+            }
         }
         given
     }

@@ -3,7 +3,7 @@ use super::{Hook, HookError, Manager, Metrics};
 #[cfg(not(target_arch = "wasm32"))]
 use std::time::{Duration, Instant};
 
-/// How long an object may serve. A limit that is not set holds of every object.
+/// How long an object may serve. A limit that is not set allows every object.
 ///
 /// As a hook it refuses an idle object that is past its limits: then the pool gives it up, and the get goes on. Meanwhile
 /// [`Pool::keeper`](super::Pool::keeper) gives up those that nobody asks for. On wasm32 there are no moments, and `uses` is the one limit.
@@ -32,9 +32,11 @@ use std::time::{Duration, Instant};
 pub struct Limits {
     /// How long ago it may have been created. From this age on it is given up.
     #[cfg(not(target_arch = "wasm32"))]
+    #[cfg_attr(feature = "serde", serde(deserialize_with = "crate::durations::read"))]
     pub lifetime: Option<Duration>,
     /// How long ago it may have been handed out last.
     #[cfg(not(target_arch = "wasm32"))]
+    #[cfg_attr(feature = "serde", serde(deserialize_with = "crate::durations::read"))]
     pub idle: Option<Duration>,
     /// How often it may be handed out: once when it is created, and once for each time that it was recycled.
     pub uses: Option<usize>,

@@ -1,5 +1,6 @@
 //! An object that is out.
 use super::executor::Executor;
+use super::holders::Long;
 use super::{Manager, Metrics, ObjectId, Pool, Shared};
 use crate::cores::desk::Step;
 use crate::cores::order::Order;
@@ -59,10 +60,42 @@ impl<M: Manager> Object<M> {
         self.kept.as_ref().expect("an object has its value")
     }
 
+    /// Nobody holds it any more. It is called before its number can be another's.
+    fn ends(&self) -> Option<Long> {
+        self.pool.setup.holders.as_ref()?.end(self.kept.as_ref()?.number)
+    }
+
+    /// Tells of the hold that has ended.
+    fn tell(&self, long: Option<Long>) {
+        if let Some(long) = long {
+            long.tell(self.pool.setup.name.as_deref());
+        }
+    }
+
+    /// It is about to be taken. (If who is told panics, it comes back.)
+    #[cold]
+    #[inline(never)]
+    fn leaves_tracked(&self) {
+        let long = self.ends();
+        self.tell(long);
+    }
+
+    #[cold]
+    #[inline(never)]
+    fn comes_back_tracked(&mut self) {
+        // (who is told may panic, and the object is back by then)
+        let long = self.ends();
+        comes_back_rarely(&self.pool, self.kept.take());
+        self.tell(long);
+    }
+
     /// Takes the value out of the pool for good. Its place is free.
     #[must_use]
     #[allow(clippy::missing_panics_doc, reason = "the value is there until this or the drop takes it")]
     pub fn take(mut this: Self) -> M::Type {
+        if this.pool.setup.holders.is_some() {
+            this.leaves_tracked();
+        }
         let mut take = Executor::new(&this.pool, Order::taking(), this.kept.take());
         let command = take.make(&Step::Take);
         take.execute(command);
@@ -97,14 +130,23 @@ impl<M: Manager> Object<M> {
 impl<M: Manager> Drop for Object<M> {
     fn drop(&mut self) {
         if self.kept.is_some() {
-            comes_back(&self.pool, self.kept.take());
+            match self.pool.setup.holders {
+                None => comes_back(&self.pool, self.kept.take()),
+                Some(_) => self.comes_back_tracked(),
+            }
         }
     }
 }
 
+/// As [`comes_back`], where that is rare.
+#[inline(never)]
+pub(super) fn comes_back_rarely<M: Manager>(pool: &Shared<M>, kept: Option<Boxed<Kept<M>>>) {
+    comes_back(pool, kept);
+}
+
 /// An object comes back to its pool.
-#[inline]
-pub(super) fn comes_back<M: Manager>(pool: &Shared<M>, kept: Option<Boxed<Kept<M>>>) {
+#[inline(always)]
+fn comes_back<M: Manager>(pool: &Shared<M>, kept: Option<Boxed<Kept<M>>>) {
     let mut back = Executor::new(pool, Order::returning(), kept);
     let command = back.give_back();
     if !back.order.is_over() {

@@ -1,9 +1,10 @@
 //! A handle of a pool.
 use super::get::Get;
+use super::holders::tell_long;
 use super::object::Kept;
 use super::{
-    Core, Handle, Journal, Limits, Manager, Metrics, Object, OutOfMemory, PoolBuilder, PoolError, Report, Shared,
-    Timeouts,
+    Core, Handle, Holder, Journal, Limits, Manager, Metrics, Object, OutOfMemory, PoolBuilder, PoolError, Report,
+    Shared, Timeouts,
 };
 use crate::Status;
 use crate::cores::desk::{OwnerDesk, OwnerReply, OwnerStep, Retainer};
@@ -13,6 +14,7 @@ use crate::errors::Named;
 use crate::parcel::{Boxed, Parcel};
 use crate::shared::State;
 use crate::timed::{Alarm, poll_again};
+use crate::trace::{Span, Why};
 use crate::wait::wait;
 use std::fmt;
 use std::future::Future;
@@ -127,8 +129,13 @@ impl<M: Manager, W: From<Object<M>>> Pool<M, W> {
     ///
     /// As of [`Pool::get`].
     pub async fn timeout_get(&self, timeouts: &Timeouts) -> Result<W, PoolError<M::Error>> {
-        let kept = Get::within(&self.shared, timeouts).await?;
-        Ok(Object { kept, pool: Arc::clone(&self.shared) }.into())
+        let span = Span::of_get(self.name());
+        let kept = span.around(Get::within(&self.shared, timeouts)).await?;
+        let object = Object { kept, pool: Arc::clone(&self.shared) };
+        if let Some(kept) = &object.kept {
+            span.has(kept.number, self.shared.setup.times_waits.then_some(kept.waited));
+        }
+        Ok(object.into())
     }
 
     /// An object, if a place is free. It does not wait for one, but for its manager and hooks, within the pool's timeouts.
@@ -222,8 +229,8 @@ impl<M: Manager, W: From<Object<M>>> Pool<M, W> {
         }
     }
 
-    /// Gives up the idle objects of which the predicate, which is asked about each, says no. It is asked under the lock, so
-    /// it makes no call on the pool.
+    /// Gives up the idle objects of which the predicate, which is asked about each, says no. It is asked under the lock, and
+    /// must not use the pool.
     ///
     /// # Panics
     ///
@@ -281,9 +288,9 @@ impl<M: Manager, W: From<Object<M>>> Pool<M, W> {
         self.shared.close();
     }
 
-    /// Closes the pool, as [`Pool::close`], and waits until nothing is left of it: no object is out, and no get has a place or a
-    /// creation under way. Gives how it stands then. Who has an object of its own waits for good.
-    /// Gives how the pool stands then.
+    /// Closes the pool, as [`Pool::close`], and waits until nothing is left of it: no object is out, no get has a place or a
+    /// creation under way, and what has left was detached and dropped. Gives how it stands then. Who has an object waits
+    /// for good.
     ///
     /// # Cancel safety
     ///
@@ -352,8 +359,21 @@ impl<M: Manager, W: From<Object<M>>> Pool<M, W> {
         self.shared.look(|state| state.desk.status())
     }
 
+    /// Who holds what is out, and since when, the one that holds longest first. It is empty unless the pool [tracks
+    /// holders](PoolBuilder::tracks_holders). An object that was taken is not out, and one that was forgotten ([`std::mem::forget`])
+    /// stays so. One for whose entry no memory was found is not listed.
+    ///
+    /// Those that are past the [threshold](PoolBuilder::hold_threshold), and were not told before, are told to the log.
+    /// [`held_by`](super::held_by) has an example.
+    #[must_use]
+    #[doc(alias("leaks", "leak_detection"))]
+    pub fn holders(&self) -> Vec<Holder> {
+        tell_long(&self.shared);
+        self.shared.setup.holders.as_ref().map_or_else(Vec::new, |holders| holders.list())
+    }
+
     /// How often each thing has happened since the pool was opened, with how it stands, both of one moment. It is printed as
-    /// Prometheus reads it, with the pool's name as a label.
+    /// Prometheus reads it, with the pool's name as a label; [`Reports`](crate::Reports) has several pools in one text.
     #[must_use]
     pub fn tally(&self) -> Report<'_> {
         let (tally, status) = self.shared.look(|State { desk, .. }| (desk.tally(), desk.status()));
@@ -392,11 +412,14 @@ impl<M: Manager, W: From<Object<M>>> Clone for Pool<M, W> {
     }
 }
 
-/// Its name and how it stands, as [`Pool::status`] says, unless a step is under way.
+/// Its name, its holders if it tracks them, and how it stands, as [`Pool::status`] says, unless a step is under way.
 impl<M: Manager, W: From<Object<M>>> fmt::Debug for Pool<M, W> {
     fn fmt(&self, f: &mut fmt::Formatter<'_>) -> fmt::Result {
         let mut told = f.debug_struct("Pool");
         self.name().iter().for_each(|name| _ = told.field("name", name));
+        if let Some(holders) = &self.shared.setup.holders {
+            told.field("holders", &holders.list());
+        }
         self.shared.debug(&mut told)
     }
 }
@@ -421,6 +444,7 @@ fn retained<M: Manager>(
         state.desk.retain(&mut Choice(keep.into_iter())).map_err(|_| OutOfMemory)
     })?;
     let mut gone: Vec<_> = given.removed.into_iter().flatten().collect();
+    gone.iter().for_each(|kept| pool.tell(kept, Why::Retain));
     gone.iter_mut().for_each(|kept| pool.setup.manager.detach(&mut kept.value));
     Ok(RetainResult { retained: given.retained, removed: gone.into_iter().map(|kept| kept.open().value).collect() })
 }

@@ -1,6 +1,6 @@
 //! What a backend gives on under its own name, so that its users need not depend on this crate.
-pub use super::{Limits, Metrics, ObjectId, PoolConfig, Report, Status, Tally, TimeoutType, Timeouts};
-pub use crate::{Runtime, Sleep, Timers};
+pub use super::{Holder, Limits, Metrics, ObjectId, PoolConfig, Report, Status, Tally, TimeoutType, Timeouts, held_by};
+pub use crate::{Reports, Runtime, Sleep, Timers};
 
 /// Names the types of a backend's pools: by its own name, its manager, what its pools hand out, and the errors of its manager and of
 /// its configuration. It stands in a module of the backend, for its users.

@@ -5,11 +5,11 @@ use std::time::Duration;
 
 /// How many objects there may be, and how long a get waits.
 #[derive(Clone, Copy, Debug)]
-#[cfg_attr(feature = "serde", derive(serde::Deserialize, serde::Serialize))]
+#[cfg_attr(feature = "serde", derive(serde::Deserialize, serde::Serialize), serde(from = "read::PoolConfig"))]
 pub struct PoolConfig {
     /// The greatest number of objects.
     pub max_size: usize,
-    /// How long a get waits; none is without an end. Zero is not to wait, and needs no runtime.
+    /// How long a get waits; `None` is no timeout. Zero is not to wait, and needs no runtime.
     pub timeout: Option<Duration>,
     /// Where the pool has its timers from.
     #[cfg_attr(feature = "serde", serde(skip))]
@@ -31,6 +31,24 @@ impl Default for PoolConfig {
     }
 }
 
+/// What is read of a configuration, whose timeout may be a text.
+#[cfg(feature = "serde")]
+mod read {
+    use crate::durations::Spelt;
+
+    #[derive(serde::Deserialize)]
+    pub(super) struct PoolConfig {
+        max_size: usize,
+        timeout: Option<Spelt>,
+    }
+
+    impl From<PoolConfig> for super::PoolConfig {
+        fn from(PoolConfig { max_size, timeout }: PoolConfig) -> Self {
+            super::PoolConfig { max_size, timeout: timeout.map(|Spelt(duration)| duration), runtime: None }
+        }
+    }
+}
+
 /// A configuration, with what a file of settings may have beside its keys, and a journal. It is this crate's own, and read from
 /// formats with keys. An example is at [`Pool::journal`](super::Pool::journal).
 #[derive(Clone, Copy, Debug, Default)]
@@ -39,7 +57,7 @@ pub struct Settings {
     /// What the crate deadpool has too.
     #[cfg_attr(feature = "serde", serde(flatten))]
     pub config: PoolConfig,
-    /// How many gets may wait for an object, and how many adds for room; none is without a bound.
+    /// How many gets may wait for an object, and how many adds for room; `None` is no bound.
     #[cfg_attr(feature = "serde", serde(default, skip_serializing_if = "Option::is_none"))]
     pub max_waiting: Option<usize>,
     /// How many steps the pool's journal has room for, 0 at first. No file has it.

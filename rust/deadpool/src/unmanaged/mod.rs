@@ -12,6 +12,7 @@
 //! ```
 
 mod config;
+mod executor;
 mod object;
 mod pool;
 

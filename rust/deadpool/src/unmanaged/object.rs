@@ -1,11 +1,14 @@
 //! An object that is out.
+use super::executor::Executor;
 use super::{Core, PoolConfig};
 use crate::cores::unmanaged::Step;
+use crate::cores::unmanaged_order::Order;
 use crate::lends::lends_value;
-use crate::parcel::{Boxed, Parcel};
+use crate::parcel::Boxed;
 use crate::shared::Shared;
 use std::fmt;
 use std::sync::Arc;
+use std::task::Waker;
 
 /// An object that is out. Its drop gives it back to the pool.
 #[must_use]
@@ -20,26 +23,22 @@ impl<T> Object<T> {
     #[must_use]
     #[allow(clippy::missing_panics_doc, reason = "the value is there until this or the drop takes it")]
     pub fn take(mut this: Self) -> T {
-        let value = this.value.take().expect("an object has its value");
-        this.pool.step(|state| state.desk.make(&Step::Take, &mut None));
-        this.pool.tell_end(false);
-        value.open()
+        let mut take = Executor::new(&this.pool, Order::taking(), this.value.take());
+        let command = take.make(|| Step::Take);
+        let _ended = take.execute(command, Waker::noop());
+        take.given().expect("an object has its value").open()
     }
 }
 
 impl<T> Drop for Object<T> {
-    /// What is not kept is dropped here, without the lock.
     fn drop(&mut self) {
-        let Some(value) = self.value.take() else { return };
-        let mut hand = Some(Parcel::of(value));
-        let mut tells = self.pool.telling_end();
-        self.pool.step(|state| {
-            state.desk.make(&Step::Back, &mut hand);
-            if hand.is_some() {
-                tells.depart(state);
+        if self.value.is_some() {
+            let mut back = Executor::new(&self.pool, Order::returning(), self.value.take());
+            let command = back.pass(|| Step::Back);
+            if !back.order.is_over() {
+                let _ended = back.execute(command, Waker::noop());
             }
-        });
-        drop(hand.and_then(|parcel| parcel.take()));
+        }
     }
 }
 

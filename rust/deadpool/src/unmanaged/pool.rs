@@ -1,15 +1,17 @@
 //! A handle of a pool.
+use super::executor::{Executor, refusal};
 use super::{Core, Journal, Object, OutOfMemory, PoolConfig, PoolError, Report, Settings};
 use crate::Status;
-use crate::cores::unmanaged::{Reply, Step};
+use crate::cores::unmanaged::Step;
+use crate::cores::unmanaged_order::{Command, Order};
 use crate::desk::Desk;
 use crate::ending::{DrainError, alarm_within, drained};
-use crate::parcel::{Boxed, Parcel};
+use crate::parcel::Boxed;
 use crate::rattle::Global;
 use crate::shared::{Handle, State};
 use crate::timed::Alarm;
+use crate::trace::Teller;
 use crate::wait::wait;
-use crate::waiting::{Asked, Turn, Waiting};
 use std::fmt;
 use std::sync::Arc;
 use std::time::Duration;
@@ -73,7 +75,8 @@ impl<T> Pool<T> {
     pub fn try_from_settings(settings: &Settings) -> Result<Self, OutOfMemory> {
         let Settings { config, max_waiting, journal } = *settings;
         let desk = Core::new(Global, config.max_size, journal).map_err(|_| OutOfMemory)?;
-        Ok(Pool { shared: Handle::new(config, desk.bounded(max_waiting), journal > 0, |_, _| ()) })
+        let teller = Teller::new(|_| None, |_| None);
+        Ok(Pool { shared: Handle::new(config, desk.bounded(max_waiting), journal > 0, |_, _| (), teller) })
     }
 
     /// An object, within the configured timeout.
@@ -112,10 +115,9 @@ impl<T> Pool<T> {
     ///
     /// `Timeout` if none is.
     pub fn try_get(&self) -> Result<Object<T>, PoolError> {
-        match self.shared.step(|state| got(&mut state.desk, false, None)) {
-            Turn::Ended(got) => Ok(self.object(got?)),
-            Turn::Waits(_) => Err(PoolError::Timeout),
-        }
+        let mut get = Executor::new(&self.shared, Order::getting(false), None);
+        let command = get.pass(|| Step::GetEnter { wait: false });
+        self.got(&mut get, command)
     }
 
     /// An object, within this timeout.
@@ -136,15 +138,18 @@ impl<T> Pool<T> {
             return self.try_get();
         }
         let alarm = Alarm::after(timeout, self.shared.setup.runtime).ok_or(PoolError::NoRuntimeSpecified)?;
-        let cancel = |desk: &mut Core<T>, ticket| _ = desk.make(&Step::GetCancel { ticket }, &mut None);
-        let get =
-            Waiting { pool: &self.shared, wakers: |state| &mut state.gets, cancel, ticket: None, may_yield: true };
-        let got = get.ask(alarm, |desk, asked| got(desk, true, asked), || Err(PoolError::OutOfMemory)).await;
-        Ok(self.object(got?))
+        let mut get = Executor::new(&self.shared, Order::getting(true), None);
+        let command = get.execute_all(|| Step::GetEnter { wait: true }, alarm).await;
+        self.got(&mut get, command)
     }
 
-    fn object(&self, value: Option<Boxed<T>>) -> Object<T> {
-        Object { value, pool: Arc::clone(&self.shared) }
+    /// How a get has ended.
+    #[inline(always)]
+    fn got(&self, get: &mut Executor<'_, T>, command: Command) -> Result<Object<T>, PoolError> {
+        match command {
+            Command::Give => Ok(Object { pool: Arc::clone(&self.shared), value: get.given() }),
+            _ => Err(refusal(command)),
+        }
     }
 
     /// Adds an object, once there is room.
@@ -157,16 +162,10 @@ impl<T> Pool<T> {
     ///
     /// It can be dropped at any await, and then leaves the queue. The object is dropped with it.
     pub async fn add(&self, object: T) -> Result<(), (T, PoolError)> {
-        let cancel = |desk: &mut Core<T>, ticket| _ = desk.make(&Step::AddCancel { ticket }, &mut None);
-        let add =
-            Waiting { pool: &self.shared, wakers: |state| &mut state.adds, cancel, ticket: None, may_yield: true };
-        let mut value = Some(Boxed::new(object).map_err(|object| (object, PoolError::OutOfMemory))?);
-        let step = |desk: &mut Core<T>, asked: Asked| match asked {
-            None => stored(desk, &Step::AddEnter { wait: true }, &mut value),
-            Some((ticket, _)) => stored(desk, &Step::AddAsk { ticket }, &mut value),
-        };
-        let end = add.ask(Alarm::default(), step, || Err(PoolError::OutOfMemory)).await;
-        added(value, end)
+        let value = Boxed::new(object).map_err(|object| (object, PoolError::OutOfMemory))?;
+        let mut add = Executor::new(&self.shared, Order::adding(true), Some(value));
+        let command = add.execute_all(|| Step::AddEnter { wait: true }, Alarm::default()).await;
+        added(&mut add, command)
     }
 
     /// Adds an object, if there is room.
@@ -175,11 +174,10 @@ impl<T> Pool<T> {
     ///
     /// The object, with `Timeout` if there is no room.
     pub fn try_add(&self, object: T) -> Result<(), (T, PoolError)> {
-        let mut value = Some(Boxed::new(object).map_err(|object| (object, PoolError::OutOfMemory))?);
-        match self.shared.step(|state| stored(&mut state.desk, &Step::AddEnter { wait: false }, &mut value)) {
-            Turn::Ended(end) => added(value, end),
-            Turn::Waits(_) => Ok(()),
-        }
+        let value = Boxed::new(object).map_err(|object| (object, PoolError::OutOfMemory))?;
+        let mut add = Executor::new(&self.shared, Order::adding(false), Some(value));
+        let command = add.pass(|| Step::AddEnter { wait: false });
+        added(&mut add, command)
     }
 
     /// Takes an object out for good, as [`Pool::get`] and [`Object::take`].
@@ -230,9 +228,8 @@ impl<T> Pool<T> {
         self.shared.close();
     }
 
-    /// Closes the pool, as [`Pool::close`], and waits until no object is out. Gives how it stands then. Who has an
-    /// object of its own waits for good.
-    /// Gives how the pool stands then.
+    /// Closes the pool, as [`Pool::close`], and waits until no object is out and what has left was dropped. Gives how it
+    /// stands then. Who has an object of its own waits for good.
     ///
     /// # Cancel safety
     ///
@@ -271,7 +268,7 @@ impl<T> Pool<T> {
     }
 
     /// How often each thing has happened since the pool was opened, with how it stands, both of one moment. It is printed as
-    /// Prometheus reads it, with the name as a label: none until you set one.
+    /// Prometheus reads it, with the name as a label: none until you set one. [`Reports`](crate::Reports) has several pools in one text.
     ///
     /// ```
     /// use deadpool::unmanaged::{Pool, PoolError, Report};
@@ -349,44 +346,13 @@ impl<T> fmt::Debug for Pool<T> {
     }
 }
 
-/// A get enters, or asks with its ticket. It is given an object, waits if it may, or is refused.
-#[inline]
-fn got<T>(desk: &mut Core<T>, may_wait: bool, asked: Asked) -> Turn<Result<Option<Boxed<T>>, PoolError>> {
-    let mut hand = None;
-    let reply = match asked {
-        None => desk.make(&Step::GetEnter { wait: may_wait }, &mut hand),
-        Some((ticket, expired)) => desk.make(&Step::GetAsk { ticket, expired }, &mut hand),
-    };
-    Turn::Ended(match reply {
-        Reply::Waiting(ticket) => return Turn::Waits(ticket),
-        Reply::Full | Reply::Expired => Err(PoolError::Timeout),
-        Reply::Crowded => Err(PoolError::Crowded),
-        Reply::OutOfMemory => Err(PoolError::OutOfMemory),
-        _ => hand.map(|parcel| parcel.take()).ok_or(PoolError::Closed),
-    })
-}
-
-/// Makes a step of an add with its value, which is left if it is not stored.
-#[inline]
-fn stored<T>(desk: &mut Core<T>, step: &Step, value: &mut Option<Boxed<T>>) -> Turn<Result<(), PoolError>> {
-    let Some(given) = value.take() else { return Turn::Ended(Ok(())) };
-    let mut hand = Some(Parcel::of(given));
-    let reply = desk.make(step, &mut hand);
-    *value = hand.and_then(|parcel| parcel.take());
-    Turn::Ended(match reply {
-        Reply::Waiting(ticket) => return Turn::Waits(ticket),
-        Reply::Stored => Ok(()),
-        Reply::Full => Err(PoolError::Timeout),
-        Reply::Crowded => Err(PoolError::Crowded),
-        Reply::OutOfMemory => Err(PoolError::OutOfMemory),
-        _ => Err(PoolError::Closed),
-    })
-}
-
-/// How an add has ended. A value that is left was refused.
-fn added<T>(value: Option<Boxed<T>>, end: Result<(), PoolError>) -> Result<(), (T, PoolError)> {
-    match (value, end) {
-        (Some(value), Err(refusal)) => Err((value.open(), refusal)),
+/// How an add has ended. One that was refused hands its object over.
+fn added<T>(add: &mut Executor<'_, T>, command: Command) -> Result<(), (T, PoolError)> {
+    match command {
+        Command::Yield(_) => {
+            let value = add.given().expect("an add has its object");
+            Err((value.open(), refusal(command)))
+        }
         _ => Ok(()),
     }
 }

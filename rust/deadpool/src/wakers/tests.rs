@@ -1,7 +1,8 @@
 //! What a list of wakers keeps, and what it gives back once a crowd has gone.
 use super::{GROUP, Wakers};
-use std::sync::Arc;
+use crate::owed::{Owed, give_back};
 use std::sync::atomic::{AtomicUsize, Ordering};
+use std::sync::{Arc, Mutex};
 use std::task::{Wake, Waker};
 
 /// A waker whose calls say its number.
@@ -31,12 +32,13 @@ impl Wakers {
 
     /// For how many there is room.
     pub(crate) fn room(&self) -> usize {
-        self.groups.iter().map(|group| group.wakers.capacity()).sum()
+        GROUP * self.groups.iter().filter(|group| group.places.is_some()).count()
     }
 }
 
-fn is_number(waker: Option<Waker>, number: usize, called: &AtomicUsize) {
-    waker.expect("a waker").wake();
+fn is_number(owed: Option<Owed>, number: usize, called: &AtomicUsize) {
+    let free = give_back(Mutex::new(()).lock().expect("no panic"));
+    owed.expect("a waker").pay(&free);
     assert_eq!(called.load(Ordering::SeqCst), number);
 }
 
@@ -46,7 +48,7 @@ fn the_room_of_a_crowd_goes_with_it() {
     let (mut wakers, called) = crowd(CROWD);
     assert_eq!(wakers.room(), CROWD);
     for number in 0..CROWD {
-        is_number(wakers.take(number), number, &called);
+        is_number(wakers.owed(number), number, &called);
         assert!(wakers.take(number).is_none());
         // (one group is kept for the next that waits)
         assert!(wakers.room() < CROWD - number + 2 * GROUP);
@@ -69,11 +71,11 @@ fn those_that_are_left_stay() {
     let (mut wakers, called) = crowd(10 * GROUP);
     let left = [3, GROUP - 1, 4 * GROUP, 10 * GROUP - 1];
     for number in (0..10 * GROUP).rev().filter(|it| !left.contains(it)) {
-        is_number(wakers.take(number), number, &called);
+        is_number(wakers.owed(number), number, &called);
     }
     assert_eq!(wakers.room(), 4 * GROUP);
     for number in left {
-        is_number(wakers.take(number), number, &called);
+        is_number(wakers.owed(number), number, &called);
     }
     assert_eq!(wakers.room(), GROUP);
 }

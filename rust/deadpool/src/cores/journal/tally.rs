@@ -20,9 +20,9 @@ pub struct Tally {
     pub closed: u64,
     /// Creations that made an object.
     pub created: u64,
-    /// Creations that ended without one.
+    /// Creations that ended in an error.
     pub failed: u64,
-    /// Objects that were given up since the manager or a hook refused them.
+    /// Objects refused by the manager or a hook, or recycled too late.
     pub refused: u64,
     /// Objects that were given up with the get that prepared them.
     pub cancelled: u64,
