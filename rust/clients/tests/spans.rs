@@ -9,7 +9,7 @@ use std::future::poll_fn;
 use std::panic::{AssertUnwindSafe, catch_unwind};
 use std::pin::pin;
 use std::task::Poll;
-use std::time::Duration;
+use std::time::{Duration, Instant};
 use told::{BADLY, GET, NEVER, Numbers, PANICS, Told, WELL, get, told_of};
 
 /// Gives back an object that is to be recycled so.
@@ -47,10 +47,11 @@ fn a_span_has_what_its_get_has_waited() {
             let object = get(pool);
             let mut waits = pin!(pool.get());
             let mut held = Some(object);
-            let begun = std::time::Instant::now();
             drop(wait(poll_fn(|cx| {
                 let polled = waits.as_mut().poll(cx);
                 if polled.is_pending() {
+                    // (from when it waits, or that time would not count)
+                    let begun = Instant::now();
                     while begun.elapsed() < millis {}
                     drop(held.take());
                 }
