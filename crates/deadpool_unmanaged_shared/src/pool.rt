@@ -194,14 +194,12 @@ impl<T: Drop, C: Clock, R: Wait + Drop, S: KeepsState<T>> Pool<T, C, R, S> {
         let Ok(home) = self.inner.uncounted() else {
             return Err(PoolError::OutOfMemory);
         };
-        match home.shared().try_get() {
-            Ok((value, caller)) => Ok(Object {
-                home,
-                value,
-                caller,
-            }),
-            Err(cause) => Err(cause),
-        }
+        let (value, caller) = home.shared().try_get()?;
+        Ok(Object {
+            home,
+            value,
+            caller,
+        })
     }
 
     /// `try_get` by a caller that the history has it of. The object has a new caller of its own. Without memory for the

@@ -82,10 +82,7 @@ impl<T: Drop, C: Clock, R: Wait + Drop, S: KeepsState<T>> Shared<T, C, R, S> {
         let mut caller = step.kept().admit();
         let got = step.kept().try_get(&mut caller);
         self.lock.end(step, &mut caller);
-        match got {
-            Ok(value) => Ok((value, caller)),
-            Err(cause) => Err(cause),
-        }
+        Ok((got?, caller))
     }
 
     /// Adds an object at once, or gives it back with the reason.
