@@ -1,6 +1,7 @@
 -- One line more leads one step further.
 use Rattle.deadpool_unmanaged_history.proofs.Words.{◌≡◌, ◌∙◌, ℕ, List, [], ◌∷◌, ◌++◌, map, Option, Some, None, ap, sym}
-use Rattle.deadpool_unmanaged_history.proofs.Words.{map-append, IsPrefix, Calls, Knowing, State, CoreState, bounded}
+use Rattle.deadpool_unmanaged_history.proofs.Words.{map-append, IsPrefix, Calls, Knowing, calls_by, State, CoreState}
+use Rattle.deadpool_unmanaged_history.proofs.Words.{bounded}
 use Rattle.deadpool_unmanaged_history.proofs.Words.{opened, silent, RunsCounted-snoc, runs, step_silent, Journaling}
 use Rattle.deadpool_unmanaged_history.proofs.Words.{Notes, noted, size, counted, no_tally, Tally, IsTallyOf, refl, ◌-◌}
 use Rattle.deadpool_unmanaged_history.proofs.Words.{Steps, Entry, Journal, Result, Ok, Err, IfOk, AllocError, HasCalled}
@@ -15,7 +16,9 @@ use Rattle.deadpool_unmanaged_history.proofs.Words.{unheard_after, unheard_from,
 use Rattle.deadpool_unmanaged_history.proofs.Words.{Bool, true, ◌||◌, is_some, next_due, has_due, due_get, due_add}
 use Rattle.deadpool_unmanaged_history.proofs.First.{has_first}
 use Rattle.deadpool_unmanaged_history.proofs.Heard.{heard}
+use Rattle.deadpool_unmanaged_history.proofs.Own.{names_on, step_names_on}
 use Rattle.deadpool_unmanaged_history.proofs.Turns.{tells_on}
+use Rattle.deadpool_unmanaged_history.specs.Own.{IsOwnEntry}
 use Rattle.deadpool_unmanaged_history.specs.declared.line.Line.TheVariants.{Opening, Next, Told, Ending}
 use Rattle.deadpool_unmanaged_history.specs.declared.line.Wake.TheVariants.{Get, Add}
 use Rattle.deadpool_unmanaged_journal.specs.declared.entry.Entry.TheVariants.{Made, Owner}
@@ -30,7 +33,7 @@ module _ {T : Type 0} where
   entries_of-append ((m, Ending drains departing) ∷ lines) more = entries_of-append lines more
   entries_of-append ((m, Opening limit max_waiting) ∷ lines) more = entries_of-append lines more
 
-  entries_of-next : (lines : List (ℕ × Line T)) (n : ℕ) (e : Entry T)
+  pub entries_of-next : (lines : List (ℕ × Line T)) (n : ℕ) (e : Entry T)
       → entries_of (lines ++ (n, Next e) ∷ []) ≡ entries_of lines ++ e ∷ []
   entries_of-next lines n e = entries_of-append lines ((n, Next e) ∷ [])
 
@@ -113,6 +116,7 @@ module _ {T O : Type 0} (name : T → O) where
             rw all (has_first j.log (map (named name) es) (named name e) leads.1.1.1),
             heard j.core.pool j'.core.pool e made ∙ ap (unheard_after (Next e)) leads.1.1.2,
             leads.1.1.3,
+            leads.1.1.4,
           ),
         ),
       )
@@ -138,8 +142,9 @@ module _ {T O : Type 0} (name : T → O) where
       (silent j.core.pool, (reaches j log leads, sym (rw adds at named)))
 
   pub noted_leads : (j : Journaling T O) (log log' : List (ℕ × Line T)) (n : ℕ) (e : Entry T)
-      → log' ≡ log ++ (n, Next e) ∷ [] → LeadsWith name j log e → LeadsTo name j log'
-  noted_leads j log log' n e is leads =
+      → log' ≡ log ++ (n, Next e) ∷ [] → IsOwnEntry e (calls_by n log) → LeadsWith name j log e
+      → LeadsTo name j log'
+  noted_leads j log log' n e is own leads =
       let lines = leads.0 in
       rw is (
         lines ++ (n, Next e) ∷ [],
@@ -150,6 +155,7 @@ module _ {T O : Type 0} (name : T → O) where
             rw (entries_of-next lines n e) leads.1.1.1,
             leads.1.1.2 ∙ sym (unheard-grows log n (Next e)),
             tells_on log n (Next e) (λ w is. absurd (let no : Next e ≡ Told w = is in cc)) leads.1.1.3,
+            step_names_on log n e own leads.1.1.4,
           ),
         ),
       )
@@ -157,14 +163,14 @@ module _ {T O : Type 0} (name : T → O) where
   -- the line that was noted is that of the step
   pub leads_on : (j j' : Journaling T O) (log log' : List (ℕ × Line T)) (n : ℕ) (e : Entry T) (line : Line T)
       → Notes (named name e) j j' → IsNext (λ x. x ≡ e) line → log' ≡ log ++ (n, line) ∷ []
-      → Steps j.core.pool e j'.core.pool → LeadsTo name j log → LeadsTo name j' log'
-  leads_on j j' log log' n e line notes same is made leads =
+      → IsOwnEntry e (calls_by n log) → Steps j.core.pool e j'.core.pool → LeadsTo name j log → LeadsTo name j' log'
+  leads_on j j' log log' n e line notes same is own made leads =
       noted_leads j' log log' n e
-      (is ∙ ap (λ (l : Line T). log ++ (n, l) ∷ []) (same.1.0 ∙ ap Next same.1.1))
+      (is ∙ ap (λ (l : Line T). log ++ (n, l) ∷ []) (same.1.0 ∙ ap Next same.1.1)) own
       (leads_with j j' log e notes made leads)
 
   pub is_legal : (j : Journaling T O) (log : List (ℕ × Line T)) → LeadsTo name j log → IsLegal log
-  is_legal j log leads = ((silent j.core.pool, reaches j log leads), leads.1.1.3)
+  is_legal j log leads = ((silent j.core.pool, reaches j log leads), leads.1.1.3, leads.1.1.4)
 
   -- nobody in a queue is due to be told
   pub queues_are_told : (j : Journaling T O) (log : List (ℕ × Line T)) → LeadsTo name j log
@@ -243,6 +249,7 @@ module _ {T O : Type 0} (name : T → O) where
             rw (entries_of-silent lines n (Told w) refl) leads.1.1.1,
             told ∙ ap (unheard_after {T = T} (Told w)) leads.1.1.2 ∙ sym (unheard-grows log n (Told w)),
             tells_on log n line (λ v is. rw (wake_of w v line refl is) at due) leads.1.1.3,
+            names_on log n line (λ e made. absurd (let no : line ≡ Next e = made in cc)) leads.1.1.4,
           ),
         ),
       )
@@ -262,6 +269,7 @@ module _ {T O : Type 0} (name : T → O) where
             rw (entries_of-silent lines n line refl) leads.1.1.1,
             leads.1.1.2 ∙ sym (unheard-grows log n line),
             tells_on log n line (λ w told. absurd (let no : line ≡ Told w = told in cc)) leads.1.1.3,
+            names_on log n line (λ e made. absurd (let no : line ≡ Next e = made in cc)) leads.1.1.4,
           ),
         ),
       )

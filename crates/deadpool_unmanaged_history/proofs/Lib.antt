@@ -4,5 +4,7 @@ pub mod First
 pub mod Heard
 pub mod Leads
 pub mod Objects
+pub mod Own
 pub mod Turns
+pub mod Waiting
 pub mod Words

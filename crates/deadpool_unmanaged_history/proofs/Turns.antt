@@ -4,12 +4,12 @@ use Rattle.deadpool_unmanaged_history.proofs.Words.{IsDueAfter, Line, TellsInTur
 use Rattle.deadpool_unmanaged_history.specs.declared.line.Line.TheVariants.{Opening, Told}
 
 module _ {X : Type 0} where
-  nothing_before : (xs ys : List X) (y : X) → [] ≡ xs ++ y ∷ ys → ⊥
+  pub nothing_before : (xs ys : List X) (y : X) → [] ≡ xs ++ y ∷ ys → ⊥
   nothing_before [] ys y same = cc
   nothing_before (x ∷ xs) ys y same = cc
 
   -- An element of a list with one more at its end is that one, or stands before it.
-  last_or_before : (log before after : List X) (x y : X) → log ++ x ∷ [] ≡ before ++ y ∷ after
+  pub last_or_before : (log before after : List X) (x y : X) → log ++ x ∷ [] ≡ before ++ y ∷ after
       → ((log ≡ before) × (x ≡ y)) ⊎ ((rest : List X) × (log ≡ before ++ y ∷ rest))
   last_or_before [] [] after x y same = let is : x ≡ y = cc in inl (refl, is)
   last_or_before [] (b ∷ before) after x y same =

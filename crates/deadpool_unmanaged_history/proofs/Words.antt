@@ -12,7 +12,7 @@ pub use Rattle.std.proofs.lemmas.Option.{slice_get-get_or}
 pub use Rattle.std.proofs.Math.Seq.{get_or-append_seam}
 pub use Rattle.std.specs.Option.{option_or}
 pub use Rattle.std.specs.declared.alloc.AllocError.{AllocError}
-pub use Rattle.deadpool_chronicle.specs.History.{Calls, Knowing}
+pub use Rattle.deadpool_chronicle.specs.History.{Calls, Knowing, calls_by}
 pub use Rattle.deadpool_unmanaged.specs.{State.State, State.CoreState, State.bounded, State.last_idle, State.opened}
 pub use Rattle.deadpool_unmanaged.specs.{State.size, State.settled, State.has_due, State.due_get, State.due_add}
 pub use Rattle.deadpool_gate.specs.{Numbers.without_number, Numbers.most_handles, Waking.next_due}

@@ -19,6 +19,7 @@ use Rattle.deadpool_unmanaged_journal.specs.declared.entry.Entry.TheVariants.{Ma
 use Rattle.deadpool_unmanaged_journal.specs.declared.journal.Journal.{Journal}
 use Rattle.deadpool_unmanaged_journal.specs.declared.tally.Tally.{Tally}
 use Rattle.deadpool_unmanaged_history.specs.Awaited.{awaited, is_drain_due}
+use Rattle.deadpool_unmanaged_history.specs.Own.{EachNamesOwn}
 use Rattle.deadpool_unmanaged_history.specs.Telling.{ThenTells}
 use Rattle.deadpool_unmanaged_history.specs.Unheard.{unheard, unheard_after, unnotified_of}
 use Rattle.deadpool_unmanaged_history.specs.declared.line.Line.{Line}
@@ -72,9 +73,10 @@ module _ {T : Type 0} where
       (before after : List (ℕ × Line T)) (by : ℕ) (wake : Wake) → log ≡ before ++ (by, Told wake) ∷ after
       → IsDueAfter before wake
 
-  -- Each step is one of the pool, and nobody was told who was not due.
+  -- Each step is one of the pool, and names only the ticket under which its maker waits. Nobody was told who was not
+  -- due.
   abbrev pub IsLegal : List (ℕ × Line T) → Type 0
-  IsLegal log = ((last : State T) × Reaches log last) × TellsInTurn log
+  IsLegal log = ((last : State T) × Reaches log last) × TellsInTurn log × EachNamesOwn log
 
   -- The history is legal, and at its end nobody in a queue is due to be told: each get that was granted an object, each
   -- add that was granted room, and all of them if the pool had closed, were told, have asked or have left.
@@ -150,7 +152,8 @@ module _ {T O : Type 0} (name : T → O) where
 
   -- The history says how the pool opened, and its steps lead, one after the other, from there to the state that it has.
   -- The tally counts these steps, and the journal has the first of them. Those in the queues that the pool has not told
-  -- are those that the history has not, and nobody was told who was not due.
+  -- are those that the history has not, and nobody was told who was not due. Each names only the ticket under which it
+  -- waits.
   abbrev pub LeadsTo : Journaling T O → List (ℕ × Line T) → Type 0
   LeadsTo j log =
       (lines : List (ℕ × Line T)) × (IsHistoryOf j.limit j.max_waiting lines log
@@ -158,7 +161,8 @@ module _ {T O : Type 0} (name : T → O) where
       (silent j.core.pool) j.tally
       × HasFirst j.log (map named (entries_of lines))
       × (unnotified_of j.core.pool ≡ unheard log)
-      × TellsInTurn log))
+      × TellsInTurn log
+      × EachNamesOwn log))
 
   -- The history leads there with this entry at its end.
   abbrev pub LeadsWith : Journaling T O → List (ℕ × Line T) → Entry T → Type 0
@@ -168,7 +172,8 @@ module _ {T O : Type 0} (name : T → O) where
       (silent j.core.pool) j.tally
       × HasFirst j.log (map named (entries_of lines ++ e ∷ []))
       × (unnotified_of j.core.pool ≡ unheard_after (Next e) (unheard log))
-      × TellsInTurn log))
+      × TellsInTurn log
+      × EachNamesOwn log))
 
 -- a pool, and the history of its callers
 pub record Recording (T O : Type 0) : Type 0 where

@@ -6,9 +6,13 @@ pub mod Unheard
 pub mod Awaited
 -- What a caller has seen by the end of its calls.
 pub mod Telling
+-- Under which ticket a caller waits.
+pub mod Own
 -- The history that leads to a state.
 pub mod History
 -- Polls of gets and adds, to their caller.
 pub mod Polls
+-- Who waits under which ticket.
+pub mod Waiting
 -- Who has closed the pool.
 pub mod Closers

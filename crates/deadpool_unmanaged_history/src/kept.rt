@@ -32,6 +32,8 @@ impl<T: Drop> KeepsState<T> for Core<T> {
 
     fn closers_stay() {}
 
+    fn waiters_stay() {}
+
     fn admit(&mut self, _caller: &mut ()) -> () {}
 
     #[inline(always)]
@@ -95,6 +97,7 @@ impl<T: Drop, K: Naming<T>, H: Chronicle> KeepsState<T> for Recorded<T, K, H> {
     ghost use Rattle.deadpool_unmanaged_history.specs.Awaited.{awaited};
     ghost use Rattle.deadpool_unmanaged_history.specs.Closers.{IsCloser};
     ghost use Rattle.deadpool_unmanaged_history.specs.History.{AllAreTold, HasCalled};
+    ghost use Rattle.deadpool_unmanaged_history.specs.Own.{waits_in};
 
     type Caller = Caller<Line<T>, H>;
 
@@ -112,9 +115,13 @@ impl<T: Drop, K: Naming<T>, H: Chronicle> KeepsState<T> for Recorded<T, K, H> {
 
     ghost has_closed = { IsCloser };
 
+    ghost waits = { λ caller wake. waits_in caller.mine ≡ Some wake };
+
     fn keeps_all() {}
 
     fn closers_stay() {}
+
+    fn waiters_stay() {}
 
     fn admit(&mut self, caller: &mut Caller<Line<T>, H>) -> Caller<Line<T>, H> {
         Recorded::admit(self, caller)

@@ -3,6 +3,7 @@
 
 mod keeps_state;
 mod kept;
+pub mod laws;
 mod line;
 mod recorded;
 

@@ -1,5 +1,5 @@
 //! A pool's state, with the history that leads to it.
-ghost use Rattle.std.specs.Prelude.{◌≡◌, ◌+◌, [], ◌∷◌, ◌++◌, IfOk, false, nat_lt, not};
+ghost use Rattle.std.specs.Prelude.{◌≡◌, ◌+◌, [], ◌∷◌, ◌++◌, Some, IfOk, IfSome, false, nat_lt, not};
 ghost use Rattle.std.specs.Option.{option_or};
 ghost use mathlib.Core.List.{IsPrefix};
 ghost use Rattle.deadpool_chronicle.specs.History.{Calls, calls_by};
@@ -19,6 +19,8 @@ ghost use Rattle.deadpool_unmanaged_journal.specs.declared.owner_step.OwnerStep.
 ghost use Rattle.deadpool_unmanaged_history.specs.Awaited.{awaited};
 ghost use Rattle.deadpool_unmanaged_history.specs.History.{HasCalled, IsBeginning, IsLegal, IsNext, QueuesAreTold};
 ghost use Rattle.deadpool_unmanaged_history.specs.History.{IsTallyOf, LeadsTo, object_of, told_by};
+ghost use Rattle.deadpool_unmanaged_history.specs.Own.{named_by, waits_in};
+ghost use Rattle.deadpool_unmanaged_history.specs.Waiting.{IsTicketKnown};
 ghost use Rattle.deadpool_unmanaged_history.specs.declared.line.Line.TheVariants as line;
 ghost use Rattle.deadpool_unmanaged_history.specs.declared.line.Wake.TheVariants as wake;
 
@@ -131,7 +133,8 @@ impl<T: Drop, K: Naming<T>, H: Chronicle> Recorded<T, K, H> {
         (Recorded { pool, author }, beginning)
     }
 
-    /// Makes a step of a get, an add or an object, which is one entry more of its caller's.
+    /// Makes a step of a get, an add or an object, which is one entry more of its caller's. If it names a ticket, the
+    /// caller waits under that by its own entries. So the pool knows the ticket.
     #[inline(always)]
     pub fn make(
         &mut self,
@@ -140,6 +143,7 @@ impl<T: Drop, K: Naming<T>, H: Chronicle> Recorded<T, K, H> {
         hand: &mut Option<T>,
     ) -> Reply
         requires brings { Brings step.now hand.old }
+        requires named { IfSome (named_by step.now) (λ wake. waits_in caller.old.mine ≡ Some wake) }
         ensures made { MakesNoted K.name_of
             self.old.pool step.now hand.old result hand.new self.new.pool }
         ensures fits { IsReplyTo step.now result }
@@ -151,6 +155,7 @@ impl<T: Drop, K: Naming<T>, H: Chronicle> Recorded<T, K, H> {
         ensures called { HasCalled
             (λ e. e ≡ entry.Made step.now (option_or hand.old hand.new) result)
             caller.old caller.new }
+        ensures known { IsTicketKnown (entry.Made step.now (option_or hand.old hand.new) result) }
     {
         let Recorded { pool, author, .. } = self;
         let reply = pool.make(step, hand);
@@ -403,6 +408,7 @@ fn note_step<T: Drop, K: Naming<T>, H: Chronicle>(
         ≡ entry.Made step.now (object_of pool.now.core.pool reply.now hand.now) reply.now))
         author.old.log caller.old author.new.log caller.new }
     ensures seen { IsPrefix caller.old.seen author.old.log }
+    ensures mine { calls_by caller.old.number author.old.log ≡ caller.old.mine }
 {
     let left = Left {
         pool,

@@ -1,7 +1,9 @@
 -- Gets and adds of a pool, as contracts see them, and what a poll of one is to its caller.
-use Rattle.std.specs.Prelude.{◌≡◌, Option, Some, None, Result, Ok, Err}
+use Rattle.std.specs.Prelude.{◌≡◌, ⊤, ℕ, Option, Some, None, IsSomeAnd, Result, Ok, Err}
 use Rattle.futures.specs.declared.task.Poll.{Poll}
 use Rattle.futures.specs.declared.task.Poll.TheVariants.{Ready, Pending}
+use Rattle.deadpool_lock.specs.declared.request.Stage.{Stage as Future}
+use Rattle.deadpool_lock.specs.declared.request.Stage.TheVariants.{Asking}
 use Rattle.deadpool_parts.specs.declared.moment.Moment.{Moment}
 use Rattle.deadpool_parts.specs.declared.moment.Runtime.{Runtime}
 use Rattle.std.specs.declared.time.Duration.{Duration}
@@ -32,6 +34,11 @@ getting timeout = record { stage = get_stage.Unpolled timeout; caller = None }
 
 abbrev pub adding : {T C : Type 0} → T → Add T C
 adding value = record { stage = add_stage.Unpolled value; caller = None }
+
+-- While its future asks, its caller waits under the ticket that it has. The relation says under which each waits.
+abbrev pub WaitsWhile : {K C : Type 0} → (C → ℕ → Type 0) → Future K → Option ℕ → Option C → Type 0
+WaitsWhile waits (Asking kept) (Some ticket) caller = IsSomeAnd caller (λ c. waits c ticket)
+WaitsWhile waits _ _ caller = ⊤
 
 -- A pool's `tells` says of a caller and its calls that by their end it has seen a moment at which all are told.
 module _ {O T C : Type 0} (value_of : O → T) (caller_of : O → C) where

@@ -1,11 +1,14 @@
 //! What the futures of a pool ask: an object, one that leaves for good, or room.
 ghost use Rattle.std.specs.Prelude.{◌≡◌, Some, Err, IfOk, IfErr, IfSome};
 ghost use Rattle.deadpool_lock.specs.Asked.{IfRefused};
+ghost use Rattle.deadpool_unmanaged.specs.Adds as adds;
 ghost use Rattle.deadpool_unmanaged.specs.Adds.{held_by, IsUnpolled};
+ghost use Rattle.deadpool_unmanaged.specs.Gets as gets;
 ghost use Rattle.deadpool_unmanaged.specs.declared.error.PoolError.TheVariants.{OutOfMemory};
 ghost use Rattle.deadpool_unmanaged_history.specs.Telling.{ThenTells};
+ghost use Rattle.deadpool_unmanaged_history.specs.declared.line.Wake.TheVariants as wake;
 ghost use Rattle.deadpool_unmanaged_shared.specs.Asking.{CancelsAddFrom, CancelsFrom, PollsAddFrom, PollsFrom};
-ghost use Rattle.deadpool_unmanaged_shared.specs.Asking.{PollsToRemove, adding, getting};
+ghost use Rattle.deadpool_unmanaged_shared.specs.Asking.{PollsToRemove, WaitsWhile, adding, getting};
 
 use crate::object::Object;
 use crate::shared::Shared;
@@ -62,6 +65,10 @@ impl<T: Drop, C: Clock, R: Wait + Drop, S: KeepsState<T>> Request for Getting<T,
     // The caller that gave it up.
     type Left = S::Caller;
 
+    // While it asks, the ticket that it has is its caller's own.
+    ghost fits = { λ stage get.
+        WaitsWhile (λ c t. S.waits c (wake.Get t)) stage (gets.ticket_of get.stage) get.caller };
+
     ghost gives = { λ _ home ended. IfOk ended (λ object. object.home ≡ home) };
 
     ghost refuses = { λ _ ended. ended ≡ Err OutOfMemory };
@@ -80,6 +87,7 @@ impl<T: Drop, C: Clock, R: Wait + Drop, S: KeepsState<T>> Request for Getting<T,
         registered: &mut Registered,
         cx: &mut Context<'_>,
     ) -> Poll<Result<Object<T, C, R, S>, PoolError>> {
+        S::waiters_stay();
         let now = shared.clock.now();
         let mut step = shared.lock.begin();
         let mut caller = step.kept().supply(self.caller.take());
@@ -168,6 +176,9 @@ impl<T: Drop, C: Clock, R: Wait + Drop, S: KeepsState<T>> Request for Removing<T
 
     type Left = S::Caller;
 
+    ghost fits = { λ stage get.
+        WaitsWhile (λ c t. S.waits c (wake.Get t)) stage (gets.ticket_of get.stage) get.caller };
+
     ghost refuses = { λ _ ended. ended ≡ Err OutOfMemory };
 
     ghost use Rattle.deadpool_unmanaged_shared.specs.declared.object.Object.{Object as Out};
@@ -251,8 +262,9 @@ impl<T: Drop, C: Clock, R: Wait + Drop, S: KeepsState<T>> Request for Adding<T, 
     // Its object, and the caller that gave it up.
     type Left = (Option<T>, S::Caller);
 
-    // One that was refused was not polled.
-    ghost fits = { λ stage add. IfRefused stage (IsUnpolled add.stage) };
+    // One that was refused was not polled. While it asks, the ticket that it has is its caller's own.
+    ghost fits = { λ stage add. IfRefused stage (IsUnpolled add.stage)
+        × WaitsWhile (λ c t. S.waits c (wake.Add t)) stage (adds.ticket_of add.stage) add.caller };
 
     // Where it is refused it hands its own object back.
     ghost gives = { λ add _ ended. IfErr ended (λ refused. held_by add.stage ≡ Some refused.0) };
@@ -272,6 +284,7 @@ impl<T: Drop, C: Clock, R: Wait + Drop, S: KeepsState<T>> Request for Adding<T, 
         registered: &mut Registered,
         _cx: &mut Context<'_>,
     ) -> Poll<Result<(), (T, PoolError)>> {
+        S::waiters_stay();
         let mut step = shared.lock.begin();
         let mut caller = step.kept().supply(self.caller.take());
         let (polled, spare) = step

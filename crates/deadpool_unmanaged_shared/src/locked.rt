@@ -10,6 +10,7 @@ ghost use Rattle.deadpool_unmanaged.specs.StateSteps.{Does};
 ghost use Rattle.deadpool_unmanaged.specs.Replies.{Leaves};
 ghost use Rattle.deadpool_unmanaged.specs.declared.step.Step.TheVariants.{Back, Take};
 ghost use Rattle.deadpool_unmanaged_history.specs.Polls.{CancelsAdd, CancelsGet};
+ghost use Rattle.deadpool_unmanaged_history.specs.declared.line.Wake.TheVariants as wake;
 ghost use Rattle.futures.specs.Poll.{OnPending};
 ghost use Rattle.deadpool_unmanaged_journal.specs.OwnerSteps.{DoesForOwner, IsOwnerReplyTo};
 ghost use Rattle.deadpool_unmanaged_journal.specs.declared.entry.Entry.TheVariants as entry;
@@ -88,7 +89,8 @@ impl<T: Drop, S: KeepsState<T>> Locked<T, S> {
     }
 
     /// One poll of a get, and the waker that is to be let go with the lock given back. While it waits its waker is
-    /// kept. If it would join the queue and there is no waker, or no memory for it, no step is made and it has ended.
+    /// kept, and its ticket is the caller's own. If it would join the queue and there is no waker, or no memory for it,
+    /// no step is made and it has ended.
     pub fn poll_get(
         &mut self,
         caller: &mut S::Caller,
@@ -97,6 +99,8 @@ impl<T: Drop, S: KeepsState<T>> Locked<T, S> {
         now: Moment,
         registered: &mut Registered,
     ) -> (Poll<Result<T, PoolError>>, Option<Waker>)
+        requires own { IfSome (gets.ticket_of get.old) (λ t. S.waits caller.old (wake.Get t)) }
+        ensures own { IfSome (gets.ticket_of get.new) (λ t. S.waits caller.new (wake.Get t)) }
         ensures polls { PollsGet runtime now get.old (S.state_of self.old.state).pool result.0
             get.new (S.state_of self.new.state).pool }
         ensures waits { FollowsOrRefuses (get_joins runtime now get.old (S.state_of self.old.state).pool)
@@ -122,6 +126,7 @@ impl<T: Drop, S: KeepsState<T>> Locked<T, S> {
 
     /// A get is given up. The answer is the waker that was kept for it.
     pub fn cancel_get(&mut self, caller: &mut S::Caller, get: GetState) -> Option<Waker>
+        requires own { IfSome (gets.ticket_of get) (λ t. S.waits caller.old (wake.Get t)) }
         ensures cancels { gets.CancelsGet get (S.state_of self.old.state).pool
             (S.state_of self.new.state).pool }
         ensures waker { Follows (gets.ticket_of get)
@@ -137,14 +142,16 @@ impl<T: Drop, S: KeepsState<T>> Locked<T, S> {
     }
 
     /// One poll of an add, and the waker that is to be let go with the lock given back. While it waits its waker is
-    /// kept. If it would join the queue and there is no waker, or no memory for it, no step is made, and its object
-    /// comes back.
+    /// kept, and its ticket is the caller's own. If it would join the queue and there is no waker, or no memory for it,
+    /// no step is made, and its object comes back.
     pub fn poll_add(
         &mut self,
         caller: &mut S::Caller,
         add: &mut AddState<T>,
         registered: &mut Registered,
     ) -> (Poll<Result<(), (T, PoolError)>>, Option<Waker>)
+        requires own { IfSome (adds.ticket_of add.old) (λ t. S.waits caller.old (wake.Add t)) }
+        ensures own { IfSome (adds.ticket_of add.new) (λ t. S.waits caller.new (wake.Add t)) }
         ensures polls { PollsAdd add.old (S.state_of self.old.state).pool result.0
             add.new (S.state_of self.new.state).pool }
         ensures waits { FollowsOrRefuses (add_joins add.old (S.state_of self.old.state).pool)
@@ -175,6 +182,7 @@ impl<T: Drop, S: KeepsState<T>> Locked<T, S> {
         caller: &mut S::Caller,
         add: AddState<T>,
     ) -> (Option<T>, Option<Waker>)
+        requires own { IfSome (adds.ticket_of add) (λ t. S.waits caller.old (wake.Add t)) }
         ensures cancels { adds.CancelsAdd add (S.state_of self.old.state).pool
             (S.state_of self.new.state).pool }
         ensures value { result.0 ≡ adds.held_by add }

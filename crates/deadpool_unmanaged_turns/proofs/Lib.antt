@@ -1,4 +1,4 @@
 -- What the laws stand on.
 mod Entries
-mod InTurn
+pub mod InTurn
 mod Steps

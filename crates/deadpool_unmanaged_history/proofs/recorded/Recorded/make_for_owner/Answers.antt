@@ -15,7 +15,7 @@ invariant_of-self g c =
     let added = c.note.ensures.call.0 in
     leads_on g.K.Naming.name_of c.self.inside.pool c.make_for_owner-reply.new.self c.self.inside.author.log
     c.note.new.self.log c.args.caller.now.number (Owner c.args.step.now c.make_for_owner-reply.result) added.0
-    c.make_for_owner-reply.ensures.made.1 added.1.0 added.1.1 c.make_for_owner-reply.ensures.made.0 c.self.invariant
+    c.make_for_owner-reply.ensures.made.1 added.1.0 added.1.1 tt c.make_for_owner-reply.ensures.made.0 c.self.invariant
 
 pub returns-clause-called : goal.returns-clause-called
 returns-clause-called g c =
@@ -24,6 +24,7 @@ returns-clause-called g c =
     let added = c.note.ensures.call.0 in
     let leads = leads_on name c.self.inside.pool after c.self.inside.author.log c.note.new.self.log
     c.args.caller.now.number (Owner c.args.step.now c.make_for_owner-reply.result) added.0
-    c.make_for_owner-reply.ensures.made.1 added.1.0 added.1.1 c.make_for_owner-reply.ensures.made.0 c.self.invariant in
+    c.make_for_owner-reply.ensures.made.1 added.1.0 added.1.1 tt c.make_for_owner-reply.ensures.made.0
+    c.self.invariant in
     has_called name after (λ e. e ≡ Owner c.args.step.now c.make_for_owner-reply.result) c.self.inside.author.log
     c.note.new.self.log c.args.caller.now c.note.new.caller c.note.ensures.call c.note.ensures.seen leads

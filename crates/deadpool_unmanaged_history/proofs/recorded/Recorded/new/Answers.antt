@@ -1,6 +1,7 @@
 -- A new pool's history is its opening alone, which leads to the state that it has.
 use Rattle.deadpool_unmanaged_history.proofs.Words.{◌∙◌, [], ◌∷◌, ◌++◌, ap, silent, unnotified_of, IsLater, All-nil}
 use Rattle.deadpool_unmanaged_history.proofs.First.{has_no_tally, has_none}
+use Rattle.deadpool_unmanaged_history.proofs.Own.{opens_unowned}
 use Rattle.deadpool_unmanaged_history.proofs.Turns.{opens_untold}
 use Rattle.deadpool_unmanaged_history.proofs.recorded.Recorded.new.Goals as goal
 
@@ -22,6 +23,7 @@ invariant_of-result g c =
           has_none c.args.pool.log c.requires.unnoted,
           rw log (ap unnotified_of c.requires.opened),
           rw log (opens_untold n c.args.pool.limit c.args.pool.max_waiting),
+          rw log (opens_unowned n c.args.pool.limit c.args.pool.max_waiting),
         ),
       ),
     )
