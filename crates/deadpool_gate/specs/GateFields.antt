@@ -1,5 +1,5 @@
 -- How a gate's fields are seen as a line, and what they keep.
-use Rattle.std.specs.Prelude.{◌≡◌, ◌+◌, ◌-◌, ◌<◌, ◌^◌, min, List, length, None}
+use Rattle.std.specs.Prelude.{◌≡◌, ◌+◌, ◌<◌, ◌^◌, List, length, None}
 use Rattle.deadpool_gate.specs.Gate.{Waiter, Line, IsLine, granted_count, waiting_count}
 use Rattle.deadpool_gate.specs.GateLinks.{follow, first_ticket, last_ticket, first_failing, Stores}
 use Rattle.deadpool_gate.specs.declared.gate.Gate.TheInside.{Inside}
@@ -11,7 +11,7 @@ abbrev pub line_of : Inside → Line
 line_of gate = record {
   waiters = waiters_of gate;
   is_closed = gate.is_closed;
-  capacity = min gate.store.nodes.capacity (2 ^ 63 - 1);
+  capacity = gate.store.nodes.capacity;
   next_ticket = gate.store.nodes.vacant_key;
   accesses = gate.store.accesses;
   accesses_before = gate.accesses_before;

@@ -4,6 +4,7 @@
 pub mod Numbers
 pub mod Orders
 pub mod Queue
+pub mod Room
 pub mod Owners
 pub mod Waking
 -- The gate: one list of waiters.

@@ -1,6 +1,6 @@
 //! The line at a pool: those that found no place, in order of arrival, and what each of them was answered.
 
-ghost use Rattle.std.specs.Prelude.{◌≡◌, ℕ, ◌<◌, ◌≤◌, ◌^◌, ◌*◌, ◌++◌, [], true, false, not, IfSome, IfNone, is_some};
+ghost use Rattle.std.specs.Prelude.{◌≡◌, ℕ, ◌<◌, ◌≤◌, ◌^◌, ◌*◌, ◌++◌, [], true, false, not, IfSome, IfNone, is_some, IfOk};
 ghost use Rattle.std.specs.Prelude.{length, take, drop};
 ghost use Rattle.std.specs.Option.{option_map};
 ghost use Rattle.deadpool_gate.specs.Gate.{find_waiter, without_waiter, grant_next, grant, granted_count};
@@ -10,13 +10,14 @@ ghost use Rattle.deadpool_gate.specs.Gate.{tell_next, due_ticket, RisesAtMost, t
 ghost use Rattle.deadpool_gate.specs.GateLinks.{moved_on, ChangesAt};
 ghost use Rattle.deadpool_gate.specs.GateNodes.{changed};
 ghost use Rattle.deadpool_gate.specs.Numbers.{has_number};
+ghost use Rattle.deadpool_gate.specs.Room.{IsFull, most_next};
 ghost use Rattle.deadpool_gate.specs.Waking.{next_due, still_unnotified};
 ghost use Rattle.slab.specs.Slab.{slab_len};
 
 mod store;
 mod within;
 
-use std::alloc::Global;
+use std::alloc::{AllocError, Global};
 use std::marker::Model;
 use store::{Change, Node, NodeStore};
 
@@ -137,6 +138,7 @@ fn move_on(pointer: Option<usize>, key: usize, behind: Option<usize>) -> Option<
 fn link(store: &mut NodeStore, key: Option<usize>, change: Change)
     ensures changes { ChangesAt key (changed change) store.old.nodes store.new.nodes }
     ensures len { slab_len store.new.nodes ≡ slab_len store.old.nodes }
+    ensures room { store.new.nodes.capacity ≡ store.old.nodes.capacity }
     ensures accesses { RisesAtMost 1 store.old.accesses store.new.accesses }
 {
     if let Some(key) = key {
@@ -164,6 +166,22 @@ impl Gate {
         }
     }
 
+    /// The same with memory for so many waiters. It keeps that: what it has room for never falls.
+    pub fn with_room(alloc: Global, waiters: usize) -> Result<Self, AllocError>
+        ensures waiters { IfOk result (λ gate. gate.waiters ≡ []) }
+        ensures open { IfOk result (λ gate. gate.is_closed ≡ false) }
+        ensures touched { IfOk result (λ gate. touched gate ≡ 0) }
+        ensures room { IfOk result (λ gate. waiters ≤ gate.capacity) }
+    {
+        if waiters > usize::MAX / 2 {
+            return Err(AllocError);
+        }
+        Ok(Gate {
+            store: NodeStore::with_room(alloc, waiters)?,
+            ..Gate::new(alloc)
+        })
+    }
+
     /// Asks for one place if `room` of them are free, and joins the end of the list if none is and `wait` is set.
     /// A free place is taken without a look at the list, so settle first if others wait. A place that a listed waiter
     /// has is not free. After any answer but `Waiting` the list is as it was, and the caller may enter again.
@@ -174,9 +192,16 @@ impl Gate {
             (λ _. self.new.waiters ≡ self.old.waiters) }
         ensures joins { IfNone (entry_at_once self.old.is_closed room wait)
             (Joins self.old.waiters result self.new.waiters) }
-        ensures memory { result ≡ Entry.OutOfMemory → self.old.capacity ≤ length self.old.waiters }
+        ensures memory { result ≡ Entry.OutOfMemory
+            → IsFull self.old.capacity (length self.old.waiters) }
         ensures number { (ticket : ℕ)
             → result ≡ Entry.Waiting ticket → ticket ≡ self.old.next_ticket }
+        ensures below { (ticket : ℕ)
+            → result ≡ Entry.Waiting ticket → length self.old.waiters < self.old.capacity
+            → ticket < self.old.capacity }
+        ensures capacity { self.old.capacity ≤ self.new.capacity }
+        ensures enough { length self.old.waiters < self.old.capacity
+            → self.new.capacity ≡ self.old.capacity }
         ensures closed { self.new.is_closed ≡ self.old.is_closed }
         ensures accesses { RisesAtMost 2 self.old.accesses self.new.accesses }
         ensures before { self.new.accesses_before ≡ self.old.accesses }
@@ -216,10 +241,33 @@ impl Gate {
         self.store.next_key()
     }
 
+    /// How many waiters it can list before it has to find memory. It never falls.
+    pub fn room(&self) -> usize
+        ensures { result ≡ self.now.capacity }
+    {
+        self.store.room()
+    }
+
+    /// The greatest number that the next waiter's ticket may have. If there is room for that waiter it is below the
+    /// room.
+    pub fn most_next_number(&self) -> usize
+        ensures { result
+            ≡ most_next self.now.capacity (length self.now.waiters) self.now.next_ticket }
+    {
+        let room = self.room();
+        let listed = self.granted() + self.waiting();
+        if listed < room {
+            room - 1
+        } else {
+            self.next_number()
+        }
+    }
+
     // Gives a place to the earliest waiter without one.
     fn grant_one(&mut self)
         ensures waiters { self.new.waiters ≡ grant_next self.old.waiters }
         ensures closed { self.new.is_closed ≡ self.old.is_closed }
+        ensures capacity { self.new.capacity ≡ self.old.capacity }
         ensures accesses { RisesAtMost 2 self.old.accesses self.new.accesses }
         ensures before { self.new.accesses_before ≡ self.old.accesses_before }
     {
@@ -246,6 +294,7 @@ impl Gate {
             ≡ drop result (waiting_tickets self.old.waiters) }
         ensures unnotified { unnotified_tickets self.new.waiters ≡ unnotified_tickets self.old.waiters }
         ensures closed { self.new.is_closed ≡ self.old.is_closed }
+        ensures capacity { self.new.capacity ≡ self.old.capacity }
         ensures accesses { RisesAtMost (2 * result) self.old.accesses self.new.accesses }
         ensures before { self.new.accesses_before ≡ self.old.accesses }
     {
@@ -266,6 +315,7 @@ impl Gate {
         ensures was { result ≡ option_map (λ w. w.granted) (find_waiter key self.old.waiters) }
         ensures waiters { self.new.waiters ≡ without_waiter key self.old.waiters }
         ensures closed { self.new.is_closed ≡ self.old.is_closed }
+        ensures capacity { self.new.capacity ≡ self.old.capacity }
         ensures line { IsLine self.old.is_closed self.old.waiters }
         ensures accesses { RisesAtMost 3 self.old.accesses self.new.accesses }
         ensures before { self.new.accesses_before ≡ self.old.accesses_before }
@@ -287,6 +337,7 @@ impl Gate {
         ensures value { result ≡ option_map (λ w. w.granted) (find_waiter key self.old.waiters) }
         ensures waiters { self.new.waiters ≡ self.old.waiters }
         ensures closed { self.new.is_closed ≡ self.old.is_closed }
+        ensures capacity { self.new.capacity ≡ self.old.capacity }
         ensures accesses { RisesAtMost 1 self.old.accesses self.new.accesses }
         ensures before { self.new.accesses_before ≡ self.old.accesses_before }
     {
@@ -318,6 +369,7 @@ impl Gate {
             ≡ answer_of self.old.is_closed (find_waiter ticket self.old.waiters) }
         ensures waiters { self.new.waiters ≡ asked self.old.is_closed ticket self.old.waiters }
         ensures closed { self.new.is_closed ≡ self.old.is_closed }
+        ensures capacity { self.new.capacity ≡ self.old.capacity }
         ensures line { IsLine self.old.is_closed self.old.waiters }
         ensures accesses { RisesAtMost 4 self.old.accesses self.new.accesses }
         ensures before { self.new.accesses_before ≡ self.old.accesses }
@@ -345,6 +397,7 @@ impl Gate {
         ensures answer { result ≡ withdrawn_as (find_waiter ticket self.old.waiters) }
         ensures waiters { self.new.waiters ≡ without_waiter ticket self.old.waiters }
         ensures closed { self.new.is_closed ≡ self.old.is_closed }
+        ensures capacity { self.new.capacity ≡ self.old.capacity }
         ensures line { IsLine self.old.is_closed self.old.waiters }
         ensures accesses { RisesAtMost 3 self.old.accesses self.new.accesses }
         ensures before { self.new.accesses_before ≡ self.old.accesses }
@@ -362,6 +415,7 @@ impl Gate {
     pub fn close(&mut self)
         ensures waiters { self.new.waiters ≡ self.old.waiters }
         ensures closed { self.new.is_closed ≡ true }
+        ensures capacity { self.new.capacity ≡ self.old.capacity }
         ensures accesses { self.new.accesses ≡ self.old.accesses }
         ensures before { self.new.accesses_before ≡ self.old.accesses }
     {
@@ -381,6 +435,7 @@ impl Gate {
         ensures unnotified { unnotified_tickets self.new.waiters
             ≡ still_unnotified result (unnotified_tickets self.old.waiters) }
         ensures closed { self.new.is_closed ≡ self.old.is_closed }
+        ensures capacity { self.new.capacity ≡ self.old.capacity }
         ensures accesses { RisesAtMost 2 self.old.accesses self.new.accesses }
         ensures before { self.new.accesses_before ≡ self.old.accesses }
     {

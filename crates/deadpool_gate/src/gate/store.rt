@@ -4,6 +4,7 @@ ghost use Rattle.std.specs.Prelude.{◌≡◌, ◌+◌, ◌-◌, ◌<◌, ◌≤
 ghost use Rattle.std.specs.Prelude.{IfNone};
 ghost use Rattle.std.specs.Option.{option_map};
 ghost use Rattle.deadpool_gate.specs.GateNodes.{changed};
+ghost use Rattle.deadpool_gate.specs.Room.{IsFull};
 ghost use Rattle.slab.specs.Slab.{get, slab_len, Updates};
 
 use slab::Slab;
@@ -62,6 +63,25 @@ impl NodeStore {
         }
     }
 
+    /// No nodes, and memory for so many.
+    pub fn with_room(alloc: Global, nodes: usize) -> Result<Self, AllocError>
+        ensures nodes { IfOk result (λ store. store.nodes.slots ≡ []) }
+        ensures room { IfOk result (λ store. nodes ≤ store.nodes.capacity) }
+        ensures accesses { IfOk result (λ store. store.accesses ≡ 0) }
+    {
+        Ok(NodeStore {
+            nodes: Slab::with_capacity(alloc, nodes)?,
+            accesses: 0,
+        })
+    }
+
+    /// How many nodes there is memory for.
+    pub fn room(&self) -> usize
+        ensures { result ≡ self.now.nodes.capacity }
+    {
+        self.nodes.capacity()
+    }
+
     /// How many accesses there were so far. It never falls; at the greatest number it stays.
     pub fn accesses(&self) -> u128
         ensures { result ≡ self.now.accesses }
@@ -92,6 +112,7 @@ impl NodeStore {
         ensures updates { Updates self.old.nodes self.new.nodes key
             (option_map (changed change) (get self.old.nodes key)) }
         ensures len { slab_len self.new.nodes ≡ slab_len self.old.nodes }
+        ensures room { self.new.nodes.capacity ≡ self.old.nodes.capacity }
         ensures accesses { self.new.accesses ≡ min (self.old.accesses + 1) (2 ^ 128 - 1) }
         ensures rises { self.old.accesses ≤ self.new.accesses }
     {
@@ -112,7 +133,11 @@ impl NodeStore {
         ensures few { OnOk result (slab_len self.new.nodes < 2 ^ 63) }
         ensures unchanged { OnErr result (self.new.nodes.slots ≡ self.old.nodes.slots) }
         ensures full { OnErr result
-            (min self.old.nodes.capacity (2 ^ 63 - 1) ≤ slab_len self.old.nodes) }
+            (IsFull self.old.nodes.capacity (slab_len self.old.nodes)) }
+        ensures room { self.old.nodes.capacity ≤ self.new.nodes.capacity }
+        ensures enough { slab_len self.old.nodes < self.old.nodes.capacity
+            → self.new.nodes.capacity ≡ self.old.nodes.capacity }
+        ensures below { IfOk result (λ key. key < self.new.nodes.capacity) }
         ensures accesses { self.new.accesses ≡ min (self.old.accesses + 1) (2 ^ 128 - 1) }
         ensures rises { self.old.accesses ≤ self.new.accesses }
     {
@@ -132,6 +157,7 @@ impl NodeStore {
         ensures updates { Updates self.old.nodes self.new.nodes key None }
         ensures len { OnSome result (slab_len self.new.nodes + 1 ≡ slab_len self.old.nodes) }
         ensures none { IfNone result (self.new.nodes ≡ self.old.nodes) }
+        ensures room { self.new.nodes.capacity ≡ self.old.nodes.capacity }
         ensures accesses { self.new.accesses ≡ min (self.old.accesses + 1) (2 ^ 128 - 1) }
         ensures rises { self.old.accesses ≤ self.new.accesses }
     {

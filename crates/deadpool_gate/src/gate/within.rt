@@ -33,6 +33,7 @@ impl Gate {
             ≡ members (queue_of self.old.waiters) }
         ensures unnotified { unnotified_tickets self.new.waiters ≡ unnotified_tickets self.old.waiters }
         ensures closed { self.new.is_closed ≡ self.old.is_closed }
+        ensures capacity { self.new.capacity ≡ self.old.capacity }
         ensures quiet { waiting_tickets self.old.waiters ≡ [] → self.new ≡ self.old }
         ensures accesses { RisesAtMost (2 * free_of total held (queue_of self.old.waiters))
             self.old.accesses self.new.accesses }

@@ -8,6 +8,7 @@ abbrev pub invariant-loop-given : goal.invariant-loop-given
 invariant-loop-given l = record {
   waiters : l.self.waiters ≡ grant l._given l.initial.self.waiters;
   closed : l.self.is_closed ≡ l.initial.self.is_closed;
+  capacity : l.self.capacity ≡ l.initial.self.capacity;
   accesses : RisesAtMost (2 * l._given) l.initial.self.accesses l.self.accesses;
   before : l.self.accesses_before ≡ l.initial.self.accesses_before;
 }
