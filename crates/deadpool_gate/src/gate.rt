@@ -1,6 +1,6 @@
 //! The line at a pool: those that found no place, in order of arrival, and what each of them was answered.
 
-ghost use Rattle.std.specs.Prelude.{◌≡◌, ℕ, ◌<◌, ◌≤◌, ◌^◌, ◌*◌, ◌++◌, [], true, false, not, IfSome, IfNone, is_some, IfOk};
+ghost use Rattle.std.specs.Prelude.{◌≡◌, ℕ, ◌<◌, ◌≤◌, ◌^◌, ◌*◌, ◌++◌, [], true, false, not, IfSome, IfNone, is_some, OnOk};
 ghost use Rattle.std.specs.Prelude.{length, take, drop};
 ghost use Rattle.std.specs.Option.{option_map};
 ghost use Rattle.deadpool_gate.specs.Gate.{find_waiter, without_waiter, grant_next, grant, granted_count};
@@ -166,22 +166,6 @@ impl Gate {
         }
     }
 
-    /// The same with memory for so many waiters. It keeps that: what it has room for never falls.
-    pub fn with_room(alloc: Global, waiters: usize) -> Result<Self, AllocError>
-        ensures waiters { IfOk result (λ gate. gate.waiters ≡ []) }
-        ensures open { IfOk result (λ gate. gate.is_closed ≡ false) }
-        ensures touched { IfOk result (λ gate. touched gate ≡ 0) }
-        ensures room { IfOk result (λ gate. waiters ≤ gate.capacity) }
-    {
-        if waiters > usize::MAX / 2 {
-            return Err(AllocError);
-        }
-        Ok(Gate {
-            store: NodeStore::with_room(alloc, waiters)?,
-            ..Gate::new(alloc)
-        })
-    }
-
     /// Asks for one place if `room` of them are free, and joins the end of the list if none is and `wait` is set.
     /// A free place is taken without a look at the list, so settle first if others wait. A place that a listed waiter
     /// has is not free. After any answer but `Waiting` the list is as it was, and the caller may enter again.
@@ -239,6 +223,21 @@ impl Gate {
         ensures { result ≡ self.now.next_ticket }
     {
         self.store.next_key()
+    }
+
+    /// Sees that there is memory for so many waiters in all, those included that are listed. Without it, only the room
+    /// may have changed.
+    pub fn reserve(&mut self, waiters: usize) -> Result<(), AllocError>
+        ensures enough { OnOk result (waiters ≤ self.new.capacity) }
+        ensures capacity { self.old.capacity ≤ self.new.capacity }
+        ensures waiters { self.new.waiters ≡ self.old.waiters }
+        ensures closed { self.new.is_closed ≡ self.old.is_closed }
+        ensures next { self.new.next_ticket ≡ self.old.next_ticket }
+        ensures accesses { self.new.accesses ≡ self.old.accesses }
+        ensures before { self.new.accesses_before ≡ self.old.accesses }
+    {
+        self.accesses_before = self.store.accesses();
+        self.store.reserve(waiters)
     }
 
     /// How many waiters it can list before it has to find memory. It never falls.

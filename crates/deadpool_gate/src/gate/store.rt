@@ -63,16 +63,16 @@ impl NodeStore {
         }
     }
 
-    /// No nodes, and memory for so many.
-    pub fn with_room(alloc: Global, nodes: usize) -> Result<Self, AllocError>
-        ensures nodes { IfOk result (λ store. store.nodes.slots ≡ []) }
-        ensures room { IfOk result (λ store. nodes ≤ store.nodes.capacity) }
-        ensures accesses { IfOk result (λ store. store.accesses ≡ 0) }
+    /// Sees that there is memory for so many nodes in all. It is no access to a node.
+    pub fn reserve(&mut self, nodes: usize) -> Result<(), AllocError>
+        ensures enough { OnOk result (nodes ≤ self.new.nodes.capacity) }
+        ensures room { self.old.nodes.capacity ≤ self.new.nodes.capacity }
+        ensures slots { self.new.nodes.slots ≡ self.old.nodes.slots }
+        ensures next { self.new.nodes.vacant_key ≡ self.old.nodes.vacant_key }
+        ensures accesses { self.new.accesses ≡ self.old.accesses }
     {
-        Ok(NodeStore {
-            nodes: Slab::with_capacity(alloc, nodes)?,
-            accesses: 0,
-        })
+        let more = nodes.saturating_sub(self.nodes.len());
+        self.nodes.reserve_exact(more)
     }
 
     /// How many nodes there is memory for.
