@@ -1,12 +1,13 @@
 -- The steps of a core. What a step makes of the desk is the desk machine's. Beside it stands what becomes of those in
 -- the queue that were not told that their wait has ended: who comes is the last of them, who leaves is none of them,
 -- and none of the steps tells anybody.
-use Rattle.std.specs.Prelude.{◌≡◌, ◌≤◌, ℕ, ◌+◌, ⊤, List, [], ◌∷◌, ◌++◌, length, Option, Result}
+use Rattle.std.specs.Prelude.{◌≡◌, ◌≤◌, ℕ, ◌+◌, List, [], ◌∷◌, ◌++◌, length, Option, Result}
 use Rattle.std.specs.Option.{option_or}
 use Rattle.std.specs.declared.alloc.AllocError.{AllocError}
 use Rattle.deadpool_gate.specs.Numbers.{without_number}
+use Rattle.deadpool_gate.specs.Room.{IsFull, KeepsRoom}
 use Rattle.deadpool_gate.specs.Waking.{next_due, still_unnotified}
-use Rattle.deadpool_desk.specs.CoreState.{CoreState}
+use Rattle.deadpool_desk.specs.CoreState.{CoreState, listed}
 use Rattle.deadpool_desk.specs.DeskSteps as desk
 use Rattle.deadpool_desk.specs.Retains as desk_retains
 use Rattle.deadpool_desk.specs.Retained.{Retained}
@@ -30,17 +31,21 @@ unnotified_after (Withdraw ticket) Done unnotified = without_number ticket unnot
 unnotified_after _ _ unnotified = unnotified
 
 module _ {T : Type 0} where
-  -- Who joins the queue has the next ticket. Memory is wanting only where the queue had no room.
-  abbrev pub Queues : CoreState T → Step → Reply → Type 0
-  Queues c (Enter wait) (Waiting ticket) = ticket ≡ c.next_ticket
-  Queues c (Enter wait) OutOfMemory = c.queue_room ≤ length c.desk.granted + length c.desk.waiting
-  Queues c _ _ = ⊤
+  -- Who joins the queue has the next ticket, whose number is below the room if there was some. Memory is wanting only
+  -- where the queue had no room. Nothing else touches its room.
+  abbrev pub Queues : CoreState T → Step → Reply → CoreState T → Type 0
+  Queues c (Enter wait) (Waiting ticket) c' =
+      (ticket ≡ c.next_ticket) × (listed c < c.queue_room → ticket < c.queue_room)
+      × KeepsRoom (listed c) c.queue_room c'.queue_room
+  Queues c (Enter wait) OutOfMemory c' =
+      IsFull c.queue_room (listed c) × KeepsRoom (listed c) c.queue_room c'.queue_room
+  Queues c _ _ c' = c'.queue_room ≡ c.queue_room
 
   -- a step with the object that is taken or given
   abbrev pub Steps : CoreState T → Step → Option (Slot T) → Reply → CoreState T → Type 0
   Steps c step object reply c' =
       desk.Does c.desk step object reply c'.desk × (c'.unnotified ≡ unnotified_after step reply c.unnotified)
-      × Queues c step reply
+      × Queues c step reply c'
 
   -- the same, with what was in the hand, and what is in it then
   abbrev pub Makes : CoreState T → Step → Option (Slot T) → Reply → Option (Slot T) → CoreState T → Type 0
@@ -48,16 +53,20 @@ module _ {T : Type 0} where
 
   -- a step of the owner
   abbrev pub MakesForOwner : CoreState T → OwnerStep → OwnerReply → CoreState T → Type 0
-  MakesForOwner c step reply c' = desk.DoesForOwner c.desk step reply c'.desk × (c'.unnotified ≡ c.unnotified)
+  MakesForOwner c step reply c' =
+      desk.DoesForOwner c.desk step reply c'.desk × (c'.unnotified ≡ c.unnotified) × (c'.queue_room ≡ c.queue_room)
 
   abbrev pub Retains : {R L : Type 0} → RetainerOf R T L → CoreState T → R → Result (Retained L) AllocError
       → CoreState T → R → Type 0
-  Retains asks c r result c' r' = desk_retains.Retains asks c.desk r result c'.desk r' × (c'.unnotified ≡ c.unnotified)
+  Retains asks c r result c' r' =
+      desk_retains.Retains asks c.desk r result c'.desk r' × (c'.unnotified ≡ c.unnotified)
+      × (c'.queue_room ≡ c.queue_room)
 
   abbrev pub RetainsNoting : {R L : Type 0} → RetainerOf R T L → CoreState T → R
       → Result (Retained L × List Removal) AllocError → CoreState T → R → Type 0
   RetainsNoting asks c r result c' r' =
       desk_retains.RetainsNoting asks c.desk r result c'.desk r' × (c'.unnotified ≡ c.unnotified)
+      × (c'.queue_room ≡ c.queue_room)
 
   -- the ticket of the get that is to be woken next
   abbrev pub due_now : CoreState T → Option ℕ
@@ -65,4 +74,6 @@ module _ {T : Type 0} where
 
   -- It is told. This is no step of the desk.
   abbrev pub Notifies : CoreState T → Option ℕ → CoreState T → Type 0
-  Notifies c named c' = (named ≡ due_now c) × (c'.desk ≡ c.desk) × (c'.unnotified ≡ still_unnotified named c.unnotified)
+  Notifies c named c' =
+      (named ≡ due_now c) × (c'.desk ≡ c.desk) × (c'.unnotified ≡ still_unnotified named c.unnotified)
+      × (c'.queue_room ≡ c.queue_room)

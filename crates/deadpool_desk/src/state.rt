@@ -2,11 +2,12 @@
 //!
 //! `places` has the counts, and settles them with the queue. `counted` has what a core says of itself, and `owner` the
 //! steps of the pool's owner.
-ghost use Rattle.std.specs.Prelude.{◌≡◌, ◌+◌, ◌-◌, ◌≤◌, ◌++◌, [], None, is_some, length, IfOk, IsSome};
+ghost use Rattle.std.specs.Prelude.{◌≡◌, ◌+◌, ◌-◌, ◌≤◌, ◌++◌, [], None, is_some, length, IfOk, IsSome, OnOk};
 ghost use Rattle.deadpool_gate.specs.Orders.{IsOnce};
-ghost use Rattle.deadpool_desk.specs.DeskState.{bounded, new_core, next_idle, other_idle};
+ghost use Rattle.deadpool_desk.specs.DeskState.{bounded, new_core, next_idle, other_idle, places};
 ghost use Rattle.deadpool_desk.specs.DeskSteps.{Serves};
 ghost use Rattle.deadpool_desk.specs.Replies.{Leaves};
+ghost use Rattle.deadpool_desk.specs.CoreState.{HasRoom};
 ghost use Rattle.deadpool_desk.specs.CoreSteps.{Makes, Steps, Notifies, due_now};
 ghost use Rattle.deadpool_desk.specs.Settled.{NobodyWaits};
 
@@ -105,9 +106,26 @@ impl<T: Drop> Core<T> {
         ensures nobody_waits { NobodyWaits self.now.desk }
         ensures few { length self.now.desk.waiting ≤ self.now.desk.max_waiting }
         ensures within { length self.now.desk.idle ≤ self.now.desk.limit }
+        ensures held { places self.now.desk ≤ self.now.desk.reserve }
         ensures once { IsOnce (self.now.desk.granted ++ self.now.desk.waiting) }
     {
         let _ = &self.gate;
+    }
+
+    /// Sees that the queue has room for all gets that may wait in it and all that may be granted a place, at the
+    /// greatest limit that the pool has had so far. Without memory for that only the room may have changed. A pool
+    /// with no bound on the gets that wait never finds it.
+    pub fn make_room_for_waiting(&mut self) -> Result<(), AllocError>
+        ensures room { OnOk result (HasRoom self.new) }
+        ensures kept { self.old.queue_room ≤ self.new.queue_room }
+        ensures desk { self.new.desk ≡ self.old.desk }
+        ensures unnotified { self.new.unnotified ≡ self.old.unnotified }
+    {
+        let most = self.max_waiting.saturating_add(self.ring.capacity());
+        if most > usize::MAX / 2 {
+            return Err(AllocError);
+        }
+        self.gate.reserve(most)
     }
 
     /// The next get in the queue that is due to be woken, as it was granted a place or the pool has closed, and that
@@ -134,6 +152,7 @@ impl<T: Drop> Core<T> {
             allowance hand.new result self.new.desk }
         ensures hand { Leaves result hand.old hand.new }
         ensures unnotified { self.new.unnotified ≡ self.old.unnotified }
+        ensures room { self.new.queue_room ≡ self.old.queue_room }
     {
         let allowed = allowance.unwrap_or(self.ring.len());
         if allowed == 0 && !self.ring.is_empty() {

@@ -10,7 +10,7 @@ ghost use Rattle.deadpool_gate.specs.Gate.{tell_next, due_ticket, RisesAtMost, t
 ghost use Rattle.deadpool_gate.specs.GateLinks.{moved_on, ChangesAt};
 ghost use Rattle.deadpool_gate.specs.GateNodes.{changed};
 ghost use Rattle.deadpool_gate.specs.Numbers.{has_number};
-ghost use Rattle.deadpool_gate.specs.Room.{IsFull, most_next};
+ghost use Rattle.deadpool_gate.specs.Room.{IsFull, KeepsRoom, most_next};
 ghost use Rattle.deadpool_gate.specs.Waking.{next_due, still_unnotified};
 ghost use Rattle.slab.specs.Slab.{slab_len};
 
@@ -183,9 +183,7 @@ impl Gate {
         ensures below { (ticket : ℕ)
             → result ≡ Entry.Waiting ticket → length self.old.waiters < self.old.capacity
             → ticket < self.old.capacity }
-        ensures capacity { self.old.capacity ≤ self.new.capacity }
-        ensures enough { length self.old.waiters < self.old.capacity
-            → self.new.capacity ≡ self.old.capacity }
+        ensures capacity { KeepsRoom (length self.old.waiters) self.old.capacity self.new.capacity }
         ensures closed { self.new.is_closed ≡ self.old.is_closed }
         ensures accesses { RisesAtMost 2 self.old.accesses self.new.accesses }
         ensures before { self.new.accesses_before ≡ self.old.accesses }

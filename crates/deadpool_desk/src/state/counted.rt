@@ -1,8 +1,9 @@
 //! What a core says of itself between two steps: its handles, its counts, its idle objects, and who in the queue has a
 //! place.
-ghost use Rattle.std.specs.Prelude.{◌≡◌, ◌&&◌, ◌==◌, not, length, nat_lt, option_copied, slice_get};
+ghost use Rattle.std.specs.Prelude.{◌≡◌, ◌↔◌, IsTrue, ◌<◌, ◌&&◌, ◌==◌, not, length, nat_lt, option_copied, slice_get};
 ghost use Rattle.deadpool_gate.specs.Numbers.{has_number};
 ghost use Rattle.deadpool_desk.specs.Closing.{is_drained};
+ghost use Rattle.deadpool_desk.specs.CoreState.{HasRoom, listed, most_next_ticket};
 ghost use Rattle.deadpool_desk.specs.Counts.{counts_of};
 ghost use Rattle.deadpool_desk.specs.DeskState.{least_idle, would_queue};
 ghost use Rattle.deadpool_desk.specs.DeskSteps.{surplus};
@@ -67,7 +68,8 @@ impl<T: Drop> Core<T> {
     /// Whether a get that enters now, and is willing to wait, has to join the queue: the pool is open, no place is
     /// free, and fewer wait than may.
     pub fn would_queue(&self) -> bool
-        ensures { result ≡ would_queue self.now.desk }
+        ensures would { result ≡ would_queue self.now.desk }
+        ensures room { IsTrue result → HasRoom self.now → listed self.now < self.now.queue_room }
     {
         !self.gate.is_closed() && self.places.room(&self.gate) == 0 && self.may_join(true)
     }
@@ -106,11 +108,20 @@ impl<T: Drop> Core<T> {
         self.gate.has_place(ticket)
     }
 
-    /// The number of the ticket that the next get in the queue has.
-    pub fn next_ticket(&self) -> usize
-        ensures { result ≡ self.now.next_ticket }
+    /// The greatest number that the ticket of the next get in the queue may have.
+    pub fn most_next_ticket(&self) -> usize
+        ensures { result ≡ most_next_ticket self.now }
     {
-        self.gate.next_number()
+        self.gate.most_next_number()
+    }
+
+    /// Whether the queue has room for all gets that may wait in it and all that may be granted a place. As long as it
+    /// has, none is refused for want of memory.
+    pub fn has_room_for_waiting(&self) -> bool
+        ensures { IsTrue result ↔ HasRoom self.now }
+    {
+        let most = self.max_waiting.saturating_add(self.ring.capacity());
+        most <= self.gate.room().min(usize::MAX / 2)
     }
 
     // How many objects stay idle, if as many are.

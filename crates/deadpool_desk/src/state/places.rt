@@ -66,6 +66,7 @@ impl Places {
             ≡ granted_tickets gate.old.waiters ++ waiting_tickets gate.old.waiters }
         ensures unnotified { unnotified_tickets gate.new.waiters ≡ unnotified_tickets gate.old.waiters }
         ensures closed { gate.new.is_closed ≡ gate.old.is_closed }
+        ensures room { gate.new.capacity ≡ gate.old.capacity }
         ensures held { held_at gate.new self.now
             ≤ max (held_at gate.old self.now) self.now.limit }
         ensures nobody_waits { NobodyWaits (not gate.new.is_closed)
