@@ -10,7 +10,7 @@ use Rattle.deadpool_desk.proofs.Names.{is_listed, unqueued, grants_at}
 use Rattle.deadpool_desk.proofs.Names.{held_at, IsSettled, Inside, ap}
 use Rattle.deadpool_desk.proofs.Names.{without_number-same, without_number-one}
 use Rattle.deadpool_desk.proofs.Names.{IsOnce-front, DeskState, places, joined_served, left_served, once-without}
-use Rattle.deadpool_desk.proofs.Names.{NobodyWaits, queue_of, length-append, ◌<◌}
+use Rattle.deadpool_desk.proofs.Names.{NobodyWaits, queue_of, length-append, ◌<◌, IsFull, KeepsRoom}
 
 -- What comes to a queue, and what leaves it, leaves a settled state settled.
 module _ {O : Type 0} (d : DeskState O) (ticket : ℕ) (s : IsSettled d) where
@@ -111,9 +111,19 @@ module _ {T : Type 0} (core : Inside T) (gate : Line) where
   unnotified-arrived t longer = rw longer (unnotified_tickets-arrived t core.gate.waiters)
 
   -- a line with no room for one more is as long as the two lists of tickets
-  pub no_room : gate.capacity ≤ length gate.waiters
-      → gate.capacity ≤ length (granted_tickets gate.waiters) + length (waiting_tickets gate.waiters)
+  pub no_room : IsFull gate.capacity (length gate.waiters)
+      → IsFull gate.capacity (length (granted_tickets gate.waiters) + length (waiting_tickets gate.waiters))
   no_room full = rw (length-both_tickets gate.waiters) full
+
+  -- what a queue keeps of its room, by the two lists
+  pub room_kept : (room : ℕ) → KeepsRoom (length gate.waiters) gate.capacity room
+      → KeepsRoom (length (granted_tickets gate.waiters) + length (waiting_tickets gate.waiters)) gate.capacity room
+  room_kept room keeps = rw (length-both_tickets gate.waiters) keeps
+
+  pub below_room : (ticket : ℕ) → (length gate.waiters < gate.capacity → ticket < gate.capacity)
+      → length (granted_tickets gate.waiters) + length (waiting_tickets gate.waiters) < gate.capacity
+      → ticket < gate.capacity
+  below_room ticket below = rw (length-both_tickets gate.waiters) below
 
   -- when the free places are granted
   pub desk_of-settled : (after : Line) → granted_tickets after.waiters

@@ -20,6 +20,7 @@ pub use Rattle.deadpool_gate.specs.Gate.{Line, arrived, without_waiter, granted_
 pub use Rattle.deadpool_gate.specs.Gate.{unnotified_tickets, IsLine}
 pub use Rattle.deadpool_gate.specs.Numbers.{has_number, without_number, largest_usize}
 pub use Rattle.deadpool_gate.specs.Orders.{IsOnce}
+pub use Rattle.deadpool_gate.specs.Room.{IsFull, KeepsRoom}
 pub use Rattle.deadpool_desk.specs.CoreFields.{desk_of, CoreInvariant}
 pub use Rattle.deadpool_desk.specs.DeskState.{settled, DeskState, places, least_idle}
 pub use Rattle.deadpool_desk.specs.DeskSteps.{is_listed, unqueued, Serves}

@@ -10,10 +10,10 @@ use Rattle.deadpool_desk.specs.declared.step.Step.TheVariants.{Ask}
 pub asked_served : {T : Type 0} (c c' : CoreState T) (ticket : ℕ) (expired : Bool) (object : Option (Slot T))
     (reply : Reply) → c.desk.is_open ≡ true → has_number ticket c.desk.granted ≡ true
     → Serves (unqueued ticket c.desk) None object reply c'.desk → c'.unnotified ≡ without_number ticket c.unnotified
-    → Steps c (Ask ticket expired) object reply c'
-asked_served c c' ticket expired (Some slot) (Object left) is_open has serves unnotified =
-    ((is_open, has, serves), unnotified, tt)
-asked_served c c' ticket expired None Create is_open has serves unnotified = ((is_open, has, serves), unnotified, tt)
-asked_served c c' ticket expired None Going is_open has serves unnotified = ((is_open, has, serves), unnotified, tt)
-asked_served c c' ticket expired None Exhausted is_open has serves unnotified = ((is_open, has, serves), unnotified, tt)
-asked_served c c' ticket expired _ _ is_open has serves unnotified = absurd serves
+    → c'.queue_room ≡ c.queue_room → Steps c (Ask ticket expired) object reply c'
+asked_served c c' ticket expired (Some slot) (Object left) is_open has serves unnotified room =
+    ((is_open, has, serves), unnotified, room)
+asked_served c c' ticket expired None Create is_open has serves unnotified room = ((is_open, has, serves), unnotified, room)
+asked_served c c' ticket expired None Going is_open has serves unnotified room = ((is_open, has, serves), unnotified, room)
+asked_served c c' ticket expired None Exhausted is_open has serves unnotified room = ((is_open, has, serves), unnotified, room)
+asked_served c c' ticket expired _ _ is_open has serves unnotified room = absurd serves

@@ -174,6 +174,8 @@ impl Gate {
             (λ answer. result ≡ answer) }
         ensures unchanged { IfSome (entry_at_once self.old.is_closed room wait)
             (λ _. self.new.waiters ≡ self.old.waiters) }
+        ensures same_room { IfSome (entry_at_once self.old.is_closed room wait)
+            (λ _. self.new.capacity ≡ self.old.capacity) }
         ensures joins { IfNone (entry_at_once self.old.is_closed room wait)
             (Joins self.old.waiters result self.new.waiters) }
         ensures memory { result ≡ Entry.OutOfMemory

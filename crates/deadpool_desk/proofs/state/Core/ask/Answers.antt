@@ -27,7 +27,8 @@ returns-in-Granted-clause-made g c =
     subst (λ d. Serves d None c.serve.new.hand c.serve.result c.serve.new.self.desk) left c.serve.ensures.served in
     rw (← c.self.view_is)
     (asked_served (core_of c.self.inside) c.serve.new.self c.args.ticket c.args.expired c.serve.new.hand
-    c.serve.result (ap not was.0) was.1 serves (c.serve.ensures.unnotified ∙ unnotified))
+    c.serve.result (ap not was.0) was.1 serves (c.serve.ensures.unnotified ∙ unnotified)
+    (c.serve.ensures.room ∙ c.ask.ensures.capacity))
 
 pub invariant_of-self-in-Closed : goal.invariant_of-self-in-Closed
 invariant_of-self-in-Closed g c =
@@ -45,7 +46,7 @@ returns-in-Closed-clause-made g c =
     rw (← c.self.view_is, c.requires) (
       (ap not was.0, was.1, left),
       unnotified-without c.self.inside c.ask.new.self c.args.ticket line gone,
-      tt,
+      c.ask.ensures.capacity,
     )
 
 pub invariant_of-self-in-Unknown : goal.invariant_of-self-in-Unknown
@@ -62,7 +63,7 @@ returns-in-Unknown-clause-made g c =
     rw (← c.self.view_is, c.requires) (
       (was.0, desk_of-same c.self.inside c.ask.new.self same c.ask.ensures.closed),
       ap unnotified_tickets same,
-      tt,
+      c.ask.ensures.capacity,
     )
 
 pub invariant_of-self-then-expired : goal.invariant_of-self-then-expired
@@ -83,7 +84,7 @@ returns-then-expired-clause-made g c =
     rw (← c.self.view_is, c.requires) (
       (ap not was.0, was.1, was.2, c.if-expired.true, left),
       unnotified-without c.self.inside c.withdraw.new.self c.args.ticket line gone,
-      tt,
+      c.withdraw.ensures.capacity ∙ c.ask.ensures.capacity,
     )
 
 pub invariant_of-self-else-expired : goal.invariant_of-self-else-expired
@@ -107,5 +108,5 @@ returns-else-expired-clause-made g c =
         desk_of-same c.self.inside c.ask.new.self same c.ask.ensures.closed,
       ),
       ap unnotified_tickets same,
-      tt,
+      c.ask.ensures.capacity,
     )

@@ -3,7 +3,7 @@ use Rattle.deadpool_desk.proofs.Names.{◌∙◌, ◌<◌, ◌≤◌, not, sym, 
 use Rattle.deadpool_desk.proofs.Names.{unnotified_tickets, entered-waiting, entered-without_memory, unlisted, held_at}
 use Rattle.deadpool_desk.proofs.Names.{and_parts, ltb-true, nat_lt}
 use Rattle.deadpool_desk.proofs.CoreQueue.{CoreInvariant-joined, desk_of-arrived, desk_of-same}
-use Rattle.deadpool_desk.proofs.CoreQueue.{unnotified-arrived, no_room}
+use Rattle.deadpool_desk.proofs.CoreQueue.{unnotified-arrived, no_room, below_room, room_kept}
 use Rattle.deadpool_desk.proofs.state.Core.enter.Goals as goal
 
 pub invariant_of-self-in-Waiting : goal.invariant_of-self-in-Waiting
@@ -43,7 +43,11 @@ returns-in-Waiting-clause-made g c =
         desk_of-arrived inside c.enter.new.self t was.4 c.enter.ensures.closed,
       ),
       unnotified-arrived inside c.enter.new.self t was.4,
-      c.in-Waiting.ensures.number t refl,
+      (
+        c.in-Waiting.ensures.number t refl,
+        below_room inside inside.gate t (c.in-Waiting.ensures.below t refl),
+        room_kept inside inside.gate _ c.in-Waiting.ensures.capacity,
+      ),
     )
 
 pub returns-in-OutOfMemory-clause-made : goal.returns-in-OutOfMemory-clause-made
@@ -60,5 +64,8 @@ returns-in-OutOfMemory-clause-made g c =
     rw (← c.self.view_is, c.requires) (
       (ap not was.0, full, joins.0, roomy, desk_of-same inside c.enter.new.self was.3 c.enter.ensures.closed),
       ap unnotified_tickets was.3,
-      no_room inside inside.gate (c.in-OutOfMemory.ensures.memory refl),
+      (
+        no_room inside inside.gate (c.in-OutOfMemory.ensures.memory refl),
+        room_kept inside inside.gate _ c.in-OutOfMemory.ensures.capacity,
+      ),
     )

@@ -29,4 +29,4 @@ returns g c =
     ≡ min (length (waiting_tickets line) + length (granted_tickets line) + inside.places.going
     + inside.places.creations - length inside.ring.items) largest_usize =
     omega (arith, waiting, granted, all, held) in
-    rw (← c.self.view_is, available, waits, c.len-idle.ensures.len) ((refl, refl), refl)
+    rw (← c.self.view_is, available, waits, c.len-idle.ensures.len) ((refl, refl), refl, refl)

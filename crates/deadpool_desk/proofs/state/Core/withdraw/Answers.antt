@@ -17,7 +17,7 @@ returns-in-Unknown g c =
     rw (← c.self.view_is) (
       (was.0, desk_of-same c.self.inside c.withdraw.new.self same c.withdraw.ensures.closed),
       ap unnotified_tickets same,
-      tt,
+      c.withdraw.ensures.capacity,
     )
 
 pub settle-requires : goal.settle-requires
@@ -44,4 +44,4 @@ returns g c =
     c.withdraw.ensures.waiters in
     let settled_is =
     desk_of-settled c.self.inside c.withdraw.new.self c.settle.new.gate settle.granted settle.waiting settle.closed in
-    rw (← c.self.view_is) ((was, settled_is ∙ ap settled left), settle.unnotified ∙ unnotified, tt)
+    rw (← c.self.view_is) ((was, settled_is ∙ ap settled left), settle.unnotified ∙ unnotified, settle.room ∙ c.withdraw.ensures.capacity)

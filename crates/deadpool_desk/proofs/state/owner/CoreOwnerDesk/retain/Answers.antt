@@ -12,4 +12,5 @@ returns-in-Ok-clause-retained g c =
         c.in-Ok.field-0-1,
       ) noting.0,
       noting.1,
+      noting.2,
     )

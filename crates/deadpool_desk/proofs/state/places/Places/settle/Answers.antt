@@ -19,6 +19,7 @@ returns c =
       queue = settle.members;
       unnotified = settle.unnotified;
       closed = settle.closed;
+      room = settle.capacity;
       held = omega (arith, settle.within, free);
       nobody_waits = λ is_open some. settle.nobody_waits is_open (omega (arith, c.held.ensures, some));
     }
