@@ -3,9 +3,13 @@ use Rattle.std.specs.Prelude.{◌≡◌, ℕ, suc, ◌-◌, ◌++◌, List, leng
 use Rattle.std.specs.Prelude.{Option, Some, None, if◌then◌else◌}
 
 module _ {W : Type 0} where
+  -- with so many places, if there are not as many
+  abbrev pub with_places : ℕ → List (Option W) → List (Option W)
+  with_places count places = places ++ replicate (count - length places) None
+
   -- with a place for each number up to this one
   abbrev pub with_room : ℕ → List (Option W) → List (Option W)
-  with_room number places = places ++ replicate (suc number - length places) None
+  with_room number places = with_places (suc number) places
 
   -- the waker in the place of a number, if there is a place and one in it
   abbrev pub waker_at : ℕ → List (Option W) → Option W
