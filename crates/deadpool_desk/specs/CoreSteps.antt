@@ -1,7 +1,7 @@
 -- The steps of a core. What a step makes of the desk is the desk machine's. Beside it stands what becomes of those in
 -- the queue that were not told that their wait has ended: who comes is the last of them, who leaves is none of them,
 -- and none of the steps tells anybody.
-use Rattle.std.specs.Prelude.{◌≡◌, ◌<◌, ℕ, List, [], ◌∷◌, ◌++◌, length, Option, Result}
+use Rattle.std.specs.Prelude.{◌≡◌, ◌<◌, ℕ, List, [], ◌∷◌, ◌++◌, Option, Result}
 use Rattle.std.specs.Option.{option_or}
 use Rattle.std.specs.declared.alloc.AllocError.{AllocError}
 use Rattle.deadpool_gate.specs.Numbers.{without_number}

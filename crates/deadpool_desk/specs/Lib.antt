@@ -10,6 +10,7 @@ pub mod Retains
 -- A core: a desk, and who was not told; its steps, and what holds between them.
 pub mod CoreState
 pub mod CoreSteps
+pub mod Rooms
 pub mod Settled
 -- What a pool counts.
 pub mod Counts

@@ -2,6 +2,7 @@
 ghost use Rattle.deadpool_desk.specs.Closing.{EachStep, EachOwnerStep, EachRetain, ShrinksIfClosed, StaysDrained};
 ghost use Rattle.deadpool_desk.specs.Closing.{Drains, LetsGo, LetsIdleGo, ShowsWhatIsLeft};
 ghost use Rattle.deadpool_desk.specs.DeskState.{DeskState};
+ghost use Rattle.deadpool_desk.specs.Rooms.{NobodyIsRefused, OwnerStepsKeepRoom, RetainsKeepRoom, StepsKeepRoom};
 ghost use Rattle.deadpool_desk.specs.declared.slot.Slot.{Slot};
 
 use crate::Retainer;
@@ -36,4 +37,13 @@ pub fn pool_drains_by_letting_go<T>()
 /// until then one is, or a get that asks.
 pub fn status_shows_what_is_left<T>()
     ensures { (d : DeskState (Slot T)) → ShowsWhatIsLeft d }
+{}
+
+/// A queue that has room for all gets that may wait keeps it with each step, with each retain, and with each step of
+/// the owner but a resize above the greatest limit so far. As long as it has it no get is refused for want of memory.
+pub fn room_for_waiting_stays<T, R: Retainer<T>>()
+    ensures step { StepsKeepRoom T }
+    ensures owner_step { OwnerStepsKeepRoom T }
+    ensures retain { RetainsKeepRoom R.Retainer }
+    ensures nobody { NobodyIsRefused T }
 {}
