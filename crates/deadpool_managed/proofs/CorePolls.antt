@@ -7,7 +7,7 @@ use Rattle.deadpool_managed.proofs.Words.{HookLists, May, Serves, Does, Made, no
 use Rattle.deadpool_managed.proofs.Words.{AfterCreated, AfterCreation, AfterDiscard, AfterPrepared, AfterChecked}
 use Rattle.deadpool_managed.proofs.Words.{AdvancesCreation, AdvancesFrom, Advanced, Advances, PollsOver, Slot, Prepared}
 use Rattle.deadpool_managed.proofs.Words.{Stage, Unpolled, Queued, Going, Creating, Recycling, Checking, Finished}
-use Rattle.deadpool_managed.proofs.Words.{Verdict, Turn, Reply, Step, AtOnce}
+use Rattle.deadpool_managed.proofs.Words.{Verdict, Turn, Reply, Step, AtOnce, LeavesQueue}
 use Rattle.deadpool_managed.proofs.FirstPollAtOnce.{HasAnswer, creation_answered}
 use Rattle.deadpool_managed.proofs.CoreDesk.{core_desk, own_desk, makes_at_desk}
 use Rattle.deadpool_managed.proofs.Served.{entered_free}
@@ -120,67 +120,73 @@ module _ {V E C R S F A : Type 0} (may : May V E C R S F A) (runtime : Option Ru
   stays_past d d' _ _ after turn past makes h = absurd h
 
 module _ {V : Type 0} where
-  -- a step past the queue leaves those that were not told
-  unnotified_past : (c c' : CoreState (Kept V)) (made : Made V) → IsPast made → Makes own_desk c made c'
-      → c'.unnotified ≡ c.unnotified
-  unnotified_past c c' no_step past h = ap (λ b. b.unnotified) h
-  unnotified_past c c' (making (Step.Enter wait) reply given) past h = absurd past
-  unnotified_past c c' (making (Step.Ask ticket expired) reply given) past h = absurd past
-  unnotified_past c c' (making (Step.Withdraw ticket) reply given) past h = absurd past
-  unnotified_past c c' (making (Step.Again allowance) reply given) past h = h.1.1
-  unnotified_past c c' (making Step.Discard reply given) past h = h.1.1
-  unnotified_past c c' (making Step.Created reply given) past h = h.1.1
-  unnotified_past c c' (making Step.Failed reply given) past h = h.1.1
-  unnotified_past c c' (making Step.Refused reply given) past h = h.1.1
-  unnotified_past c c' (making Step.Back reply given) past h = h.1.1
-  unnotified_past c c' (making (Step.Cancel what) reply given) past h = h.1.1
-  unnotified_past c c' (making Step.Take reply given) past h = h.1.1
+  leaves_same : (c c' : CoreState (Kept V)) → c' ≡ c → LeavesQueue c c'
+  leaves_same c c' same = (ap (λ b. b.unnotified) same, ap (λ b. b.queue_room) same)
 
-  -- such a step of the desk machine is one of a core that leaves those that were not told
+  leaves_on : (c d e : CoreState (Kept V)) → LeavesQueue c d → LeavesQueue d e → LeavesQueue c e
+  leaves_on c d e first then = (then.0 ∙ first.0, then.1 ∙ first.1)
+
+  -- a step past the queue leaves it
+  leaves_past : (c c' : CoreState (Kept V)) (made : Made V) → IsPast made → Makes own_desk c made c'
+      → LeavesQueue c c'
+  leaves_past c c' no_step past h = leaves_same c c' h
+  leaves_past c c' (making (Step.Enter wait) reply given) past h = absurd past
+  leaves_past c c' (making (Step.Ask ticket expired) reply given) past h = absurd past
+  leaves_past c c' (making (Step.Withdraw ticket) reply given) past h = absurd past
+  leaves_past c c' (making (Step.Again allowance) reply given) past h = (h.1.1, h.1.2)
+  leaves_past c c' (making Step.Discard reply given) past h = (h.1.1, h.1.2)
+  leaves_past c c' (making Step.Created reply given) past h = (h.1.1, h.1.2)
+  leaves_past c c' (making Step.Failed reply given) past h = (h.1.1, h.1.2)
+  leaves_past c c' (making Step.Refused reply given) past h = (h.1.1, h.1.2)
+  leaves_past c c' (making Step.Back reply given) past h = (h.1.1, h.1.2)
+  leaves_past c c' (making (Step.Cancel what) reply given) past h = (h.1.1, h.1.2)
+  leaves_past c c' (making Step.Take reply given) past h = (h.1.1, h.1.2)
+
+  -- such a step of the desk machine is one of a core that leaves its queue
   makes_past : (c c' : CoreState (Kept V)) (d' : DeskState (Slot V)) (made : Made V) → IsPast made → made ≢ no_step
-      → c'.unnotified ≡ c.unnotified → Makes core_desk c.desk made d'
+      → LeavesQueue c c' → Makes core_desk c.desk made d'
       → Makes own_desk c made (record c' { desk = d' })
   makes_past c c' d' no_step past moved same h = absurd (moved refl)
   makes_past c c' d' (making (Step.Enter wait) reply given) past moved same h = absurd past
   makes_past c c' d' (making (Step.Ask ticket expired) reply given) past moved same h = absurd past
   makes_past c c' d' (making (Step.Withdraw ticket) reply given) past moved same h = absurd past
-  makes_past c c' d' (making (Step.Again allowance) reply given) past moved same h = (h.0, (h.1, same, tt))
-  makes_past c c' d' (making Step.Discard reply given) past moved same h = (h.0, (h.1, same, tt))
-  makes_past c c' d' (making Step.Created reply given) past moved same h = (h.0, (h.1, same, tt))
-  makes_past c c' d' (making Step.Failed reply given) past moved same h = (h.0, (h.1, same, tt))
-  makes_past c c' d' (making Step.Refused reply given) past moved same h = (h.0, (h.1, same, tt))
-  makes_past c c' d' (making Step.Back reply given) past moved same h = (h.0, (h.1, same, tt))
-  makes_past c c' d' (making (Step.Cancel what) reply given) past moved same h = (h.0, (h.1, same, tt))
-  makes_past c c' d' (making Step.Take reply given) past moved same h = (h.0, (h.1, same, tt))
+  makes_past c c' d' (making (Step.Again allowance) reply given) past moved same h = (h.0, (h.1, same.0, same.1))
+  makes_past c c' d' (making Step.Discard reply given) past moved same h = (h.0, (h.1, same.0, same.1))
+  makes_past c c' d' (making Step.Created reply given) past moved same h = (h.0, (h.1, same.0, same.1))
+  makes_past c c' d' (making Step.Failed reply given) past moved same h = (h.0, (h.1, same.0, same.1))
+  makes_past c c' d' (making Step.Refused reply given) past moved same h = (h.0, (h.1, same.0, same.1))
+  makes_past c c' d' (making Step.Back reply given) past moved same h = (h.0, (h.1, same.0, same.1))
+  makes_past c c' d' (making (Step.Cancel what) reply given) past moved same h = (h.0, (h.1, same.0, same.1))
+  makes_past c c' d' (making Step.Take reply given) past moved same h = (h.0, (h.1, same.0, same.1))
 
   -- one that is made where the core stands already
   makes_here : (c : CoreState (Kept V)) (d d' : DeskState (Slot V)) (made : Made V) → IsPast made
       → Makes core_desk d made d' → Makes own_desk (record c { desk = d }) made (record c { desk = d' })
   makes_here c d d' no_step past h = ap (λ (b : DeskState (Slot V)). record c { desk = b }) h
   makes_here c d d' (making step reply given) past h =
-      makes_past (record c { desk = d }) c d' (making step reply given) past (λ clash. cc) refl h
+      makes_past (record c { desk = d }) c d' (making step reply given) past (λ clash. cc) (refl, refl) h
 
   -- it tells nobody, and nobody joins
-  entered_unnotified : (c c' : CoreState (Kept V)) (d' : DeskState (Slot V)) (wait : Bool) (reply : Reply)
-      (given : Option (Slot V)) → Serves c.desk None given reply d' → c'.unnotified ≡ c.unnotified
+  entered_leaves : (c c' : CoreState (Kept V)) (d' : DeskState (Slot V)) (wait : Bool) (reply : Reply)
+      (given : Option (Slot V)) → Serves c.desk None given reply d' → LeavesQueue c c'
       → Makes core_desk c.desk (making (Step.Enter wait) reply given) d'
       → Makes own_desk c (making (Step.Enter wait) reply given) (record c' { desk = d' })
-  entered_unnotified c c' d' wait (Reply.Object left) (Some slot) serves same h = (h.0, (h.1, same, tt))
-  entered_unnotified c c' d' wait Reply.Create None serves same h = (h.0, (h.1, same, tt))
-  entered_unnotified c c' d' wait Reply.Going None serves same h = (h.0, (h.1, same, tt))
-  entered_unnotified c c' d' wait Reply.Exhausted None serves same h = (h.0, (h.1, same, tt))
-  entered_unnotified c c' d' wait _ (Some slot) serves same h = absurd serves
-  entered_unnotified c c' d' wait _ None serves same h = absurd serves
+  entered_leaves c c' d' wait (Reply.Object left) (Some slot) serves same h = (h.0, (h.1, same.0, same.1))
+  entered_leaves c c' d' wait Reply.Create None serves same h = (h.0, (h.1, same.0, same.1))
+  entered_leaves c c' d' wait Reply.Going None serves same h = (h.0, (h.1, same.0, same.1))
+  entered_leaves c c' d' wait Reply.Exhausted None serves same h = (h.0, (h.1, same.0, same.1))
+  entered_leaves c c' d' wait _ (Some slot) serves same h = absurd serves
+  entered_leaves c c' d' wait _ None serves same h = absurd serves
 
-  entering_unnotified : (c c' : CoreState (Kept V)) (wait : Bool) (reply : Reply) (given : Option (Slot V))
+  entering_leaves : (c c' : CoreState (Kept V)) (wait : Bool) (reply : Reply) (given : Option (Slot V))
       → Serves c.desk None given reply c'.desk
-      → Makes own_desk c (making (Step.Enter wait) reply given) c' → c'.unnotified ≡ c.unnotified
-  entering_unnotified c c' wait (Reply.Object left) (Some slot) serves h = h.1.1
-  entering_unnotified c c' wait Reply.Create None serves h = h.1.1
-  entering_unnotified c c' wait Reply.Going None serves h = h.1.1
-  entering_unnotified c c' wait Reply.Exhausted None serves h = h.1.1
-  entering_unnotified c c' wait _ (Some slot) serves h = absurd serves
-  entering_unnotified c c' wait _ None serves h = absurd serves
+      → Makes own_desk c (making (Step.Enter wait) reply given) c' → LeavesQueue c c'
+  entering_leaves c c' wait (Reply.Object left) (Some slot) serves h = (h.1.1, h.1.2)
+  entering_leaves c c' wait Reply.Create None serves h = (h.1.1, h.1.2)
+  entering_leaves c c' wait Reply.Going None serves h = (h.1.1, h.1.2)
+  entering_leaves c c' wait Reply.Exhausted None serves h = (h.1.1, h.1.2)
+  entering_leaves c c' wait _ (Some slot) serves h = absurd serves
+  entering_leaves c c' wait _ None serves h = absurd serves
 
 module _ {V E C R S F A : Type 0} (may : May V E C R S F A) (runtime : Option Runtime) (hooks : HookLists F A)
     (now : Moment) (timeouts : Timeouts) (stage' : Stage V C R S) (turn : Turn V E) where
@@ -208,53 +214,53 @@ module _ {V E C R S F A : Type 0} (may : May V E C R S F A) (runtime : Option Ru
       → PollsOver core_desk may runtime hooks now timeouts c.desk stage c'.desk stage' turn
   polls_at_desk c c' stage (steps, ran) = (map at_desk steps, advances_at_desk c c' stage steps ran)
 
-  -- past the queue it leaves those that were not told
-
-  advances_unnotified : (c c' : CoreState (Kept V)) (stage : Stage V C R S) (steps : Steps) → StandsPast stage
-      → Advances own_desk may runtime hooks now timeouts c stage steps c' stage' turn → c'.unnotified ≡ c.unnotified
-  advances_unnotified c c' stage [] past h = absurd h
-  advances_unnotified c c' stage (x ∷ []) past h =
+  -- past the queue it leaves that
+  advances_leaves : (c c' : CoreState (Kept V)) (stage : Stage V C R S) (steps : Steps) → StandsPast stage
+      → Advances own_desk may runtime hooks now timeouts c stage steps c' stage' turn → LeavesQueue c c'
+  advances_leaves c c' stage [] past h = absurd h
+  advances_leaves c c' stage (x ∷ []) past h =
       let step = stays_past may runtime hooks now timeouts c.desk x.desk.desk stage x.made x.stage turn past
       (makes_at_desk c x.desk x.made h.0) h.1 in
-      ap (λ (b : CoreState (Kept V)). b.unnotified) h.3 ∙ unnotified_past c x.desk x.made step.0 h.0
-  advances_unnotified c c' stage (x ∷ y ∷ zs) past h =
+      leaves_on c x.desk c' (leaves_past c x.desk x.made step.0 h.0) (leaves_same x.desk c' h.3)
+  advances_leaves c c' stage (x ∷ y ∷ zs) past h =
       let step = stays_past may runtime hooks now timeouts c.desk x.desk.desk stage x.made x.stage Turn.More past
       (makes_at_desk c x.desk x.made h.0) h.1 in
-      advances_unnotified x.desk c' x.stage (y ∷ zs) step.1 h.2 ∙ unnotified_past c x.desk x.made step.0 h.0
+      leaves_on c x.desk c' (leaves_past c x.desk x.made step.0 h.0)
+      (advances_leaves x.desk c' x.stage (y ∷ zs) step.1 h.2)
 
-  pub polls_unnotified : (c c' : CoreState (Kept V)) (stage : Stage V C R S) → StandsPast stage
-      → PollsOver own_desk may runtime hooks now timeouts c stage c' stage' turn → c'.unnotified ≡ c.unnotified
-  polls_unnotified c c' stage past (steps, ran) = advances_unnotified c c' stage steps past ran
+  pub polls_leave : (c c' : CoreState (Kept V)) (stage : Stage V C R S) → StandsPast stage
+      → PollsOver own_desk may runtime hooks now timeouts c stage c' stage' turn → LeavesQueue c c'
+  polls_leave c c' stage past (steps, ran) = advances_leaves c c' stage steps past ran
 
   -- the first advance of a new get, when a place is free
-  first_unnotified : (c d : CoreState (Kept V)) (made : Made V) (next : Stage V C R S) (came : Turn V E)
+  first_leaves : (c d : CoreState (Kept V)) (made : Made V) (next : Stage V C R S) (came : Turn V E)
       → c.desk.is_open ≡ true → places c.desk < c.desk.limit
       → Makes own_desk c made d → AdvancesFrom may runtime hooks now timeouts Unpolled made next came
-      → (d.unnotified ≡ c.unnotified) × StandsPast next
-  first_unnotified c d no_step next came opens free makes h =
-      (ap (λ (b : CoreState (Kept V)). b.unnotified) makes, stands_past next _ h.1 tt)
-  first_unnotified c d (making (Step.Enter wait) reply given) next came opens free makes h =
+      → LeavesQueue c d × StandsPast next
+  first_leaves c d no_step next came opens free makes h =
+      (leaves_same c d makes, stands_past next _ h.1 tt)
+  first_leaves c d (making (Step.Enter wait) reply given) next came opens free makes h =
       let serves = entered_free c.desk d.desk wait reply given opens free makes.1.0 in (
-        entering_unnotified c d wait reply given serves makes,
+        entering_leaves c d wait reply given serves makes,
         served_past c.desk d.desk None _ reply given next came serves h.2,
       )
-  first_unnotified c d _ next came opens free makes h = absurd h
+  first_leaves c d _ next came opens free makes h = absurd h
 
-  pub first_poll_unnotified : (c c' : CoreState (Kept V)) → c.desk.is_open ≡ true → places c.desk < c.desk.limit
-      → PollsOver own_desk may runtime hooks now timeouts c Unpolled c' stage' turn → c'.unnotified ≡ c.unnotified
-  first_poll_unnotified c c' opens free (steps, ran) = by_steps steps ran
+  pub first_poll_leaves : (c c' : CoreState (Kept V)) → c.desk.is_open ≡ true → places c.desk < c.desk.limit
+      → PollsOver own_desk may runtime hooks now timeouts c Unpolled c' stage' turn → LeavesQueue c c'
+  first_poll_leaves c c' opens free (steps, ran) = by_steps steps ran
     where
       by_steps : (steps : Steps) → Advances own_desk may runtime hooks now timeouts c Unpolled steps c' stage' turn
-          → c'.unnotified ≡ c.unnotified
+          → LeavesQueue c c'
       by_steps [] h = absurd h
       by_steps (x ∷ []) h =
-          ap (λ (b : CoreState (Kept V)). b.unnotified) h.3
-          ∙ (first_unnotified c x.desk x.made x.stage turn opens free h.0 h.1).0
+          leaves_on c x.desk c' (first_leaves c x.desk x.made x.stage turn opens free h.0 h.1).0
+          (leaves_same x.desk c' h.3)
       by_steps (x ∷ y ∷ zs) h =
-          let first = first_unnotified c x.desk x.made x.stage Turn.More opens free h.0 h.1 in
-          advances_unnotified x.desk c' x.stage (y ∷ zs) first.1 h.2 ∙ first.0
+          let first = first_leaves c x.desk x.made x.stage Turn.More opens free h.0 h.1 in
+          leaves_on c x.desk c' first.0 (advances_leaves x.desk c' x.stage (y ∷ zs) first.1 h.2)
 
-  -- and a poll over the desk machine is one over a core, if that leaves those that were not told
+  -- and a poll over the desk machine is one over a core, if that leaves its queue
 
   module _ (c' : CoreState (Kept V)) where
     abbrev over : Advanced (DeskState (Slot V)) V C R S → Advanced (CoreState (Kept V)) V C R S
@@ -302,7 +308,7 @@ module _ {V E C R S F A : Type 0} (may : May V E C R S F A) (runtime : Option Ru
 
     -- a new get, when a place is free and its wait lacks no runtime
     pub first_poll_over : (c : CoreState (Kept V)) → c.desk.is_open ≡ true → places c.desk < c.desk.limit
-        → cannot_wait runtime timeouts.wait ≡ false → c'.unnotified ≡ c.unnotified
+        → cannot_wait runtime timeouts.wait ≡ false → LeavesQueue c c'
         → PollsOver core_desk may runtime hooks now timeouts c.desk Unpolled c'.desk stage' turn
         → PollsOver own_desk may runtime hooks now timeouts c Unpolled c' stage' turn
     first_poll_over c opens free waits same = polls_over c Unpolled begins
@@ -311,13 +317,13 @@ module _ {V E C R S F A : Type 0} (may : May V E C R S F A) (runtime : Option Ru
         begins d no_step next came makes h = absurd (let lacks = h.0 in cc)
         begins d (making (Step.Enter wait) reply given) next came makes h =
             let serves = entered_free c.desk d wait reply given opens free makes.1 in (
-              entered_unnotified c c' d wait reply given serves same makes,
+              entered_leaves c c' d wait reply given serves same makes,
               served_past c.desk d None _ reply given next came serves h.2,
             )
         begins d _ next came makes h = absurd h
 
     -- a creation that begins, if it is not pending
-    pub creation_poll_over : (c : CoreState (Kept V)) → AtOnce may → c'.unnotified ≡ c.unnotified
+    pub creation_poll_over : (c : CoreState (Kept V)) → AtOnce may → LeavesQueue c c'
         → PollsOver core_desk may runtime hooks now timeouts c.desk (Creating None None) c'.desk stage' turn
         → PollsOver own_desk may runtime hooks now timeouts c (Creating None None) c' stage' turn
     creation_poll_over c once same = polls_over c (Creating None None) begins
