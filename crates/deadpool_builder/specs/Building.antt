@@ -1,5 +1,5 @@
 -- What a pool is made of.
-use Rattle.std.specs.Prelude.{ℕ, Bool, [], Option, None, is_some, is_none, ◌&&◌, ◌||◌}
+use Rattle.std.specs.Prelude.{ℕ, Bool, false, [], Option, None, is_some, is_none, ◌&&◌, ◌||◌}
 use Rattle.deadpool_parts.specs.declared.config.QueueMode.{QueueMode}
 use Rattle.deadpool_parts.specs.declared.config.QueueMode.TheVariants.{Fifo}
 use Rattle.deadpool_parts.specs.declared.config.Timeouts.{Timeouts}
@@ -17,6 +17,8 @@ pub record Building (M F A C : Type 0) : Type 0 where
   pub min_idle : ℕ
   -- how many gets may wait, if that is bounded
   pub max_waiting : Option ℕ
+  -- whether the queue is to have room for all of them from the beginning
+  pub room_for_waiting : Bool
   pub runtime : Option Runtime
   -- how many entries the journal may have
   pub journal : ℕ
@@ -36,6 +38,7 @@ newly manager clock =
       queue_mode = Fifo;
       min_idle = 0;
       max_waiting = None;
+      room_for_waiting = false;
       runtime = None;
       journal = 0;
     }

@@ -2,6 +2,7 @@
 ghost use Rattle.std.specs.Prelude.{◌≡◌, ◌↔◌, ◌++◌, ◌∷◌, [], true, IfOk, IfErr, IsOkUnless, Option, Err};
 ghost use Rattle.std.specs.declared.time.Duration.{Duration};
 ghost use Rattle.deadpool_parts.specs.declared.errors.BuildError.TheVariants.{NoRuntimeSpecified};
+ghost use Rattle.deadpool_desk.specs.CoreState.{HasRoom};
 ghost use Rattle.deadpool_desk.specs.DeskState.{bounded, new_core};
 ghost use Rattle.deadpool_managed.specs.HookLists.{CanCall};
 ghost use Rattle.deadpool_builder.specs.Building.{Building, lacks_any_runtime, newly};
@@ -29,6 +30,8 @@ pub struct PoolParts<M: Manager, F: SyncHook<M>, A: AsyncHook<M>, C: Drop> {
     pub min_idle: usize,
     /// How many gets may wait for a place, if that is bounded.
     pub max_waiting: Option<usize>,
+    /// Whether the queue is to have room for all of them from the beginning.
+    pub room_for_waiting: bool,
     /// How many entries the journal may have.
     pub journal: usize,
     pub alloc: Global,
@@ -57,6 +60,7 @@ pub struct PoolBuilder<M: Manager, F: SyncHook<M>, A: AsyncHook<M>, C: Drop> {
     queue_mode: QueueMode,
     min_idle: usize,
     max_waiting: Option<usize>,
+    room_for_waiting: bool,
     runtime: Option<Runtime>,
     journal: usize,
 }
@@ -75,6 +79,7 @@ impl<M: Manager, F: SyncHook<M>, A: AsyncHook<M>, C: Drop> Model for PoolBuilder
       queue_mode = b.queue_mode;
       min_idle = b.min_idle;
       max_waiting = b.max_waiting;
+      room_for_waiting = b.room_for_waiting;
       runtime = b.runtime;
       journal = b.journal;
     } };
@@ -97,6 +102,7 @@ impl<M: Manager, F: SyncHook<M>, A: AsyncHook<M>, C: Drop> PoolBuilder<M, F, A, 
             queue_mode: QueueMode::Fifo,
             min_idle: 0,
             max_waiting: None,
+            room_for_waiting: false,
             runtime: None,
             journal: 0,
         }
@@ -129,6 +135,7 @@ impl<M: Manager, F: SyncHook<M>, A: AsyncHook<M>, C: Drop> PoolBuilder<M, F, A, 
         ensures mode { IfOk result (λ parts. parts.queue_mode ≡ self.queue_mode) }
         ensures min_idle { IfOk result (λ parts. parts.min_idle ≡ self.min_idle) }
         ensures bound { IfOk result (λ parts. parts.max_waiting ≡ self.max_waiting) }
+        ensures room { IfOk result (λ parts. parts.room_for_waiting ≡ self.room_for_waiting) }
         ensures journal { IfOk result (λ parts. parts.journal ≡ self.journal) }
     {
         if self.lacks_runtime() {
@@ -144,6 +151,7 @@ impl<M: Manager, F: SyncHook<M>, A: AsyncHook<M>, C: Drop> PoolBuilder<M, F, A, 
             queue_mode,
             min_idle,
             max_waiting,
+            room_for_waiting,
             runtime,
             journal,
         } = self;
@@ -159,6 +167,7 @@ impl<M: Manager, F: SyncHook<M>, A: AsyncHook<M>, C: Drop> PoolBuilder<M, F, A, 
             queue_mode,
             min_idle,
             max_waiting,
+            room_for_waiting,
             journal,
             alloc,
         })
@@ -172,6 +181,7 @@ impl<M: Manager, F: SyncHook<M>, A: AsyncHook<M>, C: Drop> PoolBuilder<M, F, A, 
         ensures core { IfOk result (λ pool. pool.core.desk
             ≡ bounded self.max_waiting (new_core self.max_size self.queue_mode first_number self.min_idle)) }
         ensures unnotified { IfOk result (λ pool. pool.core.unnotified ≡ []) }
+        ensures room { IfOk result (λ pool. self.room_for_waiting ≡ true → HasRoom pool.core) }
         ensures environment { IfOk result (λ pool. pool.environment
             ≡ record { manager = self.manager; hooks = self.hooks; runtime = self.runtime }) }
         ensures timeouts { IfOk result (λ pool. pool.timeouts ≡ self.timeouts) }
@@ -185,12 +195,17 @@ impl<M: Manager, F: SyncHook<M>, A: AsyncHook<M>, C: Drop> PoolBuilder<M, F, A, 
             queue_mode,
             min_idle,
             max_waiting,
+            room_for_waiting,
             journal: _,
             alloc,
         } = self.into_parts()?;
         let core = Core::new(alloc, max_size, queue_mode, first_number, min_idle)?;
+        let mut core = core.bounded(max_waiting);
+        if room_for_waiting {
+            core.make_room_for_waiting()?;
+        }
         Ok(OpenPool {
-            core: core.bounded(max_waiting),
+            core,
             environment,
             timeouts,
             clock,
@@ -278,6 +293,17 @@ impl<M: Manager, F: SyncHook<M>, A: AsyncHook<M>, C: Drop> PoolBuilder<M, F, A, 
         ensures { result ≡ record self { max_waiting = max_waiting } }
     {
         self.max_waiting = max_waiting;
+        self
+    }
+
+    /// The queue gets room for all gets that `max_waiting` lets wait, and for all that may be granted a place, when the
+    /// pool is opened. From then on no get is refused for want of memory for its place in the queue, unless the limit
+    /// is raised above the greatest number of objects. If there is no memory for that much, the pool is not opened; so
+    /// it is if nothing bounds the gets that wait. Memory for the waker of a get's task is another matter.
+    pub fn room_for_waiting(mut self) -> Self
+        ensures { result ≡ record self { room_for_waiting = true } }
+    {
+        self.room_for_waiting = true;
         self
     }
 

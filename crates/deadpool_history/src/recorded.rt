@@ -1,9 +1,11 @@
 //! A pool's state, with the history that leads to it.
 ghost use Rattle.std.specs.Prelude.{◌≡◌, ◌+◌, [], ◌∷◌, ◌++◌, IfOk, false, is_some, not};
+ghost use Rattle.std.specs.Prelude.{IsTrue, OnOk, ◌<◌, ◌≤◌};
 ghost use Rattle.std.specs.Option.{option_or};
 ghost use mathlib.Core.List.{IsPrefix};
 ghost use Rattle.deadpool_chronicle.specs.History.{Calls, calls_by};
 ghost use Rattle.deadpool_desk.specs.Closing.{is_drained};
+ghost use Rattle.deadpool_desk.specs.CoreState.{HasRoom, listed, most_next_ticket};
 ghost use Rattle.deadpool_desk.specs.CoreSteps.{due_now};
 ghost use Rattle.deadpool_desk.specs.DeskState.{size, would_queue};
 ghost use Rattle.deadpool_desk.specs.Replies.{Brings, IsOwnerReplyTo, IsReplyTo, Leaves, named};
@@ -328,16 +330,38 @@ impl<T: Drop, H: Chronicle> Recorded<T, H> {
 
     /// Whether a get that enters now, and is willing to wait, has to join the queue. It is no step.
     pub fn would_queue(&self) -> bool
-        ensures { result ≡ would_queue self.now.pool.core.desk }
+        ensures would { result ≡ would_queue self.now.pool.core.desk }
+        ensures room { IsTrue result → HasRoom self.now.pool.core
+            → listed self.now.pool.core < self.now.pool.core.queue_room }
     {
         self.pool.would_queue()
     }
 
-    /// The number of the ticket that the next get in the queue has. It is no step.
-    pub fn next_ticket(&self) -> usize
-        ensures { result ≡ self.now.pool.core.next_ticket }
+    /// The greatest number that the ticket of the next get in the queue may have. It is no step.
+    pub fn most_next_ticket(&self) -> usize
+        ensures { result ≡ most_next_ticket self.now.pool.core }
     {
-        self.pool.next_ticket()
+        self.pool.most_next_ticket()
+    }
+
+    /// How many gets the queue can list before it has to find memory. It is no step.
+    pub fn queue_room(&self) -> usize
+        ensures { result ≡ self.now.pool.core.queue_room }
+    {
+        self.pool.queue_room()
+    }
+
+    /// Sees that the queue has room for all gets that may wait in it and all that may be granted a place. It is no
+    /// step. Without memory for that only the room may have changed.
+    pub fn make_room_for_waiting(&mut self) -> Result<(), AllocError>
+        ensures room { OnOk result (HasRoom self.new.pool.core) }
+        ensures kept { self.old.pool.core.queue_room ≤ self.new.pool.core.queue_room }
+        ensures same { self.new.pool ≡ record self.old.pool { core = self.new.pool.core } }
+        ensures desk { self.new.pool.core.desk ≡ self.old.pool.core.desk }
+        ensures unnotified { self.new.pool.core.unnotified ≡ self.old.pool.core.unnotified }
+        ensures log { self.new.log ≡ self.old.log }
+    {
+        self.pool.make_room_for_waiting()
     }
 
     /// The next get in the queue that is due to be woken. It is no step; who was named stands in the history, in the

@@ -119,7 +119,7 @@ module _ {T R L : Type 0} (asks : RetainerOf R T L) where
       → nat_lt (length j.log.entries) j.log.most ≡ false
       → NotesRetain asks j r reply (unnoted j core reply) r'
   unnoted_retain j core r r' (Ok given) h none = let all = retain_noted j.core.desk core.desk r r' given h.0 in
-      (all.0, (all.1, h.1), rw none refl)
+      (all.0, (all.1, h.1, h.2), rw none refl)
   unnoted_retain j core r r' (Err e) h none = rw none refl
 
   pub unnoted_kept : (j : Journaling T) (core : CoreState T) (r r' : R) (reply : Result (Retained L) AllocError)

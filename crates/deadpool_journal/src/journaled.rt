@@ -1,8 +1,9 @@
 //! A pool's state, beside the steps that led to it.
 ghost use Rattle.std.specs.Prelude.{◌≡◌, ◌≤◌, ◌==◌, ◌++◌, [], false, None, IfOk, is_some, length, not, option_copied};
-ghost use Rattle.std.specs.Prelude.{slice_get};
+ghost use Rattle.std.specs.Prelude.{slice_get, IsTrue, OnOk, ◌<◌};
 ghost use Rattle.deadpool_gate.specs.Orders.{IsOnce};
 ghost use Rattle.deadpool_desk.specs.Closing.{is_drained};
+ghost use Rattle.deadpool_desk.specs.CoreState.{HasRoom, listed, most_next_ticket};
 ghost use Rattle.deadpool_desk.specs.CoreSteps.{due_now};
 ghost use Rattle.deadpool_desk.specs.DeskState.{bounded, new_core, size, would_queue};
 ghost use Rattle.deadpool_desk.specs.DeskSteps.{surplus};
@@ -195,16 +196,37 @@ impl<T: Drop> Journaled<T> {
 
     /// Whether a get that enters now, and is willing to wait, has to join the queue. It is no step.
     pub fn would_queue(&self) -> bool
-        ensures { result ≡ would_queue self.now.core.desk }
+        ensures would { result ≡ would_queue self.now.core.desk }
+        ensures room { IsTrue result → HasRoom self.now.core
+            → listed self.now.core < self.now.core.queue_room }
     {
         self.core.would_queue()
     }
 
-    /// The number of the ticket that the next get in the queue has. It is no step.
-    pub fn next_ticket(&self) -> usize
-        ensures { result ≡ self.now.core.next_ticket }
+    /// The greatest number that the ticket of the next get in the queue may have. It is no step.
+    pub fn most_next_ticket(&self) -> usize
+        ensures { result ≡ most_next_ticket self.now.core }
     {
-        self.core.next_ticket()
+        self.core.most_next_ticket()
+    }
+
+    /// How many gets the queue can list before it has to find memory. It is no step.
+    pub fn queue_room(&self) -> usize
+        ensures { result ≡ self.now.core.queue_room }
+    {
+        self.core.queue_room()
+    }
+
+    /// Sees that the queue has room for all gets that may wait in it and all that may be granted a place. It is no
+    /// step. Without memory for that only the room may have changed.
+    pub fn make_room_for_waiting(&mut self) -> Result<(), AllocError>
+        ensures room { OnOk result (HasRoom self.new.core) }
+        ensures kept { self.old.core.queue_room ≤ self.new.core.queue_room }
+        ensures same { self.new ≡ record self.old { core = self.new.core } }
+        ensures desk { self.new.core.desk ≡ self.old.core.desk }
+        ensures unnotified { self.new.core.unnotified ≡ self.old.core.unnotified }
+    {
+        self.core.make_room_for_waiting()
     }
 
     /// How often each thing has happened since the pool was opened. It is no step.

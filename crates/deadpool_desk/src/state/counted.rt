@@ -115,6 +115,13 @@ impl<T: Drop> Core<T> {
         self.gate.most_next_number()
     }
 
+    /// How many gets the queue can list before it has to find memory. It never falls.
+    pub fn queue_room(&self) -> usize
+        ensures { result ≡ self.now.queue_room }
+    {
+        self.gate.room()
+    }
+
     /// Whether the queue has room for all gets that may wait in it and all that may be granted a place. As long as it
     /// has, none is refused for want of memory.
     pub fn has_room_for_waiting(&self) -> bool

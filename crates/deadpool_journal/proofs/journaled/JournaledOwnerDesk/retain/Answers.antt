@@ -40,6 +40,7 @@ returns-in-Ok-clause-retained g c =
           c.in-Ok.noted,
         ) did.0,
         did.1,
+        did.2,
       ),
       (
         c.in-Ok.noted,
