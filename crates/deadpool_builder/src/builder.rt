@@ -298,8 +298,8 @@ impl<M: Manager, F: SyncHook<M>, A: AsyncHook<M>, C: Drop> PoolBuilder<M, F, A, 
 
     /// The queue gets room for all gets that `max_waiting` lets wait, and for all that may be granted a place, when the
     /// pool is opened. From then on no get is refused for want of memory for its place in the queue, unless the limit
-    /// is raised above the greatest number of objects. If there is no memory for that much, the pool is not opened; so
-    /// it is if nothing bounds the gets that wait. Memory for the waker of a get's task is another matter.
+    /// is raised above the greatest number of objects. A pool is not opened if there is no memory for that much, or
+    /// if nothing bounds the gets that wait. Memory for the waker of a get's task is another matter.
     pub fn room_for_waiting(mut self) -> Self
         ensures { result ≡ record self { room_for_waiting = true } }
     {

@@ -1,8 +1,9 @@
 -- What is done under the lock of a pool, with the wakers of those in its queue.
-use Rattle.std.specs.Prelude.{◌≡◌, ◌⊎◌, ◌&&◌, ◌==◌, not, ℕ, Bool, true, false, List, Option, Some, None, if◌then◌else◌}
+use Rattle.std.specs.Prelude.{◌≡◌, ◌≤◌, length, ◌⊎◌, ◌&&◌, ◌==◌, not, ℕ, Bool, true, false, List, Option, Some, None, if◌then◌else◌}
 use Rattle.futures.specs.declared.task.waker.Waker.{Waker}
 use Rattle.deadpool_gate.specs.Gate.{waiting_count}
 use Rattle.deadpool_desk.specs.Closing.{is_drained}
+use Rattle.deadpool_desk.specs.CoreState.{HasRoom, most_next_ticket}
 use Rattle.deadpool_desk.specs.DeskState.{DeskState, would_queue}
 use Rattle.deadpool_desk.specs.declared.slot.Slot.{Slot}
 use Rattle.deadpool_desk.specs.declared.step.Reply.{Reply}
@@ -70,9 +71,13 @@ module _ {T : Type 0} where
   MakesLocked j wakers step was waker reply hand j' wakers' waker' spare =
       (MakesNoted j step was reply hand j'
       × Follows (ticket_of step) (ticket_after reply)
-      (if joins step j then with_room j.core.next_ticket wakers else wakers) waker spare wakers' waker')
+      (if joins step j then with_room (most_next_ticket j.core) wakers else wakers) waker spare wakers' waker')
       ⊎ ((joins step j ≡ true) × (reply ≡ OutOfMemory) × (hand ≡ was) × (j' ≡ j) × (wakers' ≡ wakers) × (waker' ≡ waker)
       × (spare ≡ None))
+
+  -- There is room in the queue for all gets that may wait, and a place for the waker of each.
+  abbrev pub HasRoomFor : {W : Type 0} → Journaling T → List (Option W) → Type 0
+  HasRoomFor j wakers = HasRoom j.core × (j.core.queue_room ≤ length wakers)
 
   -- Somebody waits for the end of a pool, which has come.
   abbrev pub is_end_due : EndsState → DeskState (Slot T) → Bool

@@ -55,12 +55,16 @@ where
             queue_mode,
             min_idle,
             max_waiting,
+            room_for_waiting,
             journal,
             alloc,
         } = self.into_parts()?;
         let pool = Journaled::new(alloc, max_size, queue_mode, journal, min_idle)?;
         let pool = pool.bounded(max_waiting);
-        let (locked, opening) = Locked::new(alloc, pool, blanks);
+        let (mut locked, opening) = Locked::new(alloc, pool, blanks);
+        if room_for_waiting {
+            locked.make_room_for_waiting()?;
+        }
         let shared = Shared {
             environment,
             timeouts,

@@ -1,5 +1,5 @@
 //! What the lock of a pool keeps.
-ghost use Rattle.std.specs.Prelude.{◌≡◌, ◌⊎◌, ◌||◌, true, false, not, is_some, nat_lt, [], ◌∷◌, None, IfOk, IfSome};
+ghost use Rattle.std.specs.Prelude.{◌≡◌, ◌⊎◌, ◌||◌, true, false, not, is_some, nat_lt, [], ◌∷◌, None, IfOk, IfSome, OnOk, ◌≤◌};
 ghost use Rattle.std.specs.Option.{option_or};
 ghost use mathlib.Core.List.{IsPrefix};
 ghost use Rattle.deadpool_chronicle.specs.History.{SeesMore, calls_by};
@@ -27,7 +27,8 @@ ghost use Rattle.deadpool_shared.specs.Calling.{CallsOrRefuses};
 ghost use Rattle.deadpool_shared.specs.Counts.{AreIn, IsKnown, IsNewCaller, IsNewHolder};
 ghost use Rattle.deadpool_shared.specs.Counts.{counts, counts_of, counted, shifted};
 ghost use Rattle.deadpool_lock.specs.Ends.{Departs, one_less};
-ghost use Rattle.deadpool_shared.specs.Locked.{IsCopy, MakesLocked, TellsLocked, awaited_by, is_end_due, joins};
+ghost use Rattle.deadpool_shared.specs.Locked.{HasRoomFor, IsCopy, MakesLocked, TellsLocked, awaited_by};
+ghost use Rattle.deadpool_shared.specs.Locked.{is_end_due, joins};
 ghost use Rattle.deadpool_shared.specs.Locked.{lets_go};
 
 mod draining;
@@ -90,6 +91,21 @@ impl<T: Drop, L: Ledgers> Locked<T, L> {
             ends: Ends::new(alloc),
         };
         (locked, opening)
+    }
+
+    /// Sees that there is room in the queue for all gets that may wait, and a place for the waker of each. It is no
+    /// step. Without memory for that only the room may have changed.
+    pub fn make_room_for_waiting(&mut self) -> Result<(), AllocError>
+        ensures room { OnOk result (HasRoomFor self.new.recorded.pool self.new.wakers) }
+        ensures desk { self.new.recorded.pool.core.desk ≡ self.old.recorded.pool.core.desk }
+        ensures log { self.new.recorded.log ≡ self.old.recorded.log }
+        ensures ends { self.new.ends ≡ self.old.ends }
+    {
+        let Locked {
+            recorded, wakers, ..
+        } = self;
+        recorded.make_room_for_waiting()?;
+        wakers.make_places(recorded.queue_room())
     }
 
     /// Shares for a new get, if a part of each ledger is left, with a caller that has made no step yet. It is no step.
@@ -186,6 +202,10 @@ impl<T: Drop, L: Ledgers> Locked<T, L> {
             → (result.0 ≡ OutOfMemory) ⊎ (is_some registered.old ≡ true) }
         ensures call { CallsOrRefuses step.now (number_in (option_or hand.old hand.new)) result.0
             shares.old.caller shares.new.caller }
+        ensures roomy { HasRoomFor self.old.recorded.pool self.old.wakers
+            → result.0 ≡ OutOfMemory → is_some registered.old ≡ false }
+        ensures keeps_room { HasRoomFor self.old.recorded.pool self.old.wakers
+            → HasRoomFor self.new.recorded.pool self.new.wakers }
         ensures departs { Departs (lets_go step.now result.0)
             self.old.ends departure.old self.new.ends departure.new }
     {
@@ -199,7 +219,7 @@ impl<T: Drop, L: Ledgers> Locked<T, L> {
         if may_wait(step)
             && recorded.would_queue()
             && wakers
-                .make_room(recorded.next_ticket(), registered)
+                .make_room(recorded.most_next_ticket(), registered)
                 .is_err()
         {
             return (Reply::OutOfMemory, None);
@@ -225,6 +245,9 @@ impl<T: Drop, L: Ledgers> Locked<T, L> {
         ensures wakers { self.new.wakers ≡ self.old.wakers }
         ensures ends { self.new.ends ≡ self.old.ends }
         ensures call { HasCalled (λ e. e ≡ entry.Owner step.now result) caller.old caller.new }
+        ensures keeps_room { HasRoomFor self.old.recorded.pool self.old.wakers
+            → self.new.recorded.pool.core.desk.reserve ≤ self.old.recorded.pool.core.desk.reserve
+            → HasRoomFor self.new.recorded.pool self.new.wakers }
     {
         let Locked { recorded, .. } = self;
         recorded.make_for_owner(caller, step)
@@ -246,6 +269,8 @@ impl<T: Drop, L: Ledgers> Locked<T, L> {
         ensures call { HasCalled (IsRetain result) caller.old caller.new }
         ensures which { HasCalled (AnswersFor R.Retainer result caller.new.seen)
             caller.old caller.new }
+        ensures keeps_room { HasRoomFor self.old.recorded.pool self.old.wakers
+            → HasRoomFor self.new.recorded.pool self.new.wakers }
     {
         let Locked { recorded, .. } = self;
         recorded.retain(caller, retainer)
@@ -347,8 +372,10 @@ impl<T: Drop, L: Ledgers> Wakes for Locked<T, L> {
     }
 
     fn take_wake(&mut self) -> Option<Owed>
-        ensures { TellsLocked self.old.recorded.pool self.old.wakers self.old.ends result
+        ensures told { TellsLocked self.old.recorded.pool self.old.wakers self.old.ends result
             self.new.recorded.pool self.new.wakers self.new.ends }
+        ensures keeps_room { HasRoomFor self.old.recorded.pool self.old.wakers
+            → HasRoomFor self.new.recorded.pool self.new.wakers }
     {
         if let Some(ticket) = self.recorded.take_wake(&mut self.first) {
             return self.wakers.tell(ticket);

@@ -1,5 +1,5 @@
 //! The lock of a pool, with what one holder has.
-ghost use Rattle.std.specs.Prelude.{◌≡◌, Some, None};
+ghost use Rattle.std.specs.Prelude.{◌≡◌, Some, None, IfNone};
 ghost use Rattle.std.specs.Option.{option_or};
 ghost use Rattle.deadpool_journal.specs.ByNumber.{number_in};
 ghost use Rattle.deadpool_shared.specs.Calling.{CallsFromSeat, IsSupplied};
@@ -143,6 +143,7 @@ impl<'a, M: Manager, F: SyncHook<M>, A: AsyncHook<M>, C: Clock, R: Wait + Drop, 
 fn supply<T: Drop, L: Ledgers>(locked: &mut Locked<T, L>, shares: &mut Option<Shares<L>>)
     ensures same { had shares.new ≡ had shares.old }
     ensures supplied { IsSupplied shares.old shares.new }
+    ensures none { IfNone shares.new (locked.old.books.left ≡ 0) }
 {
     if shares.is_none() {
         Shares::put(shares, locked.hand_out());
