@@ -1,6 +1,6 @@
 //! A pool's state, with the history that leads to it.
 ghost use Rattle.std.specs.Prelude.{◌≡◌, ◌+◌, [], ◌∷◌, ◌++◌, IfOk, false, is_some, not};
-ghost use Rattle.std.specs.Prelude.{IsTrue, OnOk, ◌<◌, ◌≤◌};
+ghost use Rattle.std.specs.Prelude.{IsTrue, OnOk, ◌<◌, ◌≤◌, ◌-◌, ◌^◌, min};
 ghost use Rattle.std.specs.Option.{option_or};
 ghost use mathlib.Core.List.{IsPrefix};
 ghost use Rattle.deadpool_chronicle.specs.History.{Calls, calls_by};
@@ -332,7 +332,7 @@ impl<T: Drop, H: Chronicle> Recorded<T, H> {
     pub fn would_queue(&self) -> bool
         ensures would { result ≡ would_queue self.now.pool.core.desk }
         ensures room { IsTrue result → HasRoom self.now.pool.core
-            → listed self.now.pool.core < self.now.pool.core.queue_room }
+            → listed self.now.pool.core < min self.now.pool.core.queue_room (2 ^ 63 - 1) }
     {
         self.pool.would_queue()
     }

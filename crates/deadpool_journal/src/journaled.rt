@@ -1,6 +1,6 @@
 //! A pool's state, beside the steps that led to it.
 ghost use Rattle.std.specs.Prelude.{◌≡◌, ◌≤◌, ◌==◌, ◌++◌, [], false, None, IfOk, is_some, length, not, option_copied};
-ghost use Rattle.std.specs.Prelude.{slice_get, IsTrue, OnOk, ◌<◌};
+ghost use Rattle.std.specs.Prelude.{slice_get, IsTrue, OnOk, ◌<◌, ◌-◌, ◌^◌, min};
 ghost use Rattle.deadpool_gate.specs.Orders.{IsOnce};
 ghost use Rattle.deadpool_desk.specs.Closing.{is_drained};
 ghost use Rattle.deadpool_desk.specs.CoreState.{HasRoom, listed, most_next_ticket};
@@ -198,7 +198,7 @@ impl<T: Drop> Journaled<T> {
     pub fn would_queue(&self) -> bool
         ensures would { result ≡ would_queue self.now.core.desk }
         ensures room { IsTrue result → HasRoom self.now.core
-            → listed self.now.core < self.now.core.queue_room }
+            → listed self.now.core < min self.now.core.queue_room (2 ^ 63 - 1) }
     {
         self.core.would_queue()
     }

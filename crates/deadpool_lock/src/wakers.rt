@@ -42,6 +42,7 @@ impl Wakers {
     pub fn make_places(&mut self, count: usize) -> Result<(), AllocError>
         ensures places { OnOk result (self.new ≡ with_places count self.old) }
         ensures enough { OnOk result (count ≤ length self.new) }
+        ensures kept { length self.old ≤ length self.new }
         ensures refused { OnErr result (self.new ≡ self.old) }
         ensures wanting { OnErr result (length self.old < count) }
     {
@@ -60,6 +61,7 @@ impl Wakers {
     pub fn make_room(&mut self, number: usize, registered: &Registered) -> Result<(), AllocError>
         ensures room { OnOk result (self.new ≡ with_room number self.old) }
         ensures place { OnOk result (number < length self.new) }
+        ensures kept { length self.old ≤ length self.new }
         ensures heard { OnOk result (is_some registered.now ≡ true) }
         ensures refused { OnErr result (self.new ≡ self.old) }
         ensures wanting { OnErr result

@@ -102,7 +102,9 @@ impl<T: Drop, L: Ledgers> Locked<T, L> {
         ensures ends { self.new.ends ≡ self.old.ends }
     {
         let Locked {
-            recorded, wakers, ..
+            recorded,
+            wakers,
+            ..
         } = self;
         recorded.make_room_for_waiting()?;
         wakers.make_places(recorded.queue_room())

@@ -1,6 +1,6 @@
 //! What a core says of itself between two steps: its handles, its counts, its idle objects, and who in the queue has a
 //! place.
-ghost use Rattle.std.specs.Prelude.{◌≡◌, ◌↔◌, IsTrue, ◌<◌, ◌&&◌, ◌==◌, not, length, nat_lt, option_copied, slice_get};
+ghost use Rattle.std.specs.Prelude.{◌≡◌, ◌↔◌, ◌-◌, ◌^◌, min, IsTrue, ◌<◌, ◌&&◌, ◌==◌, not, length, nat_lt, option_copied, slice_get};
 ghost use Rattle.deadpool_gate.specs.Numbers.{has_number};
 ghost use Rattle.deadpool_desk.specs.Closing.{is_drained};
 ghost use Rattle.deadpool_desk.specs.CoreState.{HasRoom, listed, most_next_ticket};
@@ -69,7 +69,8 @@ impl<T: Drop> Core<T> {
     /// free, and fewer wait than may.
     pub fn would_queue(&self) -> bool
         ensures would { result ≡ would_queue self.now.desk }
-        ensures room { IsTrue result → HasRoom self.now → listed self.now < self.now.queue_room }
+        ensures room { IsTrue result → HasRoom self.now
+            → listed self.now < min self.now.queue_room (2 ^ 63 - 1) }
     {
         !self.gate.is_closed() && self.places.room(&self.gate) == 0 && self.may_join(true)
     }
