@@ -6,4 +6,5 @@ mod Known
 mod Lent
 mod Owning
 mod Preparing
+mod Roomy
 mod Tickets
