@@ -1,7 +1,7 @@
 //! A lock whose steps tell those that wait, and after which their callers know that all were told.
 ghost use Rattle.std.specs.Prelude.{◌≡◌};
 
-use crate::step::{Free, Step, Wakes};
+use crate::step::{Free, Look, Step, Wakes};
 use futures::task::Source;
 use std::sync::{Mutex, MutexGuard, Wait};
 
@@ -35,7 +35,7 @@ impl<L: Wakes, R: Wait> StepLock<L, R> {
     /// Takes the lock for one step. No code of a user's may run before it is given back.
     #[inline]
     pub fn begin(&self) -> Step<'_, L> {
-        Step::begin(self.look())
+        Step::begin(self.take())
     }
 
     // Takes the lock once more.
@@ -43,9 +43,15 @@ impl<L: Wakes, R: Wait> StepLock<L, R> {
         self.begin()
     }
 
-    /// Takes the lock for what makes nobody due, such as a status, and so tells nobody.
+    /// Takes the lock for what changes nothing that it keeps, and so makes nobody due and tells nobody.
     #[inline]
-    pub fn look(&self) -> MutexGuard<'_, L> {
+    pub fn look(&self) -> Look<'_, L> {
+        Look::begin(self.take())
+    }
+
+    // Takes the lock, at once if it is free.
+    #[inline]
+    fn take(&self) -> MutexGuard<'_, L> {
         match self.kept.try_lock() {
             Some(kept) => kept,
             None => self.wait(),

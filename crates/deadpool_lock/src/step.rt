@@ -1,5 +1,5 @@
-//! A section of a lock, and what may be called once it is over. That it is over is a `Free`, which nothing outside of
-//! this file can make but by giving the lock of a section back.
+//! A section of a lock, and what may be called once it is over, and a look at what the lock keeps. That a section is over
+//! is a `Free`, which nothing outside of this file can make but by giving its lock back.
 ghost use Rattle.std.specs.Prelude.{◌≡◌, false};
 ghost use Rattle.std.specs.Sync.Mutex.{mutex_guard_value};
 
@@ -68,6 +68,28 @@ impl<'a, L: Wakes> Step<'a, L> {
         let Step { kept } = self;
         drop(kept);
         Free(())
+    }
+}
+
+/// The lock while somebody looks at what it keeps, and can change nothing of that. Its drop gives the lock back.
+#[derive(Drop)]
+pub struct Look<'a, L: Wakes> {
+    kept: MutexGuard<'a, L>,
+}
+
+impl<'a, L: Wakes> Look<'a, L> {
+    // One that begins, of a lock that was taken for it.
+    #[inline(always)]
+    pub(crate) fn begin(kept: MutexGuard<'a, L>) -> Self {
+        Look { kept }
+    }
+
+    /// What the lock keeps.
+    #[inline]
+    pub fn kept(&self) -> &L
+        ensures { result.now ≡ mutex_guard_value self.now.kept }
+    {
+        &self.kept
     }
 }
 
