@@ -1,5 +1,5 @@
-//! A section of a lock, and what may be called once it is over, and a look at what the lock keeps. That a section is over
-//! is a `Free`, which nothing outside of this file can make but by giving its lock back.
+//! A section of a lock, what may be called once it is over, and a look at what the lock keeps. That it is over is a
+//! `Free`, which nothing outside of this file can make but by giving the lock of a section back.
 ghost use Rattle.std.specs.Prelude.{◌≡◌, false};
 ghost use Rattle.std.specs.Sync.Mutex.{mutex_guard_value};
 

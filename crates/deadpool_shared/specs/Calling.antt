@@ -73,13 +73,18 @@ abbrev pub AnswersAndTells : {T R G : Type 0} → RetainerOf R T G → Result (R
 AnswersAndTells asks result c c' =
     ThenTells (λ before after. HasCalled (AnswersFor asks result after.seen) before after) c c'
 
--- the caller has asked for this status
-abbrev pub AsksStatus : Status → Knowing Line → Knowing Line → Type 0
-AsksStatus status c c' = HasCalled (λ e. e ≡ Owner owner_step.Status (owner_reply.Stands status)) c c'
+-- the entry of a status
+abbrev pub IsStatus : Status → Entry → Type 0
+IsStatus status e = e ≡ Owner owner_step.Status (owner_reply.Stands status)
 
--- and the history that it has seen then has this tally
+-- The caller has asked for this status. After it all are told.
+abbrev pub AsksStatus : Status → Knowing Line → Knowing Line → Type 0
+AsksStatus status c c' = CallsAndTells (IsStatus status) c c'
+
+-- And the history that ends with this step has this tally.
 abbrev pub AsksTally : Tally → Status → Knowing Line → Knowing Line → Type 0
-AsksTally tally status c c' = AsksStatus status c c' × IsTallyOf c'.seen tally
+AsksTally tally status c c' =
+    ThenTells (λ before after. HasCalled (IsStatus status) before after × IsTallyOf after.seen tally) c c'
 
 -- These calls were made in the name of a new caller, which had seen how the pool opened.
 abbrev pub ByNewCaller : History → (Knowing Line → Knowing Line → Type 0) → Type 0

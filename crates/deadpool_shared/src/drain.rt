@@ -117,7 +117,7 @@ impl<'a, M: Manager, F: SyncHook<M>, A: AsyncHook<M>, C: Clock, R: Wait + Drop, 
             is_over: _,
         } = self;
         if ticket.is_some() {
-            let spare = handle.shared().lock.look().leave_drain(&mut ticket);
+            let spare = handle.shared().leave_drain(&mut ticket);
             drop(spare);
         }
         begun.map(|begun| begun.caller)

@@ -4,8 +4,7 @@ ghost use mathlib.Core.List.{IsPrefix};
 ghost use Rattle.deadpool_chronicle.specs.History.{calls_by};
 ghost use Rattle.deadpool_desk.specs.declared.owner_step.OwnerReply.TheVariants as reply;
 ghost use Rattle.deadpool_desk.specs.declared.owner_step.OwnerStep.TheVariants as step;
-ghost use Rattle.deadpool_history.specs.History.{CallsAndTells, HasCalled, IsBeginning, IsLegal};
-ghost use Rattle.deadpool_history.specs.History.{IsTallyOf};
+ghost use Rattle.deadpool_history.specs.History.{CallsAndTells, IsBeginning, IsLegal};
 ghost use Rattle.deadpool_journal.specs.Copies.{HasSteps};
 ghost use Rattle.deadpool_journal.specs.Tally.{AreBalanced};
 ghost use Rattle.deadpool_journal.specs.declared.entry.Entry.TheVariants as entry;
@@ -334,8 +333,7 @@ impl<M: Manager, F: SyncHook<M>, A: AsyncHook<M>, C: Clock, R: Wait + Drop, L: L
 
     /// `status` by a caller that the history has it of.
     pub fn status_by(&self, caller: &mut Caller<Line, History<L>>) -> Status
-        ensures { HasCalled (λ e. e ≡ entry.Owner step.Status (reply.Stands result))
-            caller.old caller.new }
+        ensures { AsksStatus result caller.old caller.new }
     {
         self.handle.shared().status_by(caller)
     }
@@ -351,9 +349,7 @@ impl<M: Manager, F: SyncHook<M>, A: AsyncHook<M>, C: Clock, R: Wait + Drop, L: L
 
     /// `tally` by a caller that the history has it of. The tally is that of the history.
     pub fn tally_by(&self, caller: &mut Caller<Line, History<L>>) -> (Tally, Status)
-        ensures call { HasCalled (λ e. e ≡ entry.Owner step.Status (reply.Stands result.1))
-            caller.old caller.new }
-        ensures counted { IsTallyOf caller.new.seen result.0 }
+        ensures call { AsksTally result.0 result.1 caller.old caller.new }
         ensures balances { AreBalanced result.1.size result.0 }
     {
         self.handle.shared().tally_by(caller)

@@ -3,10 +3,8 @@ ghost use Rattle.std.specs.Prelude.{◌≡◌, IfOk};
 ghost use mathlib.Core.List.{IsPrefix};
 ghost use Rattle.deadpool_chronicle.specs.History.{calls_by};
 ghost use Rattle.deadpool_desk.specs.Replies.{IsOwnerReplyTo};
-ghost use Rattle.deadpool_desk.specs.declared.owner_step.OwnerReply.TheVariants as reply;
 ghost use Rattle.deadpool_desk.specs.declared.owner_step.OwnerStep.TheVariants as step;
-ghost use Rattle.deadpool_history.specs.History.{CallsAndTells, HasCalled, IsBeginning, IsLegal};
-ghost use Rattle.deadpool_history.specs.History.{IsTallyOf};
+ghost use Rattle.deadpool_history.specs.History.{CallsAndTells, IsBeginning, IsLegal};
 ghost use Rattle.deadpool_journal.specs.Copies.{HasSteps};
 ghost use Rattle.deadpool_journal.specs.Tally.{AreBalanced};
 ghost use Rattle.deadpool_journal.specs.declared.entry.Entry.TheVariants as entry;
@@ -20,11 +18,12 @@ use deadpool_chronicle::{Beginning, Caller};
 use deadpool_history::Line;
 use deadpool_journal::{Journal, Tally};
 use deadpool_lock::{Counted, Departure, StepLock};
+use deadpool_managed::gate::Ticket;
 use deadpool_managed::{
     AsyncHook, Clock, Environment, Kept, Manager, OwnerReply, OwnerStep, RetainResult, Retainer,
     Status, SyncHook, Timeouts,
 };
-use futures::task::Source;
+use futures::task::{Source, Waker};
 use std::alloc::AllocError;
 use std::sync::Wait;
 
@@ -60,7 +59,10 @@ impl<M: Manager, F: SyncHook<M>, A: AsyncHook<M>, C: Clock, R: Wait + Drop, L: L
         ensures new { IsNewCaller result }
         ensures opened { IsPrefix self.now.opening.log result.seen }
     {
-        self.lock.look().admit_after(&self.opening)
+        let mut section = self.lock.begin();
+        let mut caller = section.kept().admit_after(&self.opening);
+        self.lock.end(section, &mut caller);
+        caller
     }
 
     /// What was seen earlier is a beginning of what the caller has seen then. It is no step.
@@ -74,7 +76,9 @@ impl<M: Manager, F: SyncHook<M>, A: AsyncHook<M>, C: Clock, R: Wait + Drop, L: L
         ensures earlier { IsPrefix earlier.now.log caller.new.seen }
         ensures legal { IsLegal caller.new.seen }
     {
-        self.lock.look().audit(caller, earlier);
+        let mut section = self.lock.begin();
+        section.kept().audit(caller, earlier);
+        self.lock.end(section, caller);
     }
 
     /// The history is legal, begins with how the pool opened, and has of two callers what they have, which have then
@@ -89,9 +93,12 @@ impl<M: Manager, F: SyncHook<M>, A: AsyncHook<M>, C: Clock, R: Wait + Drop, L: L
         ensures calls_of_one { calls_by one.old.number one.new.seen ≡ one.old.mine }
         ensures calls_of_two { calls_by two.old.number one.new.seen ≡ two.old.mine }
     {
-        let mut locked = self.lock.look();
+        let mut section = self.lock.begin();
+        let locked = section.kept();
         locked.audit(one, &self.opening);
         locked.audit(two, &self.opening);
+        let mut other = locked.admit();
+        self.lock.end(section, &mut other);
     }
 
     /// Makes a step of the pool's owner, and gives the reply. Idle objects that go are dropped with the lock taken.
@@ -144,12 +151,20 @@ impl<M: Manager, F: SyncHook<M>, A: AsyncHook<M>, C: Clock, R: Wait + Drop, L: L
         self.lock.end(section, &mut caller);
     }
 
-    /// How the pool stands, which the journal notes. It makes nobody due.
+    /// A drain waits no longer, and its waker is given out. It is no step.
+    pub fn leave_drain(&self, ticket: &mut Option<Ticket>) -> Option<Waker> {
+        let mut section = self.lock.begin();
+        let spare = section.kept().leave_drain(ticket);
+        let mut other = section.kept().admit();
+        self.lock.end(section, &mut other);
+        spare
+    }
+
+    /// How the pool stands, which the journal notes.
     pub fn status_by(&self, caller: &mut Caller<Line, History<L>>) -> Status
-        ensures { HasCalled (λ e. e ≡ entry.Owner step.Status (reply.Stands result))
-            caller.old caller.new }
+        ensures { AsksStatus result caller.old caller.new }
     {
-        match self.lock.look().make_for_owner(caller, &OwnerStep::Status) {
+        match self.make_for_owner_by(caller, &OwnerStep::Status) {
             OwnerReply::Stands(status) => status,
             _ => unreachable!(),
         }
@@ -159,23 +174,21 @@ impl<M: Manager, F: SyncHook<M>, A: AsyncHook<M>, C: Clock, R: Wait + Drop, L: L
     pub fn status(&self) -> Status
         ensures { ByNewCaller self.now.opening.log (AsksStatus result) }
     {
-        let mut locked = self.lock.look();
-        let mut caller = locked.admit_after(&self.opening);
-        match locked.make_for_owner(&mut caller, &OwnerStep::Status) {
+        match self.make_for_owner(&OwnerStep::Status) {
             OwnerReply::Stands(status) => status,
             _ => unreachable!(),
         }
     }
 
-    /// How often each thing has happened since the pool was opened, and how it stands now, which the journal notes. It
-    /// makes nobody due.
+    /// How often each thing has happened since the pool was opened, and how it stands now, which the journal notes.
     pub fn tally_by(&self, caller: &mut Caller<Line, History<L>>) -> (Tally, Status)
-        ensures call { HasCalled (λ e. e ≡ entry.Owner step.Status (reply.Stands result.1))
-            caller.old caller.new }
-        ensures counted { IsTallyOf caller.new.seen result.0 }
+        ensures call { AsksTally result.0 result.1 caller.old caller.new }
         ensures balances { AreBalanced result.1.size result.0 }
     {
-        self.lock.look().tally(caller)
+        let mut section = self.lock.begin();
+        let told = section.kept().tally(caller);
+        self.lock.end(section, caller);
+        told
     }
 
     /// The same by a new caller.
@@ -183,21 +196,23 @@ impl<M: Manager, F: SyncHook<M>, A: AsyncHook<M>, C: Clock, R: Wait + Drop, L: L
         ensures call { ByNewCaller self.now.opening.log (AsksTally result.0 result.1) }
         ensures balances { AreBalanced result.1.size result.0 }
     {
-        let mut locked = self.lock.look();
-        let mut caller = locked.admit_after(&self.opening);
-        locked.tally(&mut caller)
+        let mut section = self.lock.begin();
+        let mut caller = section.kept().admit_after(&self.opening);
+        let told = section.kept().tally(&mut caller);
+        self.lock.end(section, &mut caller);
+        told
     }
 
     /// Whether the pool was closed. It is no step.
     pub fn is_closed(&self) -> bool {
-        self.lock.look().is_closed()
+        self.lock.look().kept().is_closed()
     }
 
     /// A copy of the journal. It is no step.
     pub fn journal(&self) -> Result<Journal, AllocError>
         ensures { IfOk result HasSteps }
     {
-        self.lock.look().journal()
+        self.lock.look().kept().journal()
     }
 
     /// The same, which is a beginning of the history. The caller has then seen all of that.
@@ -208,7 +223,11 @@ impl<M: Manager, F: SyncHook<M>, A: AsyncHook<M>, C: Clock, R: Wait + Drop, L: L
         ensures beginning { IfOk result (λ journal. IsBeginning journal caller.new.seen) }
         ensures steps { IfOk result HasSteps }
     {
-        self.lock.look().journal_by(caller)
+        let mut section = self.lock.begin();
+        let journal = section.kept().journal_by(caller);
+        let mut other = section.kept().admit();
+        self.lock.end(section, &mut other);
+        journal
     }
 
     /// Gives up the idle objects that are not kept. The retainer is asked with the lock taken.

@@ -3,7 +3,6 @@
 use Rattle.std.specs.Prelude.{◌≡◌, ◌⊎◌, [], true, false, Option, Some, None, Result, Ok, Err}
 use Rattle.futures.specs.declared.task.Poll.{Poll}
 use Rattle.futures.specs.declared.task.Poll.TheVariants.{Ready}
-use Rattle.deadpool_chronicle.specs.History.{Knowing}
 use Rattle.deadpool_parts.specs.declared.moment.Moment.{Moment}
 use Rattle.deadpool_parts.specs.declared.moment.Runtime.{Runtime}
 use Rattle.deadpool_parts.specs.declared.status.Status.{Status}
@@ -20,8 +19,10 @@ use Rattle.deadpool_unmanaged.specs.declared.get.GetStage.{GetStage}
 use Rattle.deadpool_unmanaged.specs.declared.get.GetStage.TheVariants as getting
 use Rattle.deadpool_unmanaged.specs.declared.step.Reply.{Reply}
 use Rattle.deadpool_unmanaged.specs.declared.step.Step.TheVariants.{AddEnter, Back, GetEnter, Take}
-use Rattle.deadpool_unmanaged_history.specs.History.{HasCalled, IsTallyOf}
+use Rattle.deadpool_chronicle.specs.History.{Knowing, SeesMore}
+use Rattle.deadpool_unmanaged_history.specs.History.{AllAreTold, HasCalled, IsTallyOf}
 use Rattle.deadpool_unmanaged_history.specs.Polls.{CallsAdd, CallsGet}
+use Rattle.deadpool_unmanaged_history.specs.Telling.{ThenTells}
 use Rattle.deadpool_unmanaged_history.specs.declared.line.Line.{Line}
 use Rattle.deadpool_unmanaged_journal.specs.declared.entry.Entry.{Entry}
 use Rattle.deadpool_unmanaged_journal.specs.declared.entry.Entry.TheVariants.{Made, Owner}
@@ -92,7 +93,9 @@ module _ {T : Type 0} where
   abbrev pub IsNewCaller : Knowing (Line T) → Type 0
   IsNewCaller c = (c.mine ≡ []) × (c.admitted ≡ 0)
 
-  -- the caller has asked for this status, and the history that it has seen then has this tally
+  -- The caller has asked for this status, and the history that ends with this step has this tally. After it all are
+  -- told.
   abbrev pub AsksTally : Tally → Status → Knowing (Line T) → Knowing (Line T) → Type 0
   AsksTally tally status c c' =
-      HasCalled (λ e. e ≡ Owner owner_step.Status (owner_reply.Stands status)) c c' × IsTallyOf c'.seen tally
+      ThenTells SeesMore (λ s. AllAreTold s.seen) (λ before after. IsTallyOf after.seen tally
+      × HasCalled (λ e. e ≡ Owner owner_step.Status (owner_reply.Stands status)) before after) c c'

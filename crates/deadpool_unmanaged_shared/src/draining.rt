@@ -127,7 +127,7 @@ impl<T: Drop, C: Clock, R: Wait + Drop, S: KeepsState<T>> Request for Draining<T
             of: _,
         } = self;
         if ticket.is_some() {
-            let spare = shared.lock.look().leave_drain(&mut ticket);
+            let spare = shared.leave_drain(&mut ticket);
             drop(spare);
         }
         caller

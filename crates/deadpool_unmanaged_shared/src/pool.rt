@@ -352,14 +352,16 @@ impl<T: Drop, C: Clock, R: Wait + Drop, S: KeepsState<T>> Pool<T, C, R, S> {
 
     /// How the pool stands.
     pub fn status(&self) -> Status
-        ensures { ByNewCaller S.is_new (S.calls (entry.Owner step.Status (reply.Stands result))) }
+        ensures { ByNewCaller S.is_new
+            (ThenTells S.keeps S.is_quiet (S.calls (entry.Owner step.Status (reply.Stands result)))) }
     {
         self.shared().status()
     }
 
     /// `status` by a caller that the history has it of.
     pub fn status_by(&self, caller: &mut S::Caller) -> Status
-        ensures { S.calls (entry.Owner step.Status (reply.Stands result)) caller.old caller.new }
+        ensures { ThenTells S.keeps S.is_quiet (S.calls (entry.Owner step.Status (reply.Stands result)))
+            caller.old caller.new }
     {
         self.shared().status_by(caller)
     }

@@ -2,13 +2,10 @@
 ghost use Rattle.std.specs.Prelude.{◌≡◌, [], IfOk};
 ghost use mathlib.Core.List.{IsPrefix};
 ghost use Rattle.deadpool_chronicle.specs.History.{calls_by};
-ghost use Rattle.deadpool_unmanaged_history.specs.History.{HasCalled, IsBeginning, IsLegal, IsTallyOf, OpensWith};
+ghost use Rattle.deadpool_unmanaged_history.specs.History.{IsBeginning, IsLegal, OpensWith};
 ghost use Rattle.deadpool_unmanaged.specs.State.{bounded, opened};
 ghost use Rattle.deadpool_unmanaged_journal.specs.Copies.{HasSteps};
 ghost use Rattle.deadpool_unmanaged_journal.specs.Tally.{AreBalanced};
-ghost use Rattle.deadpool_unmanaged_journal.specs.declared.entry.Entry.TheVariants as entry;
-ghost use Rattle.deadpool_unmanaged_journal.specs.declared.owner_step.OwnerReply.TheVariants as reply;
-ghost use Rattle.deadpool_unmanaged_journal.specs.declared.owner_step.OwnerStep.TheVariants as step;
 ghost use Rattle.deadpool_unmanaged_shared.specs.Calling.{AsksTally, ByNewCaller, IsNewCaller};
 
 use crate::pool::Pool;
@@ -38,10 +35,12 @@ where
         ensures calls_of_one { calls_by one.old.number one.new.seen ≡ one.old.mine }
         ensures calls_of_two { calls_by two.old.number one.new.seen ≡ two.old.mine }
     {
-        let mut locked = self.lock.look();
-        let recorded = &mut locked.state;
+        let mut step = self.lock.begin();
+        let recorded = &mut step.kept().state;
         recorded.audit(one);
         recorded.audit(two);
+        let mut other = step.kept().admit();
+        self.lock.end(step, &mut other);
     }
 
     /// What was seen earlier is a beginning of what the caller has seen then. It is no step.
@@ -51,21 +50,23 @@ where
         ensures earlier { IsPrefix earlier.now.log caller.new.seen }
         ensures legal { IsLegal caller.new.seen }
     {
-        let mut locked = self.lock.look();
-        let recorded = &mut locked.state;
+        let mut step = self.lock.begin();
+        let recorded = &mut step.kept().state;
         recorded.above(earlier);
         recorded.audit(caller);
+        let mut other = step.kept().admit();
+        self.lock.end(step, &mut other);
     }
 
-    /// How often each thing has happened since the pool was opened, and how it stands now, which the journal notes. It
-    /// makes nobody due.
+    /// How often each thing has happened since the pool was opened, and how it stands now, which the journal notes.
     pub fn tally_by(&self, caller: &mut Caller<Line<T>, H>) -> (Tally, Status)
-        ensures call { HasCalled (λ e. e ≡ entry.Owner step.Status (reply.Stands result.1))
-            caller.old caller.new }
-        ensures counted { IsTallyOf caller.new.seen result.0 }
+        ensures call { AsksTally result.0 result.1 caller.old caller.new }
         ensures balances { AreBalanced result.1.size result.0 }
     {
-        self.lock.look().state.tally_by(caller)
+        let mut step = self.lock.begin();
+        let told = step.kept().state.tally_by(caller);
+        self.lock.end(step, caller);
+        told
     }
 
     /// The same by a new caller.
@@ -73,16 +74,18 @@ where
         ensures call { ByNewCaller (IsNewCaller {T = T}) (AsksTally result.0 result.1) }
         ensures balances { AreBalanced result.1.size result.0 }
     {
-        let mut locked = self.lock.look();
-        let mut caller = locked.admit();
-        locked.state.tally_by(&mut caller)
+        let mut step = self.lock.begin();
+        let mut caller = step.kept().admit();
+        let told = step.kept().state.tally_by(&mut caller);
+        self.lock.end(step, &mut caller);
+        told
     }
 
     /// A copy of the journal. It is no step.
     pub fn journal(&self) -> Result<Journal<K::Name>, AllocError>
         ensures { IfOk result HasSteps }
     {
-        self.lock.look().state.journal()
+        self.lock.look().kept().state.journal()
     }
 
     /// The same, which is a beginning of the history. The caller has then seen all of that.
@@ -96,7 +99,11 @@ where
         ensures beginning { IfOk result (λ journal. IsBeginning K.name_of journal caller.new.seen) }
         ensures steps { IfOk result HasSteps }
     {
-        self.lock.look().state.journal_by(caller)
+        let mut step = self.lock.begin();
+        let journal = step.kept().state.journal_by(caller);
+        let mut other = step.kept().admit();
+        self.lock.end(step, &mut other);
+        journal
     }
 }
 
@@ -180,9 +187,7 @@ where
 
     /// `tally` by a caller that the history has it of. The tally is that of the history.
     pub fn tally_by(&self, caller: &mut Caller<Line<T>, H>) -> (Tally, Status)
-        ensures call { HasCalled (λ e. e ≡ entry.Owner step.Status (reply.Stands result.1))
-            caller.old caller.new }
-        ensures counted { IsTallyOf caller.new.seen result.0 }
+        ensures call { AsksTally result.0 result.1 caller.old caller.new }
         ensures balances { AreBalanced result.1.size result.0 }
     {
         self.shared().tally_by(caller)

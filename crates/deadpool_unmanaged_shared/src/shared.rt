@@ -13,10 +13,11 @@ ghost use Rattle.futures.specs.declared.task.Poll.TheVariants.{Ready};
 
 use crate::locked::Locked;
 use deadpool_lock::{Counted, Departure, DrainError, Registered, StepLock};
+use deadpool_unmanaged::gate::Ticket;
 use deadpool_unmanaged::{Clock, PoolConfig, PoolError, Runtime, Status};
 use deadpool_unmanaged_history::KeepsState;
 use deadpool_unmanaged_journal::{OwnerReply, OwnerStep};
-use futures::task::{Poll, Source};
+use futures::task::{Poll, Source, Waker};
 use std::alloc::Global;
 use std::sync::Wait;
 use std::time::Duration;
@@ -56,7 +57,20 @@ impl<T: Drop, C: Clock, R: Wait + Drop, S: KeepsState<T>> Shared<T, C, R, S> {
     pub fn caller(&self) -> S::Caller
         ensures { S.is_new result }
     {
-        self.lock.look().admit()
+        let mut step = self.lock.begin();
+        let caller = step.kept().admit();
+        let mut other = step.kept().admit();
+        self.lock.end(step, &mut other);
+        caller
+    }
+
+    /// A drain waits no longer, and its waker is given out. It is no step.
+    pub fn leave_drain(&self, ticket: &mut Option<Ticket>) -> Option<Waker> {
+        let mut step = self.lock.begin();
+        let spare = step.kept().leave_drain(ticket);
+        let mut other = step.kept().admit();
+        self.lock.end(step, &mut other);
+        spare
     }
 
     /// An object at once, with a caller of its own, or why there is none.
@@ -173,11 +187,12 @@ impl<T: Drop, C: Clock, R: Wait + Drop, S: KeepsState<T>> Shared<T, C, R, S> {
         reply
     }
 
-    /// How the pool stands. It makes nobody due.
+    /// How the pool stands.
     pub fn status_by(&self, caller: &mut S::Caller) -> Status
-        ensures { S.calls (entry.Owner step.Status (reply.Stands result)) caller.old caller.new }
+        ensures { ThenTells S.keeps S.is_quiet (S.calls (entry.Owner step.Status (reply.Stands result)))
+            caller.old caller.new }
     {
-        match self.lock.look().make_for_owner(caller, &OwnerStep::Status) {
+        match self.make_for_owner_by(caller, &OwnerStep::Status) {
             OwnerReply::Stands(status) => status,
             _ => unreachable!(),
         }
@@ -185,11 +200,10 @@ impl<T: Drop, C: Clock, R: Wait + Drop, S: KeepsState<T>> Shared<T, C, R, S> {
 
     /// The same by a new caller.
     pub fn status(&self) -> Status
-        ensures { ByNewCaller S.is_new (S.calls (entry.Owner step.Status (reply.Stands result))) }
+        ensures { ByNewCaller S.is_new
+            (ThenTells S.keeps S.is_quiet (S.calls (entry.Owner step.Status (reply.Stands result)))) }
     {
-        let mut locked = self.lock.look();
-        let mut caller = locked.admit();
-        match locked.make_for_owner(&mut caller, &OwnerStep::Status) {
+        match self.make_for_owner(&OwnerStep::Status) {
             OwnerReply::Stands(status) => status,
             _ => unreachable!(),
         }
@@ -218,7 +232,7 @@ impl<T: Drop, C: Clock, R: Wait + Drop, S: KeepsState<T>> Shared<T, C, R, S> {
 
     /// Whether the pool was closed. It is no step.
     pub fn is_closed(&self) -> bool {
-        self.lock.look().is_closed()
+        self.lock.look().kept().is_closed()
     }
 }
 

@@ -2,4 +2,4 @@
 use Rattle.deadpool_unmanaged_shared.proofs.recorded.Shared+T+C+R+Recorded+T+K+H.journal_by.Goals as goal
 
 pub returns-clause-beginning : goal.returns-clause-beginning
-returns-clause-beginning g c = rw (c.journal_by.ensures.caller) c.journal_by.ensures.beginning
+returns-clause-beginning g c = rw (c.journal_by-journal.ensures.caller) c.journal_by-journal.ensures.beginning
