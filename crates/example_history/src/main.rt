@@ -51,7 +51,7 @@ pub type Visit<L> = (
 );
 
 /// A thread gets an object, asks how the pool stands, and gives the object back.
-#[tactic(auto, using(crate::proofs::Returns::has_returned))]
+#[tactic(auto, using(crate::proofs::Returns::has_returned, crate::proofs::Returns::has_asked))]
 pub fn visit<R: Host, L: Ledgers>(
     rt: &R,
     pool: &Numbers<R, L>,
