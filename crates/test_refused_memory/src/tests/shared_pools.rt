@@ -45,11 +45,13 @@ enum Call {
     // A get for which an object is idle, and one for which no place is free.
     Get,
     Queue,
+    // The same in a pool that has room for all gets that may wait.
+    QueueWithRoom,
     // A drain while an object is out.
     Drain,
 }
 
-const CALLS: [Call; 11] = [
+const CALLS: [Call; 12] = [
     Call::Build,
     Call::Clone,
     Call::Weak,
@@ -60,6 +62,7 @@ const CALLS: [Call; 11] = [
     Call::Retain,
     Call::Get,
     Call::Queue,
+    Call::QueueWithRoom,
     Call::Drain,
 ];
 
@@ -68,7 +71,7 @@ impl Call {
     fn takes_memory(self) -> bool {
         match self {
             Call::Build | Call::Journal | Call::Resize | Call::Retain => true,
-            Call::Queue | Call::Drain => true,
+            Call::Queue | Call::QueueWithRoom | Call::Drain => true,
             Call::Clone | Call::Weak | Call::Upgrade | Call::ObjectPool | Call::Get => false,
         }
     }
@@ -138,7 +141,7 @@ impl<R: Wait + Drop, L: Ledgers> Scene<R, L> {
     // Makes a call. What it gives is dropped.
     fn make(&self, call: Call) -> Came {
         match call {
-            Call::Build | Call::Queue | Call::Drain => Came::Wrong,
+            Call::Build | Call::Queue | Call::QueueWithRoom | Call::Drain => Came::Wrong,
             Call::Clone => Came::of(self.pool.clone()),
             Call::Weak => Came::of(self.pool.weak()),
             Call::Upgrade => Came::of_some(self.weak.upgrade()),
@@ -328,7 +331,7 @@ fn try_built<R: Wait + Drop, L: Ledgers, H: RandomSource + AllocGlobal>(
     };
     match call {
         Call::Build => Ok(Came::Made),
-        Call::Queue => try_queue(hoard, scene, left),
+        Call::Queue | Call::QueueWithRoom => try_queue(hoard, scene, left),
         Call::Drain => try_drain(hoard, scene, left),
         call => try_in_scene(hoard, &scene, call, left),
     }
@@ -347,7 +350,10 @@ where
     requires { blanks ≡ L.names }
 {
     let counts = Counts::shared(rt.alloc())?;
-    let builder = builder_of(rt.alloc(), &counts)?;
+    let mut builder = builder_of(rt.alloc(), &counts)?;
+    if call == Call::QueueWithRoom {
+        builder = builder.max_waiting(Some(1)).room_for_waiting();
+    }
     if call == Call::Build {
         hoard.take(left)?;
     }
@@ -393,4 +399,16 @@ fn calls_of_a_shared_pool_that_find_no_memory(rt: HostRuntime) -> Result<(), Fai
     }
     println!(rt; "{refused} refusals")?;
     Ok(())
+}
+
+// Its waker is all that a get needs memory for that finds its place in the queue made.
+#[test]
+fn a_get_that_has_room_to_wait_needs_less_memory(rt: HostRuntime) -> Result<(), Fail> {
+    let mut hoard = Hoard::new(rt.alloc())?;
+    let refused = try_call(rt, &mut hoard, Call::Queue)?;
+    let with_room = try_call(rt, &mut hoard, Call::QueueWithRoom)?;
+    if with_room < refused {
+        return Ok(());
+    }
+    Err(Fail::new(format_args!("refused {with_room} times with room, and {refused} times without")))
 }
