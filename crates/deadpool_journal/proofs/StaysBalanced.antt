@@ -7,7 +7,7 @@ use Rattle.deadpool_journal.proofs.{ByNumber.does_for_owner_numbered, Retains.re
 use Rattle.deadpool_desk.specs.DeskState.{size}
 use Rattle.deadpool_journal.specs.Tally.{AreBalanced, counted, counted_for_owner, counted_made, counted_retain, gone}
 use Rattle.deadpool_journal.specs.Tally.{StaysBalanced}
-use Rattle.deadpool_journal.specs.declared.entry.Entry.TheVariants.{Made, Owner, Retain}
+use Rattle.deadpool_journal.specs.declared.entry.Entry.TheVariants.{Made, Owner}
 use Rattle.deadpool_journal.specs.declared.tally.Tally.{Tally}
 
 module _ {T : Type 0} where
