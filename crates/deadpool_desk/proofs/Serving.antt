@@ -13,7 +13,10 @@ pub asked_served : {T : Type 0} (c c' : CoreState T) (ticket : ℕ) (expired : B
     → c'.queue_room ≡ c.queue_room → Steps c (Ask ticket expired) object reply c'
 asked_served c c' ticket expired (Some slot) (Object left) is_open has serves unnotified room =
     ((is_open, has, serves), unnotified, room)
-asked_served c c' ticket expired None Create is_open has serves unnotified room = ((is_open, has, serves), unnotified, room)
-asked_served c c' ticket expired None Going is_open has serves unnotified room = ((is_open, has, serves), unnotified, room)
-asked_served c c' ticket expired None Exhausted is_open has serves unnotified room = ((is_open, has, serves), unnotified, room)
+asked_served c c' ticket expired None Create is_open has serves unnotified room =
+    ((is_open, has, serves), unnotified, room)
+asked_served c c' ticket expired None Going is_open has serves unnotified room =
+    ((is_open, has, serves), unnotified, room)
+asked_served c c' ticket expired None Exhausted is_open has serves unnotified room =
+    ((is_open, has, serves), unnotified, room)
 asked_served c c' ticket expired _ _ is_open has serves unnotified room = absurd serves

@@ -1,7 +1,7 @@
 //! The line at a pool: those that found no place, in order of arrival, and what each of them was answered.
 
-ghost use Rattle.std.specs.Prelude.{◌≡◌, ℕ, ◌<◌, ◌≤◌, ◌^◌, ◌*◌, ◌++◌, [], true, false, not, IfSome, IfNone, is_some, OnOk};
-ghost use Rattle.std.specs.Prelude.{length, take, drop};
+ghost use Rattle.std.specs.Prelude.{◌≡◌, ℕ, ◌<◌, ◌≤◌, ◌^◌, ◌*◌, ◌++◌, [], true, false, not, is_some};
+ghost use Rattle.std.specs.Prelude.{length, take, drop, IfSome, IfNone, OnOk};
 ghost use Rattle.std.specs.Option.{option_map};
 ghost use Rattle.deadpool_gate.specs.Gate.{find_waiter, without_waiter, grant_next, grant, granted_count};
 ghost use Rattle.deadpool_gate.specs.Gate.{waiting_count, granted_tickets, waiting_tickets, unnotified_tickets};

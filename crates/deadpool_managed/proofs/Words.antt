@@ -12,7 +12,8 @@ pub use Rattle.deadpool_managed.specs.Slots.{Slot}
 pub use Rattle.deadpool_managed.specs.Bounds.{until_allowance, lacks_allowance, weight, Decreases, IsNewObject}
 pub use Rattle.deadpool_managed.specs.Calls.{start, ask_hook, followed, ask_hooks}
 pub use Rattle.deadpool_managed.specs.FirstPoll.{AtOnce, FirstPoll, FirstPollEnded, FirstCreation, in_order, IsGivenUp}
-pub use Rattle.deadpool_managed.specs.FirstPoll.{LeavesQueue, EndsAt, TakesFirst, ChecksAs, CreatesAs, CreatesOne, MayPrepare}
+pub use Rattle.deadpool_managed.specs.FirstPoll.{EndsAt, TakesFirst, ChecksAs, CreatesAs, CreatesOne, MayPrepare}
+pub use Rattle.deadpool_managed.specs.FirstPoll.{LeavesQueue}
 pub use Rattle.deadpool_managed.specs.Get.{Made, no_step, making, Makes, IsReport, IsServing, AfterServed, AfterCreated}
 pub use Rattle.deadpool_managed.specs.Get.{AfterCreation, AfterDiscard, AfterPrepared, AfterChecked, AdvancesCreation}
 pub use Rattle.deadpool_managed.specs.Get.{AdvancesFrom, Advanced, Advances, PollsOver, ended_by, CancelsFrom}

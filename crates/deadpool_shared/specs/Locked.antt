@@ -1,5 +1,6 @@
 -- What is done under the lock of a pool, with the wakers of those in its queue.
-use Rattle.std.specs.Prelude.{◌≡◌, ◌≤◌, length, ◌⊎◌, ◌&&◌, ◌==◌, not, ℕ, Bool, true, false, List, Option, Some, None, if◌then◌else◌}
+use Rattle.std.specs.Prelude.{◌≡◌, ◌⊎◌, ◌&&◌, ◌==◌, ◌≤◌, not, ℕ, Bool, true, false, List, length, Option, Some, None}
+use Rattle.std.specs.Prelude.{if◌then◌else◌}
 use Rattle.futures.specs.declared.task.waker.Waker.{Waker}
 use Rattle.deadpool_gate.specs.Gate.{waiting_count}
 use Rattle.deadpool_desk.specs.Closing.{is_drained}

@@ -1,6 +1,7 @@
 //! What a core says of itself between two steps: its handles, its counts, its idle objects, and who in the queue has a
 //! place.
-ghost use Rattle.std.specs.Prelude.{◌≡◌, ◌↔◌, ◌-◌, ◌^◌, min, IsTrue, ◌<◌, ◌&&◌, ◌==◌, not, length, nat_lt, option_copied, slice_get};
+ghost use Rattle.std.specs.Prelude.{◌≡◌, ◌<◌, ◌-◌, ◌^◌, ◌&&◌, ◌==◌, ◌↔◌, not, min, length, nat_lt};
+ghost use Rattle.std.specs.Prelude.{IsTrue, option_copied, slice_get};
 ghost use Rattle.deadpool_gate.specs.Numbers.{has_number};
 ghost use Rattle.deadpool_desk.specs.Closing.{is_drained};
 ghost use Rattle.deadpool_desk.specs.CoreState.{HasRoom, listed, most_next_ticket};

@@ -44,4 +44,8 @@ returns g c =
     c.withdraw.ensures.waiters in
     let settled_is =
     desk_of-settled c.self.inside c.withdraw.new.self c.settle.new.gate settle.granted settle.waiting settle.closed in
-    rw (← c.self.view_is) ((was, settled_is ∙ ap settled left), settle.unnotified ∙ unnotified, settle.room ∙ c.withdraw.ensures.capacity)
+    rw (← c.self.view_is) (
+      (was, settled_is ∙ ap settled left),
+      settle.unnotified ∙ unnotified,
+      settle.room ∙ c.withdraw.ensures.capacity,
+    )

@@ -5,9 +5,11 @@ use Rattle.deadpool_desk.specs.CoreState.{HasRoom}
 use Rattle.deadpool_shared.proofs.Roomy.{FindsRoom, nobody_refused, same_room}
 use Rattle.deadpool_shared.proofs.locked.Locked.make.Given.{Over}
 use Rattle.deadpool_shared.proofs.locked.Locked.make.Goals as goal
-use Rattle.deadpool_shared.proofs.locked.Locked.make.Goals.{else-may_wait-via-then-may_wait+then-would_queue+else-is_err}
-use Rattle.deadpool_shared.proofs.locked.Locked.make.Goals.{else-may_wait-via-then-may_wait+else-would_queue}
-use Rattle.deadpool_shared.proofs.locked.Locked.make.Goals.{else-may_wait-via-else-may_wait}
+use Rattle.deadpool_shared.proofs.locked.Locked.make.Goals.{
+  else-may_wait-via-then-may_wait+then-would_queue+else-is_err,
+  else-may_wait-via-then-may_wait+else-would_queue,
+  else-may_wait-via-else-may_wait,
+}
 
 pub returns-clause-call : goal.returns-clause-call
 returns-clause-call g c =
