@@ -5,15 +5,23 @@ use Rattle.deadpool_unmanaged.proofs.Words.{Waiter, Line, arrived, without_waite
 use Rattle.deadpool_unmanaged.proofs.Words.{unnotified_tickets, IsApart, served}
 use Rattle.deadpool_unmanaged.proofs.Words.{still_unnotified, unnotified_tickets-arrived}
 use Rattle.deadpool_unmanaged.proofs.Words.{unnotified_tickets-without_waiter, queue_of, queue-without, queue-joined}
-use Rattle.deadpool_unmanaged.proofs.Words.{queue-length, free_of, NobodyWaits, state_of, IsFull, free_objects}
+use Rattle.deadpool_unmanaged.proofs.Words.{queue-length, free_of, NobodyWaits, state_of, IsFull, KeepsRoom, listed, free_objects, ◌<◌}
 use Rattle.deadpool_unmanaged.proofs.Words.{settled, last_idle, without_get, without_add, with_get, with_add, subst}
 use Rattle.deadpool_unmanaged.proofs.Words.{free_room, sym, State, Inside}
 use Rattle.std.specs.Option.{option_to_list}
 use Rattle.deadpool_unmanaged.proofs.Kept.{settled-gets, settled-adds}
 
--- a line that is full is a queue that is
-pub queue-full : (room : ℕ) (ws : List Waiter) → room ≤ length ws → IsFull room (queue_of ws)
-queue-full room ws full = omega (arith, full, queue-length ws)
+-- what a line knows of its room, the queue does
+pub queue-full : (room : ℕ) (ws : List Waiter) → IsFull room (length ws) → IsFull room (listed (queue_of ws))
+queue-full room ws full = rw (queue-length ws) full
+
+pub queue-below : (room ticket : ℕ) (ws : List Waiter) → (length ws < room → ticket < room)
+    → listed (queue_of ws) < room → ticket < room
+queue-below room ticket ws below = rw (queue-length ws) below
+
+pub queue-keeps : (room after : ℕ) (ws : List Waiter) → KeepsRoom (length ws) room after
+    → KeepsRoom (listed (queue_of ws)) room after
+queue-keeps room after ws keeps = rw (queue-length ws) keeps
 
 -- nothing stands past the end
 pub past_end : {T : Type 0} (xs : List T) (n : ℕ) → slice_get xs n ≡ None → length xs ≤ n

@@ -6,12 +6,26 @@ use Rattle.deadpool_unmanaged.proofs.Words.{without_number-same, has_number, IsO
 use Rattle.deadpool_unmanaged.proofs.Words.{served-settled, served_served, served_within, still_served, left_served}
 use Rattle.deadpool_unmanaged.proofs.Words.{joined_served, free_objects, free_room, served, IsKept, State, size}
 use Rattle.deadpool_unmanaged.proofs.Words.{settled, last_idle, handed, stored, without_get, without_add, with_get}
-use Rattle.deadpool_unmanaged.proofs.Words.{with_add, served_fewer}
+use Rattle.deadpool_unmanaged.proofs.Words.{with_add, served_fewer, Bool, Queue, cond, cond_both, min, take, ◌++◌}
+
+-- no more than all that there is are granted it
+granted_within : (is_open : Bool) (total most : ℕ) (q : Queue) → length q.granted ≤ most → total ≤ most
+    → length (served is_open (total - length q.granted) q).granted ≤ most
+granted_within is_open total most q few within =
+    let k = cond is_open (min (length q.waiting) (total - length q.granted)) 0 in
+    let all : length (q.granted ++ take k q.waiting) ≡ length q.granted + length (take k q.waiting) =
+    length-append q.granted (take k q.waiting) in
+    let given : length (take k q.waiting) ≡ min k (length q.waiting) = length-take k q.waiting in
+    let free : k ≤ total - length q.granted =
+    cond_both is_open (min (length q.waiting) (total - length q.granted)) 0 (λ n. n ≤ total - length q.granted)
+    (λ y. omega arith) (λ y. omega arith) in
+    omega (arith, all, given, free, few, within)
 
 module _ {T : Type 0} where
   -- what a step owes before the settling
   record Owed (d : State T) : Type 0 where
     within : size d + length d.adds.granted ≤ d.limit
+    objects : length d.gets.granted ≤ d.limit
     gets : IsOnce (members d.gets)
     adds : IsOnce (members d.adds)
     few_gets : length d.gets.waiting ≤ d.max_waiting
@@ -27,6 +41,7 @@ module _ {T : Type 0} where
         few_gets = omega (arith, served_fewer d.is_open (free_objects d) d.gets, owed.few_gets);
         few_adds = omega (arith, served_fewer d.is_open (free_room d) d.adds, owed.few_adds);
         within = omega (arith, fits, owed.within);
+        objects = granted_within d.is_open (length d.idle) d.limit d.gets owed.objects (omega (arith, owed.within));
       }
 
   -- a state in which it is kept is settled
@@ -78,6 +93,7 @@ module _ {T : Type 0} where
         adds = still_served _ _ _ k.adds _ (λ is_open some. omega (arith, same, some));
         few_gets = fewer_gets d ticket k;
         few_adds = k.few_adds;
+        objects = omega (arith, without_number-shorter ticket d.gets.granted, k.objects);
         within = omega (arith, same, k.within);
       }
 
@@ -91,6 +107,7 @@ module _ {T : Type 0} where
         adds = still_served _ _ _ k.adds _ (λ is_open some. omega (arith, same, some));
         few_gets = k.few_gets;
         few_adds = k.few_adds;
+        objects = k.objects;
         within = omega (arith, same, k.within);
       }
 
@@ -104,6 +121,7 @@ module _ {T : Type 0} where
         adds = k.adds;
         few_gets = fewer_gets d ticket k;
         few_adds = k.few_adds;
+        objects = omega (arith, without_number-shorter ticket d.gets.granted, k.objects);
         within = k.within;
       }
 
@@ -116,6 +134,7 @@ module _ {T : Type 0} where
     adds = k.adds;
     few_gets = fewer_gets d ticket k;
     few_adds = k.few_adds;
+    objects = omega (arith, without_number-shorter ticket d.gets.granted, k.objects);
     within = k.within;
   }
 
@@ -127,6 +146,7 @@ module _ {T : Type 0} where
     adds = k.adds;
     few_gets = omega (arith, length-append d.gets.waiting (ticket ∷ []), roomy);
     few_adds = k.few_adds;
+    objects = k.objects;
     within = k.within;
   }
 
@@ -139,6 +159,7 @@ module _ {T : Type 0} where
         adds = k.adds.once;
         few_gets = fewer_gets d ticket k;
         few_adds = k.few_adds;
+        objects = omega (arith, without_number-shorter ticket d.gets.granted, k.objects);
       })
 
   -- no add waits for room that is free where an add has put its object in, or one has come back
@@ -168,6 +189,7 @@ module _ {T : Type 0} where
         adds = k.adds.once;
         few_gets = k.few_gets;
         few_adds = k.few_adds;
+        objects = k.objects;
       })
 
   -- the same of the adds
@@ -178,6 +200,7 @@ module _ {T : Type 0} where
     adds = joined_served _ _ _ k.adds ticket none fresh;
     few_gets = k.few_gets;
     few_adds = omega (arith, length-append d.adds.waiting (ticket ∷ []), roomy);
+    objects = k.objects;
     within = k.within;
   }
 
@@ -188,6 +211,7 @@ module _ {T : Type 0} where
         adds = left_served _ _ _ k.adds ticket _ (λ is_open some. cc);
         few_gets = k.few_gets;
         few_adds = fewer_adds d ticket k;
+        objects = k.objects;
         within = omega (arith, fewer, k.within);
       }
 
@@ -200,6 +224,7 @@ module _ {T : Type 0} where
         adds = once-without ticket d.adds k.adds.once;
         few_gets = k.few_gets;
         few_adds = fewer_adds d ticket k;
+        objects = k.objects;
       })
 
   -- and an add that puts its object in
@@ -215,4 +240,5 @@ module _ {T : Type 0} where
         adds = once-without ticket d.adds k.adds.once;
         few_gets = k.few_gets;
         few_adds = fewer_adds d ticket k;
+        objects = k.objects;
       })

@@ -1,9 +1,9 @@
 -- Lines, queues and steps of an unmanaged pool: the words that the proofs cite, passed on from one place.
-pub use Rattle.std.proofs.{lemmas.Bool.or_left}
+pub use Rattle.std.proofs.{lemmas.Bool.cond_both, lemmas.Bool.or_left}
 pub use Rattle.std.proofs.Common.{◌≡◌, ℕ, ◌+◌, ◌<◌, ◌≤◌, Bool, not, List, [], ◌∷◌, ◌++◌, length}
 pub use Rattle.std.proofs.Common.{refl, ◌∙◌, arith, true, false, Option, None, zero, suc, ◌-◌, length-append, slice_get}
 pub use Rattle.std.proofs.Common.{sym, subst, Some, length-take, ap}
-pub use Rattle.std.proofs.Common.{vec_len, rules}
+pub use Rattle.std.proofs.Common.{vec_len, rules, cond, min, take}
 pub use Rattle.deadpool_gate.proofs.{GateAnswers.asked-granted}
 pub use Rattle.deadpool_gate.proofs.{GateAnswers.asked-waiting, GateAnswers.asked-closed, GateAnswers.asked-unknown}
 pub use Rattle.deadpool_gate.proofs.{GateAnswers.withdrawn-unknown, GateAnswers.withdrawn-known}
@@ -18,11 +18,11 @@ pub use Rattle.deadpool_gate.proofs.{Orders.IsOnce-front}
 pub use Rattle.deadpool_gate.specs.{Gate.Waiter, Gate.Line, Gate.arrived, Gate.without_waiter, Gate.granted_tickets}
 pub use Rattle.deadpool_gate.specs.{Gate.waiting_tickets, Gate.unnotified_tickets, Gate.IsApart}
 pub use Rattle.deadpool_gate.specs.{Numbers.has_number, Orders.IsOnce}
-pub use Rattle.deadpool_gate.specs.{Queue.served, Queue.members, Queue.is_listed}
-pub use Rattle.deadpool_gate.specs.{Waking.still_unnotified}
+pub use Rattle.deadpool_gate.specs.{Queue.Queue, Queue.served, Queue.members, Queue.is_listed}
+pub use Rattle.deadpool_gate.specs.{Room.IsFull, Room.KeepsRoom, Waking.still_unnotified}
 pub use Rattle.std.specs.Prelude.{IsSome}
 pub use Rattle.deadpool_unmanaged.specs.{CoreFields.state_of, Kept.IsKept}
-pub use Rattle.deadpool_unmanaged.specs.{State.IsFull, State.free_objects, State.free_room, State.settled}
+pub use Rattle.deadpool_unmanaged.specs.{State.listed, State.free_objects, State.free_room, State.settled}
 pub use Rattle.deadpool_unmanaged.specs.{State.last_idle, State.State, State.size, StateSteps.without_get}
 pub use Rattle.deadpool_unmanaged.specs.{StateSteps.without_add, StateSteps.with_get, StateSteps.with_add}
 pub use Rattle.deadpool_unmanaged.specs.{StateSteps.handed, StateSteps.stored}

@@ -3,6 +3,7 @@
 -- The pool's state without names, the steps that `Core` makes of it, which replies they have, and what holds between
 -- two of them.
 pub mod State
+pub mod Room
 pub mod StateSteps
 pub mod Replies
 pub mod Kept

@@ -1,5 +1,5 @@
 -- The state of an unmanaged pool without names: tickets in its queues, and a count of the objects that are out.
-use Rattle.std.specs.Prelude.{ℕ, ◌+◌, ◌-◌, ◌≤◌, Bool, true, ◌||◌, ◌&&◌, ◌==◌, List, [], length, take, slice_get, Option}
+use Rattle.std.specs.Prelude.{ℕ, ◌+◌, ◌-◌, Bool, true, ◌||◌, ◌&&◌, ◌==◌, List, [], length, take, slice_get, Option}
 use Rattle.std.specs.Prelude.{is_some, nat_lt, unwrap_or}
 use Rattle.deadpool_gate.specs.Numbers.{largest_usize}
 use Rattle.deadpool_gate.specs.Waking.{next_due}
@@ -31,9 +31,9 @@ pub record CoreState (T : Type 0) : Type 0 where
   pub next_get : ℕ
   pub next_add : ℕ
 
--- the queue can list nobody more without memory
-abbrev pub IsFull : ℕ → Queue → Type 0
-IsFull room q = room ≤ length (members q)
+-- how many a queue lists
+abbrev pub listed : Queue → ℕ
+listed q = length (members q)
 
 module _ {T : Type 0} where
   -- an open pool with these objects, one handle, nobody in its queues, and no bound on those that wait

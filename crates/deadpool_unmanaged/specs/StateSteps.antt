@@ -1,6 +1,6 @@
 -- The steps of a pool without names: when each reply comes, and the state after it. Those of a get, an add or an object
 -- are one table.
-use Rattle.std.specs.Prelude.{◌≡◌, ℕ, ⊤, ◌+◌, ◌-◌, ◌<◌, ◌≤◌, min, length, Bool, true, false, ◌&&◌, ◌==◌, nat_lt}
+use Rattle.std.specs.Prelude.{◌≡◌, ℕ, ◌+◌, ◌-◌, ◌<◌, ◌≤◌, min, length, Bool, true, false, ◌&&◌, ◌==◌, nat_lt}
 use Rattle.std.specs.Prelude.{if◌then◌else◌, [], ◌∷◌, ◌++◌, Option, Some, None}
 use Rattle.std.specs.Option.{option_or}
 use Rattle.deadpool_gate.specs.Numbers.{has_number, without_number, most_handles}
@@ -8,7 +8,8 @@ use Rattle.deadpool_gate.specs.Queue.{is_listed, joined, without}
 use Rattle.deadpool_gate.specs.Waking.{still_unnotified}
 use Rattle.deadpool_parts.specs.declared.replies.HandleReply.{HandleReply}
 use Rattle.deadpool_parts.specs.declared.replies.HandleReply.TheVariants as handle
-use Rattle.deadpool_unmanaged.specs.State.{State, CoreState, IsFull, free_objects, free_room, settled, due_get, due_add}
+use Rattle.deadpool_unmanaged.specs.Room.{Queues}
+use Rattle.deadpool_unmanaged.specs.State.{State, CoreState, free_objects, free_room, settled, due_get, due_add}
 use Rattle.deadpool_unmanaged.specs.State.{last_idle, other_idle}
 use Rattle.deadpool_unmanaged.specs.declared.step.Reply.{Reply}
 use Rattle.deadpool_unmanaged.specs.declared.step.Reply.TheVariants.{Object, Stored, Closed, Full, Waiting, OutOfMemory}
@@ -119,17 +120,9 @@ module _ {T : Type 0} where
   Does d Take None Taken d' = (0 < d.outside) × (d' ≡ settled (record d { outside = d.outside - 1 }))
   Does d _ _ _ d' = ⊥
 
-  -- Who joins a queue has its next ticket. Memory is wanting only where that queue had no room.
-  abbrev pub Queues : CoreState T → Step → Reply → Type 0
-  Queues c (GetEnter wait) (Waiting ticket) = ticket ≡ c.next_get
-  Queues c (GetEnter wait) OutOfMemory = IsFull c.gets_room c.pool.gets
-  Queues c (AddEnter wait) (Waiting ticket) = ticket ≡ c.next_add
-  Queues c (AddEnter wait) OutOfMemory = IsFull c.adds_room c.pool.adds
-  Queues c _ _ = ⊤
-
   -- a core's step with the object that is taken or given
   abbrev pub Steps : CoreState T → Step → Option T → Reply → CoreState T → Type 0
-  Steps c step object reply c' = Does c.pool step object reply c'.pool × Queues c step reply
+  Steps c step object reply c' = Does c.pool step object reply c'.pool × Queues c step reply c'
 
   -- the same, with what was in the hand, and what is in it then
   abbrev pub Makes : CoreState T → Step → Option T → Reply → Option T → CoreState T → Type 0

@@ -1,10 +1,12 @@
 //! An add, as a state that its owner polls.
-ghost use Rattle.std.specs.Prelude.{◌≡◌, IfSome, option_map};
+ghost use Rattle.std.specs.Prelude.{◌≡◌, ◌<◌, IfSome, option_map};
+ghost use Rattle.deadpool_gate.specs.Room.{IsFull};
 ghost use Rattle.deadpool_unmanaged.specs.Adds.{PollsAdd, CancelsAdd, begun, held_by, ticket_of, stage_after};
 ghost use Rattle.deadpool_unmanaged.specs.Adds.{turn_after};
 ghost use Rattle.deadpool_unmanaged.specs.Adds.{IsUnpolled, IsWithoutMemory};
 ghost use Rattle.deadpool_unmanaged.specs.Queueing.{add_joins};
-ghost use Rattle.deadpool_unmanaged.specs.State.{IsFull};
+ghost use Rattle.deadpool_unmanaged.specs.Room.{HasRoom, SameRoom};
+ghost use Rattle.deadpool_unmanaged.specs.State.{listed};
 
 use crate::state::Core;
 use crate::{PoolError, Reply, Step};
@@ -114,9 +116,13 @@ impl<T: Drop> AddState<T> {
     /// cause. An add that joins the queue has the ticket that `next_add` told. An add that has ended stays pending.
     pub fn poll(&mut self, core: &mut Core<T>) -> Poll<Result<(), (T, PoolError)>>
         ensures polls { PollsAdd self.old core.old.pool result self.new core.new.pool }
-        ensures memory { IsWithoutMemory result → IsFull core.old.adds_room core.old.pool.adds }
+        ensures memory { IsWithoutMemory result → IsFull core.old.adds_room (listed core.old.pool.adds) }
         ensures number { ticket_of self.old ≡ None
             → IfSome (ticket_of self.new) (λ ticket. ticket ≡ core.old.next_add) }
+        ensures below { ticket_of self.old ≡ None → listed core.old.pool.adds < core.old.adds_room
+            → IfSome (ticket_of self.new) (λ ticket. ticket < core.old.adds_room) }
+        ensures enough { HasRoom core.old → IsWithoutMemory result → ⊥ }
+        ensures room { HasRoom core.old → SameRoom core.old core.new × HasRoom core.new }
     {
         match self.begin() {
             Some((step, value)) => {

@@ -1,9 +1,11 @@
 //! A get, as a state that its owner polls.
-ghost use Rattle.std.specs.Prelude.{◌≡◌, IfSome};
+ghost use Rattle.std.specs.Prelude.{◌≡◌, ◌≢◌, ◌<◌, IfSome};
+ghost use Rattle.deadpool_gate.specs.Room.{IsFull};
 ghost use Rattle.deadpool_unmanaged.specs.Gets.{PollsGet, CancelsGet, begun, ticket_of, deadline_of, stage_after};
 ghost use Rattle.deadpool_unmanaged.specs.Gets.{turn_after};
 ghost use Rattle.deadpool_unmanaged.specs.Queueing.{get_joins};
-ghost use Rattle.deadpool_unmanaged.specs.State.{IsFull};
+ghost use Rattle.deadpool_unmanaged.specs.Room.{HasRoom, SameRoom};
+ghost use Rattle.deadpool_unmanaged.specs.State.{listed};
 
 use crate::state::Core;
 use crate::{Moment, PoolError, Reply, Runtime, Step};
@@ -121,9 +123,13 @@ impl GetState {
     ) -> Poll<Result<T, PoolError>>
         ensures polls { PollsGet runtime now self.old core.old.pool result self.new core.new.pool }
         ensures memory { result ≡ Poll.Ready (Err PoolError.OutOfMemory)
-            → IsFull core.old.gets_room core.old.pool.gets }
+            → IsFull core.old.gets_room (listed core.old.pool.gets) }
         ensures number { ticket_of self.old ≡ None
             → IfSome (ticket_of self.new) (λ ticket. ticket ≡ core.old.next_get) }
+        ensures below { ticket_of self.old ≡ None → listed core.old.pool.gets < core.old.gets_room
+            → IfSome (ticket_of self.new) (λ ticket. ticket < core.old.gets_room) }
+        ensures enough { HasRoom core.old → result ≢ Poll.Ready (Err PoolError.OutOfMemory) }
+        ensures room { HasRoom core.old → SameRoom core.old core.new × HasRoom core.new }
     {
         match self.begin(runtime, now) {
             Ok((step, deadline)) => {

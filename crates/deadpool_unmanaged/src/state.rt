@@ -3,6 +3,7 @@
 //!
 //! `counted` has what a core says of itself, and `owner` the steps of the pool's owner.
 ghost use Rattle.std.specs.Prelude.{◌≡◌, ◌-◌, ◌<◌, ◌≤◌, not, [], ◌++◌, None, length, vec_capacity, IfOk, IsSome};
+ghost use Rattle.std.specs.Prelude.{OnErr, OnOk};
 ghost use Rattle.std.specs.Option.{option_to_list};
 ghost use Rattle.deadpool_gate.specs.Gate.{unnotified_tickets};
 ghost use Rattle.deadpool_gate.specs.Queue.{served};
@@ -10,6 +11,7 @@ ghost use Rattle.deadpool_gate.specs.Served.{free_of, queue_of};
 ghost use Rattle.deadpool_unmanaged.specs.Kept.{IsKept};
 ghost use Rattle.deadpool_unmanaged.specs.State.{bounded, has_due, last_idle, opened, other_idle};
 ghost use Rattle.deadpool_unmanaged.specs.Replies.{Brings, IsReplyTo, Leaves};
+ghost use Rattle.deadpool_unmanaged.specs.Room.{HasRoom, RoomLasts, SameRoom};
 ghost use Rattle.deadpool_unmanaged.specs.StateSteps.{Makes, Steps, TakesGetWake, TakesAddWake};
 
 mod counted;
@@ -78,6 +80,7 @@ fn store<T: Drop>(idle: &mut Vec<T>, gets: &mut Gate, hand: &mut Option<T>)
         (queue_of gets.old.waiters) }
     ensures unnotified { unnotified_tickets gets.new.waiters ≡ unnotified_tickets gets.old.waiters }
     ensures closed { gets.new.is_closed ≡ gets.old.is_closed }
+    ensures capacity { gets.new.capacity ≡ gets.old.capacity }
 {
     let Some(value) = hand.take() else {
         unreachable!();
@@ -142,10 +145,32 @@ impl<T: Drop> Core<T> {
         let _ = &self.gets;
     }
 
+    /// Sees that each queue has room for all that may wait in it and all that may be granted what they ask for, an object
+    /// or room for one. As the limit stays, no entry is refused for want of memory from then on. Without memory for that
+    /// only the room may have changed. A pool with no bound on those that wait never finds it.
+    pub fn make_room_for_waiting(&mut self) -> Result<(), AllocError>
+        ensures room { OnOk result (HasRoom self.new) }
+        ensures wanting { OnErr result (HasRoom self.old → ⊥) }
+        ensures gets { self.old.gets_room ≤ self.new.gets_room }
+        ensures adds { self.old.adds_room ≤ self.new.adds_room }
+        ensures pool { self.new.pool ≡ self.old.pool }
+    {
+        if self.has_room_for_waiting() {
+            return Ok(());
+        }
+        let most = self.most_listed();
+        if most > usize::MAX / 2 {
+            return Err(AllocError);
+        }
+        self.gets.reserve(most)?;
+        self.adds.reserve(most)
+    }
+
     /// The earliest get in the queue whose wait has ended, by an object or by the closing, and that was not named
     /// before. It stays in the queue until it asks or cancels. Nothing else changes.
     pub fn take_get_wake(&mut self) -> Option<Ticket>
-        ensures { TakesGetWake self.old.pool result self.new.pool }
+        ensures takes { TakesGetWake self.old.pool result self.new.pool }
+        ensures room { SameRoom self.old self.new }
     {
         self.gets.take_wake()
     }
@@ -153,7 +178,8 @@ impl<T: Drop> Core<T> {
     /// The earliest add in the queue whose wait has ended, by room or by the closing, and that was not named before. It
     /// stays in the queue until it asks or cancels. Nothing else changes.
     pub fn take_add_wake(&mut self) -> Option<Ticket>
-        ensures { TakesAddWake self.old.pool result self.new.pool }
+        ensures takes { TakesAddWake self.old.pool result self.new.pool }
+        ensures room { SameRoom self.old self.new }
     {
         self.adds.take_wake()
     }
@@ -166,14 +192,16 @@ impl<T: Drop> Core<T> {
     }
 
     /// Makes one step. The object that it takes or gives is in `hand`. `OutOfMemory` comes only if the queue had no
-    /// room left.
+    /// room left, so never once there is room for all that may wait.
     #[inline(always)]
     pub fn make(&mut self, step: &Step, hand: &mut Option<T>) -> Reply
         requires { Brings step.now hand.old }
         ensures made { Makes self.old step.now hand.old result hand.new self.new }
         ensures fits { IsReplyTo step.now result }
         ensures hand { Leaves result hand.old hand.new }
+        ensures room { RoomLasts self.old result self.new }
     {
+        let _ = &self.gets;
         match step {
             Step::GetEnter { wait } => self.get_enter(*wait, hand),
             Step::GetAsk { ticket, expired } => self.get_ask(*ticket, *expired, hand),

@@ -1,10 +1,12 @@
 //! What a core says of itself between two steps: its handles, its counts, its idle objects, and who in a queue was
 //! granted what it asks for.
-ghost use Rattle.std.specs.Prelude.{◌≡◌, ◌&&◌, ◌==◌, length, nat_lt, not, option_copied, slice_get};
-ghost use Rattle.deadpool_gate.specs.Numbers.{has_number};
+ghost use Rattle.std.specs.Prelude.{◌≡◌, ◌↔◌, ◌+◌, ◌<◌, IsTrue, min, ◌&&◌, ◌==◌, length, nat_lt, not, option_copied, slice_get};
+ghost use Rattle.deadpool_gate.specs.Numbers.{has_number, largest_usize};
 ghost use Rattle.deadpool_unmanaged.specs.Closing.{is_drained};
 ghost use Rattle.deadpool_unmanaged.specs.Counts.{counts_of};
+ghost use Rattle.deadpool_unmanaged.specs.Room.{HasRoom, most_listed, most_next_add, most_next_get};
 ghost use Rattle.deadpool_unmanaged.specs.State.{free_objects, free_room, get_would_queue, add_would_queue};
+ghost use Rattle.deadpool_unmanaged.specs.State.{listed};
 
 use super::Core;
 use crate::Counts;
@@ -60,18 +62,51 @@ impl<T: Drop> Core<T> {
         }
     }
 
-    /// The number of the ticket that the next get in the queue has.
-    pub fn next_get(&self) -> usize
-        ensures { result ≡ self.now.next_get }
+    /// The greatest number that the ticket of the next get in the queue may have. If there is room for that get it is
+    /// below the room.
+    pub fn most_next_get(&self) -> usize
+        ensures { result ≡ most_next_get self.now }
     {
-        self.gets.next_number()
+        self.gets.most_next_number()
     }
 
-    /// The number of the ticket that the next add in the queue has.
-    pub fn next_add(&self) -> usize
-        ensures { result ≡ self.now.next_add }
+    /// The greatest number that the ticket of the next add in the queue may have. If there is room for that add it is
+    /// below the room.
+    pub fn most_next_add(&self) -> usize
+        ensures { result ≡ most_next_add self.now }
     {
-        self.adds.next_number()
+        self.adds.most_next_number()
+    }
+
+    /// How many gets the queue has room for.
+    pub fn gets_room(&self) -> usize
+        ensures { result ≡ self.now.gets_room }
+    {
+        self.gets.room()
+    }
+
+    /// How many adds the queue has room for.
+    pub fn adds_room(&self) -> usize
+        ensures { result ≡ self.now.adds_room }
+    {
+        self.adds.room()
+    }
+
+    /// Whether each queue has room for all that may wait in it and all that may be granted what they ask for. As long as
+    /// it has, none is refused for want of memory.
+    pub fn has_room_for_waiting(&self) -> bool
+        ensures { IsTrue result ↔ HasRoom self.now }
+    {
+        let most = self.most_listed();
+        let room = self.gets_room().min(self.adds_room());
+        most <= room.min(usize::MAX / 2)
+    }
+
+    // How many a queue lists at most, or the greatest number.
+    pub(super) fn most_listed(&self) -> usize
+        ensures { result ≡ min (most_listed self.now) largest_usize }
+    {
+        self.max_waiting.saturating_add(self.limit)
     }
 
     // How many idle objects no get was granted.
@@ -110,7 +145,9 @@ impl<T: Drop> Core<T> {
     /// Whether a get that enters now and wants to wait joins the queue: the pool is open, has no free object, and fewer
     /// gets wait than may.
     pub fn get_would_queue(&self) -> bool
-        ensures { result ≡ get_would_queue self.now.pool }
+        ensures would { result ≡ get_would_queue self.now.pool }
+        ensures room { IsTrue result → HasRoom self.now
+            → listed self.now.pool.gets < self.now.gets_room }
     {
         !self.gets.is_closed() && self.free_objects() == 0 && self.get_may_join(true)
     }
@@ -118,7 +155,9 @@ impl<T: Drop> Core<T> {
     /// Whether an add that enters now and wants to wait joins the queue: the pool is open, has no free room, and fewer
     /// adds wait than may.
     pub fn add_would_queue(&self) -> bool
-        ensures { result ≡ add_would_queue self.now.pool }
+        ensures would { result ≡ add_would_queue self.now.pool }
+        ensures room { IsTrue result → HasRoom self.now
+            → listed self.now.pool.adds < self.now.adds_room }
     {
         !self.gets.is_closed() && self.free_room() == 0 && self.add_may_join(true)
     }

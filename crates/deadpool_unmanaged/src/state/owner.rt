@@ -1,5 +1,6 @@
 //! The steps of a core that the pool's owner makes.
 ghost use Rattle.std.specs.Prelude.{◌≡◌};
+ghost use Rattle.deadpool_unmanaged.specs.Room.{SameRoom};
 ghost use Rattle.deadpool_unmanaged.specs.State.{status_of};
 ghost use Rattle.deadpool_unmanaged.specs.StateSteps.{Clones, DropsHandle, Upgrades, closed_pool};
 
@@ -23,7 +24,8 @@ impl<T: Drop> Core<T> {
 
     /// The pool closes for good. The idle objects are dropped, and the limit stays.
     pub fn close(&mut self)
-        ensures { self.new.pool ≡ closed_pool self.old.pool }
+        ensures closed { self.new.pool ≡ closed_pool self.old.pool }
+        ensures room { SameRoom self.old self.new }
     {
         self.gets.close();
         self.adds.close();
@@ -32,7 +34,8 @@ impl<T: Drop> Core<T> {
 
     /// There is one more handle. A count that has reached the greatest `u64` stays there.
     pub fn clone_handle(&mut self) -> HandleReply
-        ensures { Clones self.old.pool result self.new.pool }
+        ensures clones { Clones self.old.pool result self.new.pool }
+        ensures room { SameRoom self.old self.new }
     {
         if self.handles == 0 {
             return HandleReply::NoHandle;
@@ -44,7 +47,8 @@ impl<T: Drop> Core<T> {
     /// There is one handle less. The last one takes the idle objects with it, which are dropped. A count that has
     /// reached the greatest `u64` stays there.
     pub fn drop_handle(&mut self) -> HandleReply
-        ensures { DropsHandle self.old.pool result self.new.pool }
+        ensures drops { DropsHandle self.old.pool result self.new.pool }
+        ensures room { SameRoom self.old self.new }
     {
         if self.handles == 0 {
             return HandleReply::NoHandle;
@@ -61,7 +65,8 @@ impl<T: Drop> Core<T> {
 
     /// There is one more handle, for an owner that has none: true exactly if one is left. Otherwise nothing changes.
     pub fn upgrade(&mut self) -> bool
-        ensures { Upgrades self.old.pool result self.new.pool }
+        ensures upgrades { Upgrades self.old.pool result self.new.pool }
+        ensures room { SameRoom self.old self.new }
     {
         match self.clone_handle() {
             HandleReply::Done => true,

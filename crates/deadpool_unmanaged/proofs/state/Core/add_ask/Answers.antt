@@ -59,7 +59,7 @@ returns-in-Granted-clause-made g c =
     let room = room-added (state_of core) c.args.ticket has.0 c.self.invariant.kept in
     let is = gets-settled (record core { adds = c.ask.new.self; idle = c.store.new.idle }) core.gets c.store.new.gets _
     _ refl puts stores.gets stores.unnotified stores.closed room in
-    rw (← c.self.view_is, has.1) ((ap not (sym c.self.invariant.together ∙ was.0), was.1, is), tt)
+    rw (← c.self.view_is, has.1) ((ap not (sym c.self.invariant.together ∙ was.0), was.1, is), (stores.capacity, asked.capacity))
 
 pub returns-in-Closed-clause-made : goal.returns-in-Closed-clause-made
 returns-in-Closed-clause-made g c =
@@ -67,7 +67,7 @@ returns-in-Closed-clause-made g c =
     let was = asked-closed _ c.args.ticket _ asked.line c.in-Closed.ensures.answer in
     let left = adds-without c.self.inside c.ask.new.self c.args.ticket asked.line.apart (asked.waiters ∙ was.2) in
     rw (← c.self.view_is, (in_hand c.args.hand.now c.requires).1)
-    ((ap not (sym c.self.invariant.together ∙ was.0), was.1, left), tt)
+    ((ap not (sym c.self.invariant.together ∙ was.0), was.1, left), (refl, asked.capacity))
 
 pub returns-in-Waiting-clause-made : goal.returns-in-Waiting-clause-made
 returns-in-Waiting-clause-made g c =
@@ -81,7 +81,7 @@ returns-in-Waiting-clause-made g c =
         refl,
         adds-same c.self.inside c.ask.new.self (asked.waiters ∙ was.3),
       ),
-      tt,
+      (refl, asked.capacity),
     )
 
 pub returns-in-Unknown-clause-made : goal.returns-in-Unknown-clause-made
@@ -89,4 +89,4 @@ returns-in-Unknown-clause-made g c =
     let asked = c.ask.ensures in
     let was = asked-unknown _ c.args.ticket _ asked.line c.in-Unknown.ensures.answer in
     rw (← c.self.view_is, (in_hand c.args.hand.now c.requires).1)
-    ((was.0, adds-same c.self.inside c.ask.new.self (asked.waiters ∙ was.1)), tt)
+    ((was.0, adds-same c.self.inside c.ask.new.self (asked.waiters ∙ was.1)), (refl, asked.capacity))

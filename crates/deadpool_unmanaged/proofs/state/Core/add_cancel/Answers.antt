@@ -1,5 +1,5 @@
 -- An add that is given up leaves its queue, and room that it was granted goes to the next add.
-use Rattle.deadpool_unmanaged.proofs.Words.{◌≡◌, ◌∙◌, ◌-◌, ◌+◌, arith, sym, subst, rules, length, vec_len}
+use Rattle.deadpool_unmanaged.proofs.Words.{refl, ◌≡◌, ◌∙◌, ◌-◌, ◌+◌, arith, sym, subst, rules, length, vec_len}
 use Rattle.deadpool_unmanaged.proofs.Words.{withdrawn-unknown, withdrawn-known, IsKept}
 use Rattle.deadpool_unmanaged.proofs.CoreQueues.{adds-same, adds-without, adds-settled}
 use Rattle.deadpool_unmanaged.proofs.Kept.{kept-freed_add}
@@ -20,7 +20,7 @@ pub returns-in-Unknown : goal.returns-in-Unknown
 returns-in-Unknown g c =
     let out = c.withdraw.ensures in
     let was = withdrawn-unknown _ c.args.ticket _ out.line c.in-Unknown.ensures.answer in
-    rw (← c.self.view_is) ((was.0, adds-same c.self.inside c.withdraw.new.self (out.waiters ∙ was.1)), tt)
+    rw (← c.self.view_is) ((was.0, adds-same c.self.inside c.withdraw.new.self (out.waiters ∙ was.1)), (refl, out.capacity))
 
 pub invariant_of-self-2 : goal.invariant_of-self-2
 invariant_of-self-2 g c =
@@ -52,5 +52,5 @@ returns g c =
     (out.closed ∙ c.self.invariant.together) line.queue line.unnotified c.self.invariant.kept.gets.nobody_waits in
     rw (← c.self.view_is) (
       (withdrawn-known _ c.args.ticket _ out.line (rw out.answer at c.in_default.not-Unknown), is),
-      tt,
+      (refl, line.capacity ∙ out.capacity),
     )

@@ -3,7 +3,7 @@ use Rattle.deadpool_unmanaged.proofs.Words.{◌∙◌, not, ap, refl, sym, subst
 use Rattle.deadpool_unmanaged.proofs.Words.{unlisted, IsKept}
 use Rattle.deadpool_unmanaged.proofs.Words.{and_parts, ltb-true, nat_lt, length, waiting_tickets, ◌≡◌, ◌<◌}
 use Rattle.deadpool_unmanaged.proofs.Words.{rules, arith, state_of, stored, free_room}
-use Rattle.deadpool_unmanaged.proofs.CoreQueues.{adds-same, adds-joined, queue-full, in_hand, gets-settled}
+use Rattle.deadpool_unmanaged.proofs.CoreQueues.{adds-same, adds-joined, queue-full, queue-below, queue-keeps, in_hand, gets-settled}
 use Rattle.deadpool_unmanaged.proofs.CoreQueues.{joined_idle}
 use Rattle.deadpool_unmanaged.proofs.Kept.{kept-joined_add, kept-stored, room-stored}
 use Rattle.deadpool_unmanaged.proofs.state.Core.add_enter.Goals as goal
@@ -72,7 +72,13 @@ returns-in-Waiting-clause-made g c =
         unlisted c.in-Waiting.ticket c.self.inside.adds.waiters was.3,
         longer,
       ),
-      c.in-Waiting.ensures.number c.in-Waiting.ticket refl,
+      (
+        c.in-Waiting.ensures.number c.in-Waiting.ticket refl,
+        queue-below c.self.inside.adds.capacity c.in-Waiting.ticket c.self.inside.adds.waiters
+            (c.in-Waiting.ensures.below c.in-Waiting.ticket refl),
+        queue-keeps c.self.inside.adds.capacity _ c.self.inside.adds.waiters c.enter.ensures.capacity,
+        refl,
+      ),
     )
 
 pub returns-in-OutOfMemory-clause-made : goal.returns-in-OutOfMemory-clause-made
@@ -96,5 +102,9 @@ returns-in-OutOfMemory-clause-made g c =
         roomy,
         adds-same c.self.inside c.enter.new.self was.3,
       ),
-      queue-full c.self.inside.adds.capacity c.self.inside.adds.waiters (c.in-OutOfMemory.ensures.memory refl),
+      (
+        queue-full c.self.inside.adds.capacity c.self.inside.adds.waiters (c.in-OutOfMemory.ensures.memory refl),
+        queue-keeps c.self.inside.adds.capacity _ c.self.inside.adds.waiters c.enter.ensures.capacity,
+        refl,
+      ),
     )

@@ -2,7 +2,7 @@
 use Rattle.deadpool_unmanaged.proofs.Words.{◌≡◌, ◌∙◌, ◌<◌, not, ap, refl, sym, subst, rules, entered-waiting}
 use Rattle.deadpool_unmanaged.proofs.Words.{entered-without_memory, unlisted, free_objects, handed, IsKept}
 use Rattle.deadpool_unmanaged.proofs.Words.{and_parts, ltb-true, nat_lt, length, waiting_tickets}
-use Rattle.deadpool_unmanaged.proofs.CoreQueues.{gets-same, gets-joined, queue-full}
+use Rattle.deadpool_unmanaged.proofs.CoreQueues.{gets-same, gets-joined, queue-full, queue-below, queue-keeps}
 use Rattle.deadpool_unmanaged.proofs.Kept.{kept-handed, kept-joined_get, settled-kept}
 use Rattle.deadpool_unmanaged.proofs.state.Core.get_enter.Goals as goal
 
@@ -34,7 +34,7 @@ returns-in-Some-clause-made g c =
     let value = sym c.take_last.ensures.value ∙ c.in-Some.is in
     let kept = kept-handed _ c.in-Some.value (rw (← c.self.view_is) at free) value c.self.invariant.kept in
     let goes = ap handed (gets-same c.self.inside c.enter.new.self same c.enter.ensures.closed) ∙ settled-kept _ kept in
-    ((search rules, free, rw (← c.self.view_is) value, rw (← c.self.view_is, c.take_last.ensures.others) goes), tt)
+    ((search rules, free, rw (← c.self.view_is) value, rw (← c.self.view_is, c.take_last.ensures.others) goes), (search rules, search rules))
 
 pub returns-in-Waiting-clause-made : goal.returns-in-Waiting-clause-made
 returns-in-Waiting-clause-made g c =
@@ -58,7 +58,13 @@ returns-in-Waiting-clause-made g c =
         unlisted c.in-Waiting.ticket c.self.inside.gets.waiters was.3,
         longer,
       ),
-      c.in-Waiting.ensures.number c.in-Waiting.ticket refl,
+      (
+        c.in-Waiting.ensures.number c.in-Waiting.ticket refl,
+        queue-below c.self.inside.gets.capacity c.in-Waiting.ticket c.self.inside.gets.waiters
+            (c.in-Waiting.ensures.below c.in-Waiting.ticket refl),
+        queue-keeps c.self.inside.gets.capacity _ c.self.inside.gets.waiters c.enter.ensures.capacity,
+        refl,
+      ),
     )
 
 pub returns-in-OutOfMemory-clause-made : goal.returns-in-OutOfMemory-clause-made
@@ -81,5 +87,9 @@ returns-in-OutOfMemory-clause-made g c =
         roomy,
         gets-same c.self.inside c.enter.new.self was.3 c.enter.ensures.closed,
       ),
-      queue-full c.self.inside.gets.capacity c.self.inside.gets.waiters (c.in-OutOfMemory.ensures.memory refl),
+      (
+        queue-full c.self.inside.gets.capacity c.self.inside.gets.waiters (c.in-OutOfMemory.ensures.memory refl),
+        queue-keeps c.self.inside.gets.capacity _ c.self.inside.gets.waiters c.enter.ensures.capacity,
+        refl,
+      ),
     )

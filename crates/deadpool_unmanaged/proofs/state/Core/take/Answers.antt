@@ -13,4 +13,4 @@ returns g c =
     let out : 0 < core.outside = search rules in
     let is = adds-settled (record core { outside = core.outside - 1 }) core.adds c.settle_within.new.self _ _ all refl
     c.self.invariant.together line.queue line.unnotified c.self.invariant.kept.gets.nobody_waits in
-    rw (← c.self.view_is) ((out, is), tt)
+    rw (← c.self.view_is) ((out, is), (refl, line.capacity))
