@@ -151,6 +151,7 @@ impl<T: Drop> Core<T> {
     pub fn make_room_for_waiting(&mut self) -> Result<(), AllocError>
         ensures room { OnOk result (HasRoom self.new) }
         ensures wanting { OnErr result (HasRoom self.old → ⊥) }
+        ensures same { HasRoom self.old → self.new ≡ self.old }
         ensures gets { self.old.gets_room ≤ self.new.gets_room }
         ensures adds { self.old.adds_room ≤ self.new.adds_room }
         ensures pool { self.new.pool ≡ self.old.pool }

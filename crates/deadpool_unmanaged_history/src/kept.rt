@@ -7,6 +7,7 @@ use deadpool_chronicle::{Caller, Chronicle};
 use deadpool_unmanaged::gate::Ticket;
 use deadpool_unmanaged::{Core, Reply, Step};
 use deadpool_unmanaged_journal::{Naming, OwnerReply, OwnerStep};
+use std::alloc::AllocError;
 
 // Without a history nothing is known of a step that was made.
 impl<T: Drop> KeepsState<T> for Core<T> {
@@ -68,12 +69,24 @@ impl<T: Drop> KeepsState<T> for Core<T> {
         Core::add_would_queue(self)
     }
 
-    fn next_get(&self) -> usize {
-        Core::next_get(self)
+    fn most_next_get(&self) -> usize {
+        Core::most_next_get(self)
     }
 
-    fn next_add(&self) -> usize {
-        Core::next_add(self)
+    fn most_next_add(&self) -> usize {
+        Core::most_next_add(self)
+    }
+
+    fn gets_room(&self) -> usize {
+        Core::gets_room(self)
+    }
+
+    fn adds_room(&self) -> usize {
+        Core::adds_room(self)
+    }
+
+    fn make_room_for_waiting(&mut self) -> Result<(), AllocError> {
+        Core::make_room_for_waiting(self)
     }
 
     fn take_get_wake(&mut self, _caller: &mut ()) -> Option<Ticket> {
@@ -162,12 +175,24 @@ impl<T: Drop, K: Naming<T>, H: Chronicle> KeepsState<T> for Recorded<T, K, H> {
         Recorded::add_would_queue(self)
     }
 
-    fn next_get(&self) -> usize {
-        Recorded::next_get(self)
+    fn most_next_get(&self) -> usize {
+        Recorded::most_next_get(self)
     }
 
-    fn next_add(&self) -> usize {
-        Recorded::next_add(self)
+    fn most_next_add(&self) -> usize {
+        Recorded::most_next_add(self)
+    }
+
+    fn gets_room(&self) -> usize {
+        Recorded::gets_room(self)
+    }
+
+    fn adds_room(&self) -> usize {
+        Recorded::adds_room(self)
+    }
+
+    fn make_room_for_waiting(&mut self) -> Result<(), AllocError> {
+        Recorded::make_room_for_waiting(self)
     }
 
     fn take_get_wake(&mut self, caller: &mut Caller<Line<T>, H>) -> Option<Ticket> {

@@ -1,12 +1,14 @@
 //! A pool's state, with the history that leads to it.
-ghost use Rattle.std.specs.Prelude.{◌≡◌, ◌+◌, [], ◌∷◌, ◌++◌, Some, IfOk, IfSome, false, nat_lt, not};
+ghost use Rattle.std.specs.Prelude.{◌≡◌, ◌+◌, ◌<◌, ◌↔◌, [], ◌∷◌, ◌++◌, Some, IfOk, IfSome, IsTrue};
+ghost use Rattle.std.specs.Prelude.{OnErr, OnOk, false, nat_lt, not};
 ghost use Rattle.std.specs.Option.{option_or};
 ghost use mathlib.Core.List.{IsPrefix};
 ghost use Rattle.deadpool_chronicle.specs.History.{Calls, calls_by};
 ghost use Rattle.deadpool_unmanaged.specs.Closing.{is_drained};
 ghost use Rattle.deadpool_unmanaged.specs.Replies.{Brings, IsReplyTo, Leaves};
+ghost use Rattle.deadpool_unmanaged.specs.Room.{HasRoom, RoomLasts, SameRoom, most_next_add, most_next_get};
 ghost use Rattle.deadpool_unmanaged.specs.State.{add_would_queue, bounded, get_would_queue, has_due, opened};
-ghost use Rattle.deadpool_unmanaged.specs.State.{size};
+ghost use Rattle.deadpool_unmanaged.specs.State.{listed, size};
 ghost use Rattle.deadpool_unmanaged_journal.specs.Copies.{HasSteps};
 ghost use Rattle.deadpool_unmanaged_journal.specs.LogState.{no_entries};
 ghost use Rattle.deadpool_unmanaged_journal.specs.OwnerSteps.{IsOwnerReplyTo};
@@ -148,6 +150,7 @@ impl<T: Drop, K: Naming<T>, H: Chronicle> Recorded<T, K, H> {
             self.old.pool step.now hand.old result hand.new self.new.pool }
         ensures fits { IsReplyTo step.now result }
         ensures hand { Leaves result hand.old hand.new }
+        ensures room { RoomLasts self.old.pool.core result self.new.pool.core }
         ensures call { Calls
             (IsNext (λ e. e ≡ entry.Made step.now (option_or hand.old hand.new) result))
             self.old.log caller.old self.new.log caller.new }
@@ -172,6 +175,7 @@ impl<T: Drop, K: Naming<T>, H: Chronicle> Recorded<T, K, H> {
     ) -> OwnerReply
         ensures made { MakesForOwnerNoted self.old.pool step.now result self.new.pool }
         ensures fits { IsOwnerReplyTo step.now result }
+        ensures room { SameRoom self.old.pool.core self.new.pool.core }
         ensures call { Calls (IsNext (λ e. e ≡ entry.Owner step.now result))
             self.old.log caller.old self.new.log caller.new }
         ensures seen { IsPrefix caller.old.seen self.old.log }
@@ -232,6 +236,7 @@ impl<T: Drop, K: Naming<T>, H: Chronicle> Recorded<T, K, H> {
     pub fn tally_by(&mut self, caller: &mut Caller<Line<T>, H>) -> (Tally, Status)
         ensures made { MakesForOwnerNoted self.old.pool step.Status (owner_reply.Stands result.1)
             self.new.pool }
+        ensures room { SameRoom self.old.pool.core self.new.pool.core }
         ensures tally { result.0 ≡ self.new.pool.tally }
         ensures balances { AreBalanced result.1.size result.0 }
         ensures counted { IsTallyOf caller.new.seen result.0 }
@@ -298,36 +303,77 @@ impl<T: Drop, K: Naming<T>, H: Chronicle> Recorded<T, K, H> {
 
     /// Whether a get that enters now and wants to wait joins the queue. It is no step.
     pub fn get_would_queue(&self) -> bool
-        ensures { result ≡ get_would_queue self.now.pool.core.pool }
+        ensures would { result ≡ get_would_queue self.now.pool.core.pool }
+        ensures room { IsTrue result → HasRoom self.now.pool.core
+            → listed self.now.pool.core.pool.gets < self.now.pool.core.gets_room }
     {
         self.pool.get_would_queue()
     }
 
     /// Whether an add that enters now and wants to wait joins the queue. It is no step.
     pub fn add_would_queue(&self) -> bool
-        ensures { result ≡ add_would_queue self.now.pool.core.pool }
+        ensures would { result ≡ add_would_queue self.now.pool.core.pool }
+        ensures room { IsTrue result → HasRoom self.now.pool.core
+            → listed self.now.pool.core.pool.adds < self.now.pool.core.adds_room }
     {
         self.pool.add_would_queue()
     }
 
-    /// The number of the ticket that the next get in the queue has. It is no step.
-    pub fn next_get(&self) -> usize
-        ensures { result ≡ self.now.pool.core.next_get }
+    /// The greatest number that the ticket of the next get in the queue may have. It is no step.
+    pub fn most_next_get(&self) -> usize
+        ensures { result ≡ most_next_get self.now.pool.core }
     {
-        self.pool.next_get()
+        self.pool.most_next_get()
     }
 
-    /// The number of the ticket that the next add in the queue has. It is no step.
-    pub fn next_add(&self) -> usize
-        ensures { result ≡ self.now.pool.core.next_add }
+    /// The greatest number that the ticket of the next add in the queue may have. It is no step.
+    pub fn most_next_add(&self) -> usize
+        ensures { result ≡ most_next_add self.now.pool.core }
     {
-        self.pool.next_add()
+        self.pool.most_next_add()
+    }
+
+    /// How many gets the queue has room for. It is no step.
+    pub fn gets_room(&self) -> usize
+        ensures { result ≡ self.now.pool.core.gets_room }
+    {
+        self.pool.gets_room()
+    }
+
+    /// How many adds the queue has room for. It is no step.
+    pub fn adds_room(&self) -> usize
+        ensures { result ≡ self.now.pool.core.adds_room }
+    {
+        self.pool.adds_room()
+    }
+
+    /// Whether each queue has room for all that may wait in it and all that may be granted what they ask for. It is no
+    /// step.
+    pub fn has_room_for_waiting(&self) -> bool
+        ensures { IsTrue result ↔ HasRoom self.now.pool.core }
+    {
+        self.pool.has_room_for_waiting()
+    }
+
+    /// Sees that each queue has that room. Without memory for it only the room may have changed. It is no step, and
+    /// the history has nothing of it.
+    pub fn make_room_for_waiting(&mut self) -> Result<(), AllocError>
+        ensures room { OnOk result (HasRoom self.new.pool.core) }
+        ensures wanting { OnErr result (HasRoom self.old.pool.core → ⊥) }
+        ensures same { HasRoom self.old.pool.core → self.new ≡ self.old }
+        ensures pool { self.new.pool.core.pool ≡ self.old.pool.core.pool }
+        ensures others { self.new.pool
+            ≡ record self.old.pool { core = self.new.pool.core } }
+        ensures log { self.new.log ≡ self.old.log }
+    {
+        self.pool.make_room_for_waiting()
     }
 
     /// The next get in the queue that is due to be woken. It is no step. Who was named stands in the history, in the
     /// name of the caller, which is one of the pool's own.
     pub fn take_get_wake(&mut self, caller: &mut Caller<Line<T>, H>) -> Option<Ticket>
         ensures told { TellsGetUnnoted self.old.pool result self.new.pool }
+        ensures room { SameRoom self.old.pool.core self.new.pool.core }
         ensures log { self.new.log
             ≡ self.old.log ++ told_by (λ ticket. wake.Get ticket) caller.old.number result }
     {
@@ -341,6 +387,7 @@ impl<T: Drop, K: Naming<T>, H: Chronicle> Recorded<T, K, H> {
     /// name of the caller, which is one of the pool's own.
     pub fn take_add_wake(&mut self, caller: &mut Caller<Line<T>, H>) -> Option<Ticket>
         ensures told { TellsAddUnnoted self.old.pool result self.new.pool }
+        ensures room { SameRoom self.old.pool.core self.new.pool.core }
         ensures log { self.new.log
             ≡ self.old.log ++ told_by (λ ticket. wake.Add ticket) caller.old.number result }
     {

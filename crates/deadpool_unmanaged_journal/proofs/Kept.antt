@@ -161,6 +161,11 @@ module _ {T O : Type 0} (name : T → O) where
         balances = rw many k.balances;
       }
 
+  -- so is the room of the queues
+  pub same_pool_kept : (j : Journaling T O) (core : CoreState T) → JournalInvariant name j
+      → core.pool ≡ j.core.pool → JournalInvariant name (record j { core = core })
+  same_pool_kept j core k same = told_kept j core k (ap (λ (d : State T). silent (by_name name d)) same)
+
   pub told_get_kept : (j : Journaling T O) (core : CoreState T) (named : Option ℕ) → JournalInvariant name j
       → TakesGetWake j.core.pool named core.pool → JournalInvariant name (record j { core = core })
   told_get_kept j core named k told =

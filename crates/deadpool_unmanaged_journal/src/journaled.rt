@@ -1,10 +1,11 @@
 //! A pool's state, beside the steps that led to it.
-ghost use Rattle.std.specs.Prelude.{◌≡◌, ◌-◌, [], None, IfOk, false, nat_lt, not, option_copied, slice_get};
+ghost use Rattle.std.specs.Prelude.{◌≡◌, ◌↔◌, ◌-◌, ◌<◌, [], None, IfOk, IsTrue, OnErr, OnOk, false, nat_lt, not, option_copied, slice_get};
 ghost use Rattle.deadpool_unmanaged.specs.Closing.{is_drained};
 ghost use Rattle.deadpool_unmanaged.specs.Kept as pools;
 ghost use Rattle.deadpool_unmanaged.specs.Replies.{Brings, IsReplyTo, Leaves};
+ghost use Rattle.deadpool_unmanaged.specs.Room.{HasRoom, RoomLasts, SameRoom, most_next_add, most_next_get};
 ghost use Rattle.deadpool_unmanaged.specs.State.{add_would_queue, bounded, get_would_queue, has_due, opened};
-ghost use Rattle.deadpool_unmanaged.specs.State.{size};
+ghost use Rattle.deadpool_unmanaged.specs.State.{listed, size};
 ghost use Rattle.deadpool_unmanaged_journal.specs.ByName.{name_in};
 ghost use Rattle.deadpool_unmanaged_journal.specs.Copies.{HasSteps};
 ghost use Rattle.deadpool_unmanaged_journal.specs.Kept.{JournalInvariant};
@@ -99,6 +100,7 @@ impl<T: Drop, K: Naming<T>> Journaled<T, K> {
         ensures made { MakesNoted K.name_of self.old step.now hand.old result hand.new self.new }
         ensures fits { IsReplyTo step.now result }
         ensures hand { Leaves result hand.old hand.new }
+        ensures room { RoomLasts self.old.core result self.new.core }
     {
         let taken = name_in::<T, K>(hand);
         let reply = self.core.make(step, hand);
@@ -112,6 +114,7 @@ impl<T: Drop, K: Naming<T>> Journaled<T, K> {
     pub fn make_for_owner(&mut self, step: &OwnerStep) -> OwnerReply
         ensures made { MakesForOwnerNoted self.old step.now result self.new }
         ensures fits { IsOwnerReplyTo step.now result }
+        ensures room { SameRoom self.old.core self.new.core }
     {
         let (reply, gone) = make_counting(&mut self.core, step);
         self.log.add_owner_step(step, &reply);
@@ -181,30 +184,68 @@ impl<T: Drop, K: Naming<T>> Journaled<T, K> {
 
     /// Whether a get that enters now and wants to wait joins the queue. It is no step.
     pub fn get_would_queue(&self) -> bool
-        ensures { result ≡ get_would_queue self.now.core.pool }
+        ensures would { result ≡ get_would_queue self.now.core.pool }
+        ensures room { IsTrue result → HasRoom self.now.core
+            → listed self.now.core.pool.gets < self.now.core.gets_room }
     {
         self.core.get_would_queue()
     }
 
     /// Whether an add that enters now and wants to wait joins the queue. It is no step.
     pub fn add_would_queue(&self) -> bool
-        ensures { result ≡ add_would_queue self.now.core.pool }
+        ensures would { result ≡ add_would_queue self.now.core.pool }
+        ensures room { IsTrue result → HasRoom self.now.core
+            → listed self.now.core.pool.adds < self.now.core.adds_room }
     {
         self.core.add_would_queue()
     }
 
-    /// The number of the ticket that the next get in the queue has. It is no step.
-    pub fn next_get(&self) -> usize
-        ensures { result ≡ self.now.core.next_get }
+    /// The greatest number that the ticket of the next get in the queue may have. It is no step.
+    pub fn most_next_get(&self) -> usize
+        ensures { result ≡ most_next_get self.now.core }
     {
-        self.core.next_get()
+        self.core.most_next_get()
     }
 
-    /// The number of the ticket that the next add in the queue has. It is no step.
-    pub fn next_add(&self) -> usize
-        ensures { result ≡ self.now.core.next_add }
+    /// The greatest number that the ticket of the next add in the queue may have. It is no step.
+    pub fn most_next_add(&self) -> usize
+        ensures { result ≡ most_next_add self.now.core }
     {
-        self.core.next_add()
+        self.core.most_next_add()
+    }
+
+    /// How many gets the queue has room for. It is no step.
+    pub fn gets_room(&self) -> usize
+        ensures { result ≡ self.now.core.gets_room }
+    {
+        self.core.gets_room()
+    }
+
+    /// How many adds the queue has room for. It is no step.
+    pub fn adds_room(&self) -> usize
+        ensures { result ≡ self.now.core.adds_room }
+    {
+        self.core.adds_room()
+    }
+
+    /// Whether each queue has room for all that may wait in it and all that may be granted what they ask for. It is no
+    /// step.
+    pub fn has_room_for_waiting(&self) -> bool
+        ensures { IsTrue result ↔ HasRoom self.now.core }
+    {
+        self.core.has_room_for_waiting()
+    }
+
+    /// Sees that each queue has that room. Without memory for it only the room may have changed. It is no step, and
+    /// nothing is noted.
+    pub fn make_room_for_waiting(&mut self) -> Result<(), AllocError>
+        ensures room { OnOk result (HasRoom self.new.core) }
+        ensures wanting { OnErr result (HasRoom self.old.core → ⊥) }
+        ensures same { HasRoom self.old.core → self.new ≡ self.old }
+        ensures pool { self.new.core.pool ≡ self.old.core.pool }
+        ensures others { self.new ≡ record self.old { core = self.new.core } }
+    {
+        self.core.make_room_for_waiting()
     }
 
     /// How often each thing has happened since the pool was opened. It is no step.
@@ -217,14 +258,16 @@ impl<T: Drop, K: Naming<T>> Journaled<T, K> {
 
     /// The next get in the queue that is due to be woken. It is no step, and nothing is noted.
     pub fn take_get_wake(&mut self) -> Option<Ticket>
-        ensures { TellsGetUnnoted self.old result self.new }
+        ensures tells { TellsGetUnnoted self.old result self.new }
+        ensures room { SameRoom self.old.core self.new.core }
     {
         self.core.take_get_wake()
     }
 
     /// The next add in the queue that is due to be woken. It is no step, and nothing is noted.
     pub fn take_add_wake(&mut self) -> Option<Ticket>
-        ensures { TellsAddUnnoted self.old result self.new }
+        ensures tells { TellsAddUnnoted self.old result self.new }
+        ensures room { SameRoom self.old.core self.new.core }
     {
         self.core.take_add_wake()
     }
@@ -242,6 +285,7 @@ fn make_counting<T: Drop>(core: &mut Core<T>, step: &OwnerStep) -> (OwnerReply, 
     ensures made { DoesForOwner core.old.pool step.now result.0 core.new.pool }
     ensures fits { IsOwnerReplyTo step.now result.0 }
     ensures gone { result.1 ≡ size core.old.pool - size core.new.pool }
+    ensures room { SameRoom core.old core.new }
 {
     match step {
         OwnerStep::Close | OwnerStep::DropHandle => {

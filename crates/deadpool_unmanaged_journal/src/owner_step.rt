@@ -1,5 +1,6 @@
 //! The steps of a pool that its owner makes, as values, and their replies.
 ghost use Rattle.std.specs.Prelude.{◌≡◌};
+ghost use Rattle.deadpool_unmanaged.specs.Room.{SameRoom};
 ghost use Rattle.deadpool_unmanaged_journal.specs.OwnerSteps.{DoesForOwner, IsOwnerReplyTo, reply_for};
 
 use deadpool_unmanaged::{Core, HandleReply, Status};
@@ -35,6 +36,7 @@ impl OwnerStep {
     pub fn make<T: Drop>(&self, core: &mut Core<T>) -> OwnerReply
         ensures made { DoesForOwner core.old.pool self.now result core.new.pool }
         ensures fits { IsOwnerReplyTo self.now result }
+        ensures room { SameRoom core.old core.new }
     {
         match self {
             OwnerStep::Status => OwnerReply::Stands(core.status()),

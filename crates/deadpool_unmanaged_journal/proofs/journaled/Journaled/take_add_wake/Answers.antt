@@ -6,4 +6,4 @@ use Rattle.deadpool_unmanaged_journal.proofs.journaled.Journaled.take_add_wake.G
 pub invariant_of-self : goal.invariant_of-self
 invariant_of-self g c =
     told_add_kept g.K.Naming.name_of (journaling_of c.self.inside) c.take_add_wake.new.self c.take_add_wake.result
-    c.self.invariant c.take_add_wake.ensures
+    c.self.invariant c.take_add_wake.ensures.takes
