@@ -1,5 +1,5 @@
 //! A pool's state, with the history that leads to it.
-ghost use Rattle.std.specs.Prelude.{◌≡◌, ◌+◌, ◌<◌, ◌↔◌, [], ◌∷◌, ◌++◌, Some, IfOk, IfSome, IsTrue};
+ghost use Rattle.std.specs.Prelude.{◌≡◌, ◌+◌, ◌<◌, [], ◌∷◌, ◌++◌, Some, IfOk, IfSome, IsTrue};
 ghost use Rattle.std.specs.Prelude.{OnErr, OnOk, false, nat_lt, not};
 ghost use Rattle.std.specs.Option.{option_or};
 ghost use mathlib.Core.List.{IsPrefix};
@@ -347,16 +347,8 @@ impl<T: Drop, K: Naming<T>, H: Chronicle> Recorded<T, K, H> {
         self.pool.adds_room()
     }
 
-    /// Whether each queue has room for all that may wait in it and all that may be granted what they ask for. It is no
-    /// step.
-    pub fn has_room_for_waiting(&self) -> bool
-        ensures { IsTrue result ↔ HasRoom self.now.pool.core }
-    {
-        self.pool.has_room_for_waiting()
-    }
-
-    /// Sees that each queue has that room. Without memory for it only the room may have changed. It is no step, and
-    /// the history has nothing of it.
+    /// Sees that each queue has room for all that may wait in it and all that may be granted what they ask for. Without
+    /// memory for it only the room may have changed. It is no step, and the history has nothing of it.
     pub fn make_room_for_waiting(&mut self) -> Result<(), AllocError>
         ensures room { OnOk result (HasRoom self.new.pool.core) }
         ensures wanting { OnErr result (HasRoom self.old.pool.core → ⊥) }

@@ -5,5 +5,5 @@ use Rattle.deadpool_unmanaged_history.proofs.recorded.Recorded.take_add_wake.Goa
 pub invariant_of-self-2 : goal.invariant_of-self-2
 invariant_of-self-2 g c =
     told_add_leads g.K.Naming.name_of c.self.inside.pool c.take_add_wake.new.self c.self.inside.author.log
-    c.note_told.new.author.log c.args.caller.now.number c.take_add_wake.result c.take_add_wake.ensures
+    c.note_told.new.author.log c.args.caller.now.number c.take_add_wake.result c.take_add_wake.ensures.tells
     (rw (c.in_ok-ticket.was) c.note_told.ensures) c.self.invariant
