@@ -5,7 +5,8 @@ use Rattle.deadpool_unmanaged.proofs.Words.{Waiter, Line, arrived, without_waite
 use Rattle.deadpool_unmanaged.proofs.Words.{unnotified_tickets, IsApart, served}
 use Rattle.deadpool_unmanaged.proofs.Words.{still_unnotified, unnotified_tickets-arrived}
 use Rattle.deadpool_unmanaged.proofs.Words.{unnotified_tickets-without_waiter, queue_of, queue-without, queue-joined}
-use Rattle.deadpool_unmanaged.proofs.Words.{queue-length, free_of, NobodyWaits, state_of, IsFull, KeepsRoom, listed, free_objects, ◌<◌}
+use Rattle.deadpool_unmanaged.proofs.Words.{queue-length, free_of, NobodyWaits, state_of, IsFull, KeepsRoom, listed}
+use Rattle.deadpool_unmanaged.proofs.Words.{free_objects, ◌<◌}
 use Rattle.deadpool_unmanaged.proofs.Words.{settled, last_idle, without_get, without_add, with_get, with_add, subst}
 use Rattle.deadpool_unmanaged.proofs.Words.{free_room, sym, State, Inside}
 use Rattle.std.specs.Option.{option_to_list}

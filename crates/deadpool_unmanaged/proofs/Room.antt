@@ -64,25 +64,30 @@ room_lasts c c' (GetEnter wait) None Closed k h = lasts c c' Closed (λ e. cc) h
 room_lasts c c' (GetEnter wait) (Some value) Object k h = lasts c c' Object (λ e. cc) h.1 (rw h.0.3 (refl, refl))
 room_lasts c c' (GetEnter wait) None Full k h = lasts c c' Full (λ e. cc) h.1 (rw h.0.3 (refl, refl))
 room_lasts c c' (GetEnter wait) None Crowded k h = lasts c c' Crowded (λ e. cc) h.1 (rw h.0.4 (refl, refl))
-room_lasts c c' (GetEnter wait) None (Waiting ticket) k h = joined_get c c' wait ticket k h.0.3 (rw h.0.5 (refl, refl)) h.1
+room_lasts c c' (GetEnter wait) None (Waiting ticket) k h =
+    joined_get c c' wait ticket k h.0.3 (rw h.0.5 (refl, refl)) h.1
 room_lasts c c' (GetEnter wait) None OutOfMemory k h = λ has. absurd (full_get c k h.0.3 has h.1.0)
 room_lasts c c' (GetAsk ticket expired) None Unknown k h = lasts c c' Unknown (λ e. cc) h.1 (rw h.0.1 (refl, refl))
 room_lasts c c' (GetAsk ticket expired) None Closed k h = lasts c c' Closed (λ e. cc) h.1 (rw h.0.2 (refl, refl))
-room_lasts c c' (GetAsk ticket expired) (Some value) Object k h = lasts c c' Object (λ e. cc) h.1 (rw h.0.3 (refl, refl))
+room_lasts c c' (GetAsk ticket expired) (Some value) Object k h =
+    lasts c c' Object (λ e. cc) h.1 (rw h.0.3 (refl, refl))
 room_lasts c c' (GetAsk ticket expired) None Expired k h = lasts c c' Expired (λ e. cc) h.1 (rw h.0.4 (refl, refl))
-room_lasts c c' (GetAsk ticket expired) None (Waiting same) k h = lasts c c' (Waiting same) (λ e. cc) h.1 (rw h.0.5 (refl, refl))
+room_lasts c c' (GetAsk ticket expired) None (Waiting same) k h =
+    lasts c c' (Waiting same) (λ e. cc) h.1 (rw h.0.5 (refl, refl))
 room_lasts c c' (GetCancel ticket) None Unknown k h = lasts c c' Unknown (λ e. cc) h.1 (rw h.0.1 (refl, refl))
 room_lasts c c' (GetCancel ticket) None Done k h = lasts c c' Done (λ e. cc) h.1 (rw h.0.1 (refl, refl))
 room_lasts c c' (AddEnter wait) (Some value) Closed k h = lasts c c' Closed (λ e. cc) h.1 (rw h.0.1 (refl, refl))
 room_lasts c c' (AddEnter wait) (Some value) Stored k h = lasts c c' Stored (λ e. cc) h.1 (rw h.0.2 (refl, refl))
 room_lasts c c' (AddEnter wait) (Some value) Full k h = lasts c c' Full (λ e. cc) h.1 (rw h.0.3 (refl, refl))
 room_lasts c c' (AddEnter wait) (Some value) Crowded k h = lasts c c' Crowded (λ e. cc) h.1 (rw h.0.4 (refl, refl))
-room_lasts c c' (AddEnter wait) (Some value) (Waiting ticket) k h = joined_add c c' wait ticket k h.0.3 (rw h.0.5 (refl, refl)) h.1
+room_lasts c c' (AddEnter wait) (Some value) (Waiting ticket) k h =
+    joined_add c c' wait ticket k h.0.3 (rw h.0.5 (refl, refl)) h.1
 room_lasts c c' (AddEnter wait) (Some value) OutOfMemory k h = λ has. absurd (full_add c k h.0.3 has h.1.0)
 room_lasts c c' (AddAsk ticket) (Some value) Unknown k h = lasts c c' Unknown (λ e. cc) h.1 (rw h.0.1 (refl, refl))
 room_lasts c c' (AddAsk ticket) (Some value) Closed k h = lasts c c' Closed (λ e. cc) h.1 (rw h.0.2 (refl, refl))
 room_lasts c c' (AddAsk ticket) (Some value) Stored k h = lasts c c' Stored (λ e. cc) h.1 (rw h.0.2 (refl, refl))
-room_lasts c c' (AddAsk ticket) (Some value) (Waiting same) k h = lasts c c' (Waiting same) (λ e. cc) h.1 (rw h.0.4 (refl, refl))
+room_lasts c c' (AddAsk ticket) (Some value) (Waiting same) k h =
+    lasts c c' (Waiting same) (λ e. cc) h.1 (rw h.0.4 (refl, refl))
 room_lasts c c' (AddCancel ticket) None Unknown k h = lasts c c' Unknown (λ e. cc) h.1 (rw h.0.1 (refl, refl))
 room_lasts c c' (AddCancel ticket) None Done k h = lasts c c' Done (λ e. cc) h.1 (rw h.0.1 (refl, refl))
 room_lasts c c' Back (Some value) Unknown k h = lasts c c' Unknown (λ e. cc) h.1 (rw h.0.1 (refl, refl))

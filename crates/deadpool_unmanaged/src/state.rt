@@ -145,9 +145,9 @@ impl<T: Drop> Core<T> {
         let _ = &self.gets;
     }
 
-    /// Sees that each queue has room for all that may wait in it and all that may be granted what they ask for, an object
-    /// or room for one. As the limit stays, no entry is refused for want of memory from then on. Without memory for that
-    /// only the room may have changed. A pool with no bound on those that wait never finds it.
+    /// Sees that each queue has room for all that may wait in it and all that may be granted what they ask for, an
+    /// object or room for one. As the limit stays, no entry is refused for want of memory from then on. Without memory
+    /// for that only the room may have changed. A pool with no bound on those that wait never finds it.
     pub fn make_room_for_waiting(&mut self) -> Result<(), AllocError>
         ensures room { OnOk result (HasRoom self.new) }
         ensures wanting { OnErr result (HasRoom self.old → ⊥) }

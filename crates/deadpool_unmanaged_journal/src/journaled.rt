@@ -1,5 +1,6 @@
 //! A pool's state, beside the steps that led to it.
-ghost use Rattle.std.specs.Prelude.{◌≡◌, ◌↔◌, ◌-◌, ◌<◌, [], None, IfOk, IsTrue, OnErr, OnOk, false, nat_lt, not, option_copied, slice_get};
+ghost use Rattle.std.specs.Prelude.{◌≡◌, ◌↔◌, ◌-◌, ◌<◌, [], None, IfOk, IsTrue, OnErr, OnOk, false, nat_lt, not};
+ghost use Rattle.std.specs.Prelude.{option_copied, slice_get};
 ghost use Rattle.deadpool_unmanaged.specs.Closing.{is_drained};
 ghost use Rattle.deadpool_unmanaged.specs.Kept as pools;
 ghost use Rattle.deadpool_unmanaged.specs.Replies.{Brings, IsReplyTo, Leaves};

@@ -1,6 +1,7 @@
 //! What a core says of itself between two steps: its handles, its counts, its idle objects, and who in a queue was
 //! granted what it asks for.
-ghost use Rattle.std.specs.Prelude.{◌≡◌, ◌↔◌, ◌+◌, ◌<◌, IsTrue, min, ◌&&◌, ◌==◌, length, nat_lt, not, option_copied, slice_get};
+ghost use Rattle.std.specs.Prelude.{◌≡◌, ◌↔◌, ◌+◌, ◌<◌, IsTrue, min, ◌&&◌, ◌==◌, length, nat_lt, not, option_copied};
+ghost use Rattle.std.specs.Prelude.{slice_get};
 ghost use Rattle.deadpool_gate.specs.Numbers.{has_number, largest_usize};
 ghost use Rattle.deadpool_unmanaged.specs.Closing.{is_drained};
 ghost use Rattle.deadpool_unmanaged.specs.Counts.{counts_of};
@@ -92,8 +93,8 @@ impl<T: Drop> Core<T> {
         self.adds.room()
     }
 
-    /// Whether each queue has room for all that may wait in it and all that may be granted what they ask for. As long as
-    /// it has, none is refused for want of memory.
+    /// Whether each queue has room for all that may wait in it and all that may be granted what they ask for. As long
+    /// as it has, none is refused for want of memory.
     pub fn has_room_for_waiting(&self) -> bool
         ensures { IsTrue result ↔ HasRoom self.now }
     {

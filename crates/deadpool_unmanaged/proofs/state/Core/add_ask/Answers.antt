@@ -59,7 +59,10 @@ returns-in-Granted-clause-made g c =
     let room = room-added (state_of core) c.args.ticket has.0 c.self.invariant.kept in
     let is = gets-settled (record core { adds = c.ask.new.self; idle = c.store.new.idle }) core.gets c.store.new.gets _
     _ refl puts stores.gets stores.unnotified stores.closed room in
-    rw (← c.self.view_is, has.1) ((ap not (sym c.self.invariant.together ∙ was.0), was.1, is), (stores.capacity, asked.capacity))
+    rw (← c.self.view_is, has.1) (
+      (ap not (sym c.self.invariant.together ∙ was.0), was.1, is),
+      (stores.capacity, asked.capacity),
+    )
 
 pub returns-in-Closed-clause-made : goal.returns-in-Closed-clause-made
 returns-in-Closed-clause-made g c =

@@ -20,7 +20,10 @@ pub returns-in-Unknown : goal.returns-in-Unknown
 returns-in-Unknown g c =
     let out = c.withdraw.ensures in
     let was = withdrawn-unknown _ c.args.ticket _ out.line c.in-Unknown.ensures.answer in
-    rw (← c.self.view_is) ((was.0, adds-same c.self.inside c.withdraw.new.self (out.waiters ∙ was.1)), (refl, out.capacity))
+    rw (← c.self.view_is) (
+      (was.0, adds-same c.self.inside c.withdraw.new.self (out.waiters ∙ was.1)),
+      (refl, out.capacity),
+    )
 
 pub invariant_of-self-2 : goal.invariant_of-self-2
 invariant_of-self-2 g c =

@@ -3,7 +3,8 @@ use Rattle.deadpool_unmanaged.proofs.Words.{◌∙◌, not, ap, refl, sym, subst
 use Rattle.deadpool_unmanaged.proofs.Words.{unlisted, IsKept}
 use Rattle.deadpool_unmanaged.proofs.Words.{and_parts, ltb-true, nat_lt, length, waiting_tickets, ◌≡◌, ◌<◌}
 use Rattle.deadpool_unmanaged.proofs.Words.{rules, arith, state_of, stored, free_room}
-use Rattle.deadpool_unmanaged.proofs.CoreQueues.{adds-same, adds-joined, queue-full, queue-below, queue-keeps, in_hand, gets-settled}
+use Rattle.deadpool_unmanaged.proofs.CoreQueues.{adds-same, adds-joined, queue-full, queue-below, queue-keeps}
+use Rattle.deadpool_unmanaged.proofs.CoreQueues.{in_hand, gets-settled}
 use Rattle.deadpool_unmanaged.proofs.CoreQueues.{joined_idle}
 use Rattle.deadpool_unmanaged.proofs.Kept.{kept-joined_add, kept-stored, room-stored}
 use Rattle.deadpool_unmanaged.proofs.state.Core.add_enter.Goals as goal

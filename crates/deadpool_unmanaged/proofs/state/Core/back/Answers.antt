@@ -17,7 +17,10 @@ returns-then-is_closed-clause-made g c =
     c.self.invariant.together line.queue line.unnotified c.self.invariant.kept.gets.nobody_waits in
     let out : 0 < c.args.self.now.pool.outside = search rules in
     let shut : (c.args.self.now.pool.is_open && nat_lt 0 c.args.self.now.pool.handles) ≡ false = search rules in
-    rw (in_hand c.args.hand.now c.requires).1 ((out, shut, rw (← c.self.view_is) is), rw (← c.self.view_is) (refl, line.capacity))
+    rw (in_hand c.args.hand.now c.requires).1 (
+      (out, shut, rw (← c.self.view_is) is),
+      rw (← c.self.view_is) (refl, line.capacity),
+    )
 
 pub returns-clause-made : goal.returns-clause-made
 returns-clause-made g c =

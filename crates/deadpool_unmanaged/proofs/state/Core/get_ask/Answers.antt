@@ -68,8 +68,10 @@ returns-in-Some-clause-made g c =
     (asked.waiters ∙ was.2) asked.closed in
     let value = sym c.take_last.ensures.value ∙ c.in-Some.is in
     let kept = kept-taken _ c.args.ticket c.in-Some.value value c.self.invariant.kept in
-    rw (← c.self.view_is)
-    ((ap not was.0, was.1, value, rw c.take_last.ensures.others (ap handed left ∙ settled-kept _ kept)), (asked.capacity, refl))
+    rw (← c.self.view_is) (
+      (ap not was.0, was.1, value, rw c.take_last.ensures.others (ap handed left ∙ settled-kept _ kept)),
+      (asked.capacity, refl),
+    )
 
 pub returns-in-None-clause-made : goal.returns-in-None-clause-made
 returns-in-None-clause-made g c =
@@ -79,7 +81,10 @@ returns-in-None-clause-made g c =
     (asked.waiters ∙ was.2) asked.closed in
     let none = none_idle c.self.inside.idle.items (sym c.take_last.ensures.value ∙ c.in-None.is) in
     let same : c.take_last.new.idle.items ≡ c.self.inside.idle.items = c.take_last.ensures.others ∙ rw none refl in
-    rw (← c.self.view_is, c.requires) ((or_left _ _ was.1, λ is_open. (was.1, none), rw same left), (asked.capacity, refl))
+    rw (← c.self.view_is, c.requires) (
+      (or_left _ _ was.1, λ is_open. (was.1, none), rw same left),
+      (asked.capacity, refl),
+    )
 
 pub returns-in-Closed-clause-made : goal.returns-in-Closed-clause-made
 returns-in-Closed-clause-made g c =
@@ -87,7 +92,10 @@ returns-in-Closed-clause-made g c =
     let was = asked-closed _ c.args.ticket _ asked.line c.in-Closed.ensures.answer in
     let left = gets-without c.self.inside c.ask.new.self c.args.ticket asked.line.apart
     (asked.waiters ∙ was.2) asked.closed in
-    rw (← c.self.view_is, c.requires) ((was.1, λ is_open. absurd (closed_or_open _ was.0 is_open), left), (asked.capacity, refl))
+    rw (← c.self.view_is, c.requires) (
+      (was.1, λ is_open. absurd (closed_or_open _ was.0 is_open), left),
+      (asked.capacity, refl),
+    )
 
 pub returns-in-Unknown-clause-made : goal.returns-in-Unknown-clause-made
 returns-in-Unknown-clause-made g c =
@@ -104,7 +112,10 @@ returns-then-expired-clause-made g c =
     let left = gets-without c.self.inside c.withdraw.new.self c.args.ticket asked.line.apart gone
     (c.withdraw.ensures.closed ∙ asked.closed) in
     let kept = kept-left _ c.args.ticket was.1 c.self.invariant.kept in
-    rw (← c.self.view_is, c.requires) ((ap not was.0, was.1, was.2, c.if-expired.true, left ∙ settled-kept _ kept), (c.withdraw.ensures.capacity ∙ asked.capacity, refl))
+    rw (← c.self.view_is, c.requires) (
+      (ap not was.0, was.1, was.2, c.if-expired.true, left ∙ settled-kept _ kept),
+      (c.withdraw.ensures.capacity ∙ asked.capacity, refl),
+    )
 
 pub returns-else-expired-clause-made : goal.returns-else-expired-clause-made
 returns-else-expired-clause-made g c =

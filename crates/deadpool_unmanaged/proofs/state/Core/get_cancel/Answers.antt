@@ -1,5 +1,6 @@
 -- A get that is given up leaves its queue, and an object that it was granted goes to the next get.
-use Rattle.deadpool_unmanaged.proofs.Words.{refl, ◌≡◌, ◌∙◌, sym, subst, rules, length, withdrawn-unknown, withdrawn-known}
+use Rattle.deadpool_unmanaged.proofs.Words.{refl, ◌≡◌, ◌∙◌, sym, subst, rules, length, withdrawn-unknown}
+use Rattle.deadpool_unmanaged.proofs.Words.{withdrawn-known}
 use Rattle.deadpool_unmanaged.proofs.Words.{IsKept}
 use Rattle.deadpool_unmanaged.proofs.CoreQueues.{gets-same, gets-without, gets-settled}
 use Rattle.deadpool_unmanaged.proofs.Kept.{kept-freed_get}
@@ -20,7 +21,10 @@ pub returns-in-Unknown : goal.returns-in-Unknown
 returns-in-Unknown g c =
     let out = c.withdraw.ensures in
     let was = withdrawn-unknown _ c.args.ticket _ out.line c.in-Unknown.ensures.answer in
-    rw (← c.self.view_is) ((was.0, gets-same c.self.inside c.withdraw.new.self (out.waiters ∙ was.1) out.closed), (out.capacity, refl))
+    rw (← c.self.view_is) (
+      (was.0, gets-same c.self.inside c.withdraw.new.self (out.waiters ∙ was.1) out.closed),
+      (out.capacity, refl),
+    )
 
 pub invariant_of-self-2 : goal.invariant_of-self-2
 invariant_of-self-2 g c =
