@@ -33,7 +33,8 @@ returns-in-Some-clause-made g c =
     let free : 0 < free_objects c.args.self.now.pool = search rules in
     let value = sym c.take_last.ensures.value ∙ c.in-Some.is in
     let kept = kept-handed _ c.in-Some.value (rw (← c.self.view_is) at free) value c.self.invariant.kept in
-    let goes = ap handed (gets-same c.self.inside c.enter.new.self same c.enter.ensures.closed) ∙ settled-kept _ kept in (
+    let goes = ap handed (gets-same c.self.inside c.enter.new.self same c.enter.ensures.closed) ∙ settled-kept _ kept
+    in (
       (search rules, free, rw (← c.self.view_is) value, rw (← c.self.view_is, c.take_last.ensures.others) goes),
       (search rules, search rules),
     )
