@@ -1,5 +1,6 @@
 -- The unmanaged pool between threads and tasks: what a poll does under the pool's lock.
 pub mod Locked
+pub mod Room
 -- What a poll or a call is to its caller.
 pub mod Calling
 pub mod Asking

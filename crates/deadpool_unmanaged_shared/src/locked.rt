@@ -1,10 +1,12 @@
 //! What the lock of a pool keeps.
-ghost use Rattle.std.specs.Prelude.{◌≡◌, ◌||◌, true, false, not, is_some, [], Some, None, IfSome, IsSome};
+ghost use Rattle.std.specs.Prelude.{◌≡◌, ◌≢◌, ◌||◌, true, false, not, is_some, [], Some, None, IfSome, IsSome};
+ghost use Rattle.std.specs.Prelude.{OnErr, OnOk};
 ghost use Rattle.deadpool_lock.specs.Places.{Follows};
 ghost use Rattle.deadpool_unmanaged.specs.Adds as adds;
 ghost use Rattle.deadpool_unmanaged.specs.Closing.{is_drained};
 ghost use Rattle.deadpool_unmanaged.specs.Gets as gets;
 ghost use Rattle.deadpool_unmanaged.specs.Queueing.{add_joins, get_joins};
+ghost use Rattle.deadpool_unmanaged.specs.Room.{most_next_add, most_next_get};
 ghost use Rattle.deadpool_unmanaged.specs.State.{due_get, has_due};
 ghost use Rattle.deadpool_unmanaged.specs.StateSteps.{Does};
 ghost use Rattle.deadpool_unmanaged.specs.Replies.{Leaves};
@@ -20,6 +22,7 @@ ghost use Rattle.deadpool_unmanaged_shared.specs.Locked.{PollsGet, PollsAdd, Tri
 ghost use Rattle.deadpool_lock.specs.Ends.{Departs, one_less};
 ghost use Rattle.deadpool_unmanaged_shared.specs.Locked.{FollowsOrRefuses, TellsIfDue, awaited_by, is_end_due};
 ghost use Rattle.deadpool_unmanaged_shared.specs.Locked.{due_add_alone, next_waker, told, without_waker};
+ghost use Rattle.deadpool_unmanaged_shared.specs.Room.{IsRoomy, StaysRoomy};
 
 mod draining;
 
@@ -28,7 +31,7 @@ use deadpool_unmanaged::{AddState, GetState, Moment, PoolError, Reply, Runtime, 
 use deadpool_unmanaged_history::KeepsState;
 use deadpool_unmanaged_journal::{OwnerReply, OwnerStep};
 use futures::task::{Poll, Waker};
-use std::alloc::Global;
+use std::alloc::{AllocError, Global};
 use std::marker::PhantomData;
 
 /// A pool's state between two steps, the first caller, which lets the others in, and the wakers of those in its queues.
@@ -88,6 +91,29 @@ impl<T: Drop, S: KeepsState<T>> Locked<T, S> {
         }
     }
 
+    /// Sees that there is room for all that may ever stand in a queue, and a place for the waker of each. From then on no
+    /// poll that lends a waker is refused for want of memory. Without memory for that only the room may have changed. It
+    /// is no step.
+    pub fn make_room_for_waiting(&mut self) -> Result<(), AllocError>
+        ensures room { OnOk result
+            (IsRoomy (S.state_of self.new.state) self.new.gets self.new.adds) }
+        ensures wanting { OnErr result
+            (IsRoomy (S.state_of self.old.state) self.old.gets self.old.adds → ⊥) }
+        ensures pool { (S.state_of self.new.state).pool ≡ (S.state_of self.old.state).pool }
+        ensures first { self.new.first ≡ self.old.first }
+        ensures ends { self.new.ends ≡ self.old.ends }
+    {
+        let Locked {
+            state,
+            gets,
+            adds,
+            ..
+        } = self;
+        state.make_room_for_waiting()?;
+        gets.make_places(state.gets_room())?;
+        adds.make_places(state.adds_room())
+    }
+
     /// One poll of a get, and the waker that is to be let go with the lock given back. While it waits its waker is
     /// kept, and its ticket is the caller's own. If it would join the queue and there is no waker, or no memory for it,
     /// no step is made and it has ended.
@@ -104,10 +130,14 @@ impl<T: Drop, S: KeepsState<T>> Locked<T, S> {
         ensures polls { PollsGet runtime now get.old (S.state_of self.old.state).pool result.0
             get.new (S.state_of self.new.state).pool }
         ensures waits { FollowsOrRefuses (get_joins runtime now get.old (S.state_of self.old.state).pool)
-            (S.state_of self.old.state).next_get (gets.ticket_of get.old) (gets.ticket_of get.new)
+            (most_next_get (S.state_of self.old.state)) (gets.ticket_of get.old) (gets.ticket_of get.new)
             self.old.gets registered.old result.1 self.new.gets registered.new }
         ensures heard { get_joins runtime now get.old (S.state_of self.old.state).pool ≡ true
             → OnPending result.0 (is_some registered.old ≡ true) }
+        ensures memory { IsRoomy (S.state_of self.old.state) self.old.gets self.old.adds
+            → is_some registered.old ≡ true → result.0 ≢ Poll.Ready (Err PoolError.OutOfMemory) }
+        ensures room { StaysRoomy (S.state_of self.old.state) self.old.gets self.old.adds
+            (S.state_of self.new.state) self.new.gets self.new.adds }
         ensures others { self.new.adds ≡ self.old.adds }
         ensures ends { self.new.ends ≡ self.old.ends }
         ensures call { CallsOrRefusesGet S.calls runtime now get.old result.0 get.new
@@ -115,7 +145,7 @@ impl<T: Drop, S: KeepsState<T>> Locked<T, S> {
     {
         let Locked { state, gets, .. } = self;
         let would_queue = state.get_joins(get, runtime, now);
-        if would_queue && gets.make_room(state.next_get(), registered).is_err() {
+        if would_queue && gets.make_room(state.most_next_get(), registered).is_err() {
             drop(get.take());
             return (Poll::Ready(Err(PoolError::OutOfMemory)), None);
         }
@@ -133,6 +163,8 @@ impl<T: Drop, S: KeepsState<T>> Locked<T, S> {
             None self.old.gets None result self.new.gets None }
         ensures others { self.new.adds ≡ self.old.adds }
         ensures ends { self.new.ends ≡ self.old.ends }
+        ensures room { StaysRoomy (S.state_of self.old.state) self.old.gets self.old.adds
+            (S.state_of self.new.state) self.new.gets self.new.adds }
         ensures call { CancelsGet S.calls get caller.old caller.new }
     {
         let Locked { state, gets, .. } = self;
@@ -155,17 +187,21 @@ impl<T: Drop, S: KeepsState<T>> Locked<T, S> {
         ensures polls { PollsAdd add.old (S.state_of self.old.state).pool result.0
             add.new (S.state_of self.new.state).pool }
         ensures waits { FollowsOrRefuses (add_joins add.old (S.state_of self.old.state).pool)
-            (S.state_of self.old.state).next_add (adds.ticket_of add.old) (adds.ticket_of add.new)
+            (most_next_add (S.state_of self.old.state)) (adds.ticket_of add.old) (adds.ticket_of add.new)
             self.old.adds registered.old result.1 self.new.adds registered.new }
         ensures heard { add_joins add.old (S.state_of self.old.state).pool ≡ true
             → OnPending result.0 (is_some registered.old ≡ true) }
+        ensures memory { IsRoomy (S.state_of self.old.state) self.old.gets self.old.adds
+            → is_some registered.old ≡ true → adds.IsWithoutMemory result.0 → ⊥ }
+        ensures room { StaysRoomy (S.state_of self.old.state) self.old.gets self.old.adds
+            (S.state_of self.new.state) self.new.gets self.new.adds }
         ensures others { self.new.gets ≡ self.old.gets }
         ensures ends { self.new.ends ≡ self.old.ends }
         ensures call { CallsOrRefusesAdd S.calls add.old result.0 add.new caller.old caller.new }
     {
         let Locked { state, adds, .. } = self;
         let would_queue = state.add_joins(add);
-        if would_queue && adds.make_room(state.next_add(), registered).is_err() {
+        if would_queue && adds.make_room(state.most_next_add(), registered).is_err() {
             return match add.take().begin() {
                 Some((_, value)) => (Poll::Ready(Err((value, PoolError::OutOfMemory))), None),
                 None => unreachable!(),
@@ -190,6 +226,8 @@ impl<T: Drop, S: KeepsState<T>> Locked<T, S> {
             None self.old.adds None result.1 self.new.adds None }
         ensures others { self.new.gets ≡ self.old.gets }
         ensures ends { self.new.ends ≡ self.old.ends }
+        ensures room { StaysRoomy (S.state_of self.old.state) self.old.gets self.old.adds
+            (S.state_of self.new.state) self.new.gets self.new.adds }
         ensures call { CancelsAdd S.calls add caller.old caller.new }
     {
         let Locked { state, adds, .. } = self;
@@ -204,6 +242,8 @@ impl<T: Drop, S: KeepsState<T>> Locked<T, S> {
         ensures gets { self.new.gets ≡ self.old.gets }
         ensures adds { self.new.adds ≡ self.old.adds }
         ensures ends { self.new.ends ≡ self.old.ends }
+        ensures room { StaysRoomy (S.state_of self.old.state) self.old.gets self.old.adds
+            (S.state_of self.new.state) self.new.gets self.new.adds }
         ensures call { CallsTryGet S.calls result caller.old caller.new }
     {
         let mut hand = None;
@@ -224,6 +264,8 @@ impl<T: Drop, S: KeepsState<T>> Locked<T, S> {
         ensures gets { self.new.gets ≡ self.old.gets }
         ensures adds { self.new.adds ≡ self.old.adds }
         ensures ends { self.new.ends ≡ self.old.ends }
+        ensures room { StaysRoomy (S.state_of self.old.state) self.old.gets self.old.adds
+            (S.state_of self.new.state) self.new.gets self.new.adds }
         ensures call { CallsTryAdd S.calls value result caller.old caller.new }
     {
         let mut hand = Some(value);
@@ -254,6 +296,8 @@ impl<T: Drop, S: KeepsState<T>> Locked<T, S> {
         ensures hand { Leaves result hand.old hand.new }
         ensures gets { self.new.gets ≡ self.old.gets }
         ensures adds { self.new.adds ≡ self.old.adds }
+        ensures room { StaysRoomy (S.state_of self.old.state) self.old.gets self.old.adds
+            (S.state_of self.new.state) self.new.gets self.new.adds }
         ensures call { S.calls (entry.Made Back hand.old result) caller.old caller.new }
         ensures departs { Departs (is_some hand.new) self.old.ends departure.old self.new.ends departure.new }
     {
@@ -270,6 +314,8 @@ impl<T: Drop, S: KeepsState<T>> Locked<T, S> {
         ensures gets { self.new.gets ≡ self.old.gets }
         ensures adds { self.new.adds ≡ self.old.adds }
         ensures ends { self.new.ends ≡ self.old.ends }
+        ensures room { StaysRoomy (S.state_of self.old.state) self.old.gets self.old.adds
+            (S.state_of self.new.state) self.new.gets self.new.adds }
         ensures call { S.calls (entry.Made Take None result) caller.old caller.new }
     {
         self.state.make(caller, &Step::Take, &mut None)
@@ -283,6 +329,8 @@ impl<T: Drop, S: KeepsState<T>> Locked<T, S> {
         ensures fits { IsOwnerReplyTo step.now result }
         ensures gets { self.new.gets ≡ self.old.gets }
         ensures adds { self.new.adds ≡ self.old.adds }
+        ensures room { StaysRoomy (S.state_of self.old.state) self.old.gets self.old.adds
+            (S.state_of self.new.state) self.new.gets self.new.adds }
         ensures call { S.calls (entry.Owner step.now result) caller.old caller.new }
         ensures ends { self.new.ends ≡ self.old.ends }
     {
@@ -357,6 +405,8 @@ impl<T: Drop, S: KeepsState<T>> Wakes for Locked<T, S> {
         ensures ends { TellsIfDue (has_due (S.state_of self.old.state).pool)
             (is_end_due self.old.ends (S.state_of self.old.state).pool)
             self.old.ends result self.new.ends }
+        ensures room { StaysRoomy (S.state_of self.old.state) self.old.gets self.old.adds
+            (S.state_of self.new.state) self.new.gets self.new.adds }
     {
         let Locked { state, first, .. } = self;
         if let Some(ticket) = state.take_get_wake(first) {

@@ -149,6 +149,17 @@ impl<T: Drop, C: Clock, R: Wait + Drop, S: KeepsState<T>> Pool<T, C, R, S> {
         self.inner.shared()
     }
 
+    /// Finds at once the memory for all that may ever wait, for an object or for room, if `max_waiting` of the
+    /// configuration bounds them: for their entries in the queues, and for the places of their wakers. From then on no
+    /// get and no add is refused for want of that memory. As the limit never grows, this stays so. What a future's
+    /// handle, its object or its task's waker takes is another matter.
+    ///
+    /// `AllocError` says that there is no memory for that, or no bound. The pool can be used as before, and asked again.
+    /// It is no step.
+    pub fn make_room_for_waiting(&self) -> Result<(), AllocError> {
+        self.shared().make_room_for_waiting()
+    }
+
     /// A get that waits as long as the configuration says.
     pub fn get(&self) -> Get<T, C, R, S>
         ensures asks { OwnAsks self.now self.now (getting self.now.timeout) result }

@@ -18,7 +18,7 @@ use deadpool_unmanaged::{Clock, PoolConfig, PoolError, Runtime, Status};
 use deadpool_unmanaged_history::KeepsState;
 use deadpool_unmanaged_journal::{OwnerReply, OwnerStep};
 use futures::task::{Poll, Source, Waker};
-use std::alloc::Global;
+use std::alloc::{AllocError, Global};
 use std::sync::Wait;
 use std::time::Duration;
 
@@ -71,6 +71,15 @@ impl<T: Drop, C: Clock, R: Wait + Drop, S: KeepsState<T>> Shared<T, C, R, S> {
         let mut other = step.kept().admit();
         self.lock.end(step, &mut other);
         spare
+    }
+
+    /// Finds memory for all that may ever stand in a queue, and for the places of their wakers. It is no step.
+    pub fn make_room_for_waiting(&self) -> Result<(), AllocError> {
+        let mut step = self.lock.begin();
+        let made = step.kept().make_room_for_waiting();
+        let mut caller = step.kept().admit();
+        self.lock.end(step, &mut caller);
+        made
     }
 
     /// An object at once, with a caller of its own, or why there is none.

@@ -32,13 +32,23 @@ fn stands<T: Drop, K: Naming<T>>(pool: &mut Journaled<T, K>) -> OwnerReply {
     pool.make_for_owner(&OwnerStep::Status)
 }
 
-// Whether a get and an add would wait, and the numbers that their tickets would have.
+// Whether a get and an add would wait, and the greatest numbers that their tickets may have.
 fn next<T: Drop, K: Naming<T>>(pool: &Journaled<T, K>) -> (bool, bool, usize, usize) {
     (
         pool.get_would_queue(),
         pool.add_would_queue(),
-        pool.next_get(),
-        pool.next_add(),
+        pool.most_next_get(),
+        pool.most_next_add(),
+    )
+}
+
+// Whether there is room for all that may wait, whether it was made, and how many are that.
+fn room<T: Drop, K: Naming<T>>(pool: &mut Journaled<T, K>) -> (bool, bool, usize, usize) {
+    (
+        pool.has_room_for_waiting(),
+        pool.make_room_for_waiting().is_ok(),
+        pool.gets_room(),
+        pool.adds_room(),
     )
 }
 
@@ -70,6 +80,7 @@ fn all<T: Drop, K: Naming<T>, R: Print>(
 ) -> io::Result<Tally> {
     println!(rt; "{:?} {:?}", add(pool, value), stands(pool))?;
     println!(rt; "{:?} {:?} {:?}", next(pool), wakes(pool), asked(pool))?;
+    println!(rt; "{:?}", room(pool))?;
     Ok(pool.tally())
 }
 

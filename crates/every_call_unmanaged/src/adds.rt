@@ -13,7 +13,13 @@ fn added<R: Host, S: KeepsState<u64>>(rt: &R, pool: &Numbers<R, S>) -> io::Resul
     Ok([own.is_ok(), borrowing.is_ok()])
 }
 
+// Whether there is room for all that may wait. There is none if nothing bounds them.
+fn roomy<R: Host, S: KeepsState<u64>>(pool: &Numbers<R, S>) -> bool {
+    pool.make_room_for_waiting().is_ok()
+}
+
 /// Prints what the calls gave.
 pub fn calls<R: Host + Print, S: KeepsState<u64>>(rt: &R, pool: &Numbers<R, S>) -> io::Result<()> {
-    println!(rt; "added: {:?}", added(rt, pool)?)
+    println!(rt; "added: {:?}", added(rt, pool)?)?;
+    println!(rt; "roomy: {}", roomy(pool))
 }

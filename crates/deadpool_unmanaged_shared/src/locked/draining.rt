@@ -4,11 +4,13 @@ ghost use Rattle.std.specs.Option.{option_or};
 ghost use Rattle.deadpool_lock.specs.Ends.{IsGone, Stands, has_come, listed, status_in, without};
 ghost use Rattle.deadpool_lock.specs.Places.{Follows, waker_at};
 ghost use Rattle.deadpool_unmanaged.specs.Closing.{ShowsLeft, is_drained};
+ghost use Rattle.deadpool_unmanaged.specs.Room.{SameRoom};
 ghost use Rattle.deadpool_unmanaged.specs.StateSteps.{closed_pool};
 ghost use Rattle.deadpool_unmanaged_journal.specs.declared.entry.Entry.TheVariants as entry;
 ghost use Rattle.deadpool_unmanaged_journal.specs.declared.owner_step.OwnerReply.TheVariants as reply;
 ghost use Rattle.deadpool_unmanaged_journal.specs.declared.owner_step.OwnerStep.TheVariants as step;
 ghost use Rattle.deadpool_unmanaged_shared.specs.Drains.{CallsOfDrain, EndsAt, HasClosed};
+ghost use Rattle.deadpool_unmanaged_shared.specs.Room.{StaysRoomy};
 ghost use Rattle.futures.specs.Poll.{IfReady, OnPending};
 
 use super::Locked;
@@ -46,6 +48,8 @@ impl<T: Drop, S: KeepsState<T>> Locked<T, S> {
         ensures departing { self.new.ends.departing ≡ self.old.ends.departing }
         ensures left { IfReady result.0 (λ _. ticket.new ≡ None) }
         ensures line { IfReady result.0 (λ _. IsGone ticket.old self.old.ends.line self.new.ends.line) }
+        ensures room { StaysRoomy (S.state_of self.old.state) self.old.gets self.old.adds
+            (S.state_of self.new.state) self.new.gets self.new.adds }
         ensures calls { CallsOfDrain S.keeps S.calls is_first result.0 caller.old caller.new }
         ensures gets { self.new.gets ≡ self.old.gets }
         ensures adds { self.new.adds ≡ self.old.adds }
@@ -83,6 +87,7 @@ fn close<T: Drop, S: KeepsState<T>>(state: &mut S, caller: &mut S::Caller, is_fi
     ensures closed { (S.state_of state.new).pool.is_open ≡ false }
     ensures pool { ((S.state_of state.new).pool ≡ closed_pool (S.state_of state.old).pool)
         ⊎ ((S.state_of state.new).pool ≡ (S.state_of state.old).pool) }
+    ensures room { SameRoom (S.state_of state.old) (S.state_of state.new) }
     ensures call { HasClosed S.keeps S.calls is_first caller.old caller.new }
 {
     if !is_first {
@@ -99,6 +104,7 @@ fn status<T: Drop, S: KeepsState<T>>(state: &mut S, caller: &mut S::Caller) -> S
     requires closed { (S.state_of state.old).pool.is_open ≡ false }
     ensures shows { ShowsLeft (is_drained (S.state_of state.old).pool) result }
     ensures pool { (S.state_of state.new).pool ≡ (S.state_of state.old).pool }
+    ensures room { SameRoom (S.state_of state.old) (S.state_of state.new) }
     ensures call { S.calls (entry.Owner step.Status (reply.Stands result)) caller.old caller.new }
 {
     laws::status_shows_what_is_left::<T>();
