@@ -154,8 +154,8 @@ impl<T: Drop, C: Clock, R: Wait + Drop, S: KeepsState<T>> Pool<T, C, R, S> {
     /// get and no add is refused for want of that memory. As the limit never grows, this stays so. What a future's
     /// handle, its object or its task's waker takes is another matter.
     ///
-    /// `AllocError` says that there is no memory for that, or no bound. The pool can be used as before, and asked again.
-    /// It is no step.
+    /// `AllocError` says that there is no memory for that, or no bound. The pool can be used as before, and asked
+    /// again. It is no step.
     pub fn make_room_for_waiting(&self) -> Result<(), AllocError> {
         self.shared().make_room_for_waiting()
     }

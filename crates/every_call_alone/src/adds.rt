@@ -9,7 +9,8 @@ fn stored(core: &mut Core<u64>) -> Poll<Result<(), (u64, PoolError)>> {
     AddState::new(7).poll(core)
 }
 
-// An add that waits, and is given up: the greatest number that its ticket may have, the one that it has, and its object.
+// An add that waits, and is given up: the greatest number that its ticket may have, the one that it has, and its
+// object.
 fn waits(core: &mut Core<u64>) -> (usize, Option<usize>, Option<u64>) {
     let mut add = AddState::new(8);
     let most = core.most_next_add();
