@@ -92,8 +92,8 @@ impl<T: Drop, S: KeepsState<T>> Locked<T, S> {
     }
 
     /// Sees that there is room for all that may ever stand in a queue, and a place for the waker of each. From then on
-    /// no poll that lends a waker is refused for want of memory. Without memory for that only the room may have changed.
-    /// It is no step.
+    /// no poll that lends a waker is refused for want of memory. Without memory for that only the room may have
+    /// changed. It is no step.
     pub fn make_room_for_waiting(&mut self) -> Result<(), AllocError>
         ensures room { OnOk result
             (IsRoomy (S.state_of self.new.state) self.new.gets self.new.adds) }
