@@ -24,10 +24,12 @@ fn limited(builder: Builder) -> Builder {
         .queue_mode(QueueMode::Lifo)
         .min_idle(1)
         .max_waiting(Some(3))
+        .room_for_waiting()
 }
 
 /// Prints what the calls gave.
 pub fn calls<R: Print + AllocGlobal>(rt: &R) -> io::Result<()> {
     let opened = limited(timed(rt.alloc())).open(0);
-    println!(rt; "builder: {}", opened.is_ok())
+    let has_room = opened.is_ok_and(|pool| pool.core.has_room_for_waiting());
+    println!(rt; "builder: {has_room}")
 }
