@@ -76,6 +76,18 @@ impl<T> Core<T> {
         let _ = &self.gate;
     }
 
+    /// Sees that the queue has room for all gets that may wait in it and all that may be granted a place, at the
+    /// greatest limit that the pool has had so far. Without memory for that only the room may have changed. A pool
+    /// with no bound on the gets that wait never finds it.
+    #[inline]
+    pub fn make_room_for_waiting(&mut self) -> Result<(), AllocError> {
+        let most = self.max_waiting.saturating_add(self.ring.capacity());
+        if most > usize::MAX / 2 {
+            return Err(AllocError);
+        }
+        self.gate.reserve(most)
+    }
+
     /// The next get in the queue that is due to be woken, as it was granted a place or the pool has closed, and that
     /// was not named before. It stays in the queue until it asks or is cancelled. This is no step of the pool.
     #[inline]

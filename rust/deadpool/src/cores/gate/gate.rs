@@ -4,7 +4,7 @@
 mod store;
 mod within;
 
-use crate::rattle::Global;
+use crate::rattle::{AllocError, Global};
 use store::{Change, Node, NodeStore};
 
 /// Stands for one waiter while it is listed. Its number says nothing of the order, and a later waiter may get it again
@@ -148,6 +148,28 @@ impl Gate {
     #[inline]
     pub fn next_number(&self) -> usize {
         self.store.next_key()
+    }
+
+    /// Sees that there is memory for so many waiters in all, those included that are listed. Without it, only the room
+    /// may have changed.
+    #[inline]
+    pub fn reserve(&mut self, waiters: usize) -> Result<(), AllocError> {
+        self.store.reserve(waiters)
+    }
+
+    /// How many waiters it can list before it has to find memory. It never falls.
+    #[inline]
+    pub fn room(&self) -> usize {
+        self.store.room()
+    }
+
+    /// The greatest number that the next waiter's ticket may have. If there is room for that waiter it is below the
+    /// room.
+    #[inline]
+    pub fn most_next_number(&self) -> usize {
+        let room = self.room();
+        let listed = self.granted() + self.waiting();
+        if listed < room { room - 1 } else { self.next_number() }
     }
 
     // Gives a place to the earliest waiter without one.

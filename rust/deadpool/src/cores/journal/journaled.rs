@@ -125,10 +125,23 @@ impl<T> Journaled<T> {
         self.core.would_queue()
     }
 
-    /// The number of the ticket that the next get in the queue has. It is no step.
+    /// The greatest number that the ticket of the next get in the queue may have. It is no step.
     #[inline]
-    pub fn next_ticket(&self) -> usize {
-        self.core.next_ticket()
+    pub fn most_next_ticket(&self) -> usize {
+        self.core.most_next_ticket()
+    }
+
+    /// How many gets the queue can list before it has to find memory. It is no step.
+    #[inline]
+    pub fn queue_room(&self) -> usize {
+        self.core.queue_room()
+    }
+
+    /// Sees that the queue has room for all gets that may wait in it and all that may be granted a place. It is no
+    /// step. Without memory for that only the room may have changed.
+    #[inline]
+    pub fn make_room_for_waiting(&mut self) -> Result<(), AllocError> {
+        self.core.make_room_for_waiting()
     }
 
     /// How often each thing has happened since the pool was opened. It is no step.

@@ -94,6 +94,22 @@ impl<T> Core<T> {
         let _ = &self.gets;
     }
 
+    /// Sees that each queue has room for all that may wait in it and all that may be granted what they ask for, an
+    /// object or room for one. As the limit stays, no entry is refused for want of memory from then on. Without memory
+    /// for that only the room may have changed. A pool with no bound on those that wait never finds it.
+    #[inline]
+    pub fn make_room_for_waiting(&mut self) -> Result<(), AllocError> {
+        if self.has_room_for_waiting() {
+            return Ok(());
+        }
+        let most = self.most_listed();
+        if most > usize::MAX / 2 {
+            return Err(AllocError);
+        }
+        self.gets.reserve(most)?;
+        self.adds.reserve(most)
+    }
+
     /// The earliest get in the queue whose wait has ended, by an object or by the closing, and that was not named
     /// before. It stays in the queue until it asks or cancels. Nothing else changes.
     #[inline]
@@ -115,9 +131,10 @@ impl<T> Core<T> {
     }
 
     /// Makes one step. The object that it takes or gives is in `hand`. `OutOfMemory` comes only if the queue had no
-    /// room left.
+    /// room left, so never once there is room for all that may wait.
     #[inline(always)]
     pub fn make(&mut self, step: &Step, hand: &mut Option<T>) -> Reply {
+        let _ = &self.gets;
         match step {
             Step::GetEnter { wait } => self.get_enter(*wait, hand),
             Step::GetAsk { ticket, expired } => self.get_ask(*ticket, *expired, hand),

@@ -121,16 +121,42 @@ impl<T, K: Naming<T>> Journaled<T, K> {
         self.core.add_would_queue()
     }
 
-    /// The number of the ticket that the next get in the queue has. It is no step.
+    /// The greatest number that the ticket of the next get in the queue may have. It is no step.
     #[inline]
-    pub fn next_get(&self) -> usize {
-        self.core.next_get()
+    pub fn most_next_get(&self) -> usize {
+        self.core.most_next_get()
     }
 
-    /// The number of the ticket that the next add in the queue has. It is no step.
+    /// The greatest number that the ticket of the next add in the queue may have. It is no step.
     #[inline]
-    pub fn next_add(&self) -> usize {
-        self.core.next_add()
+    pub fn most_next_add(&self) -> usize {
+        self.core.most_next_add()
+    }
+
+    /// How many gets the queue has room for. It is no step.
+    #[inline]
+    pub fn gets_room(&self) -> usize {
+        self.core.gets_room()
+    }
+
+    /// How many adds the queue has room for. It is no step.
+    #[inline]
+    pub fn adds_room(&self) -> usize {
+        self.core.adds_room()
+    }
+
+    /// Whether each queue has room for all that may wait in it and all that may be granted what they ask for. It is no
+    /// step.
+    #[inline]
+    pub fn has_room_for_waiting(&self) -> bool {
+        self.core.has_room_for_waiting()
+    }
+
+    /// Sees that each queue has that room. Without memory for it only the room may have changed. It is no step, and
+    /// nothing is noted.
+    #[inline]
+    pub fn make_room_for_waiting(&mut self) -> Result<(), AllocError> {
+        self.core.make_room_for_waiting()
     }
 
     /// How often each thing has happened since the pool was opened. It is no step.

@@ -86,10 +86,24 @@ impl<T> Core<T> {
         self.gate.has_place(ticket)
     }
 
-    /// The number of the ticket that the next get in the queue has.
+    /// The greatest number that the ticket of the next get in the queue may have.
     #[inline]
-    pub fn next_ticket(&self) -> usize {
-        self.gate.next_number()
+    pub fn most_next_ticket(&self) -> usize {
+        self.gate.most_next_number()
+    }
+
+    /// How many gets the queue can list before it has to find memory. It never falls.
+    #[inline]
+    pub fn queue_room(&self) -> usize {
+        self.gate.room()
+    }
+
+    /// Whether the queue has room for all gets that may wait in it and all that may be granted a place. As long as it
+    /// has, none is refused for want of memory.
+    #[inline]
+    pub fn has_room_for_waiting(&self) -> bool {
+        let most = self.max_waiting.saturating_add(self.ring.capacity());
+        most <= self.gate.room().min(usize::MAX / 2)
     }
 
     // How many objects stay idle, if as many are.

@@ -46,6 +46,19 @@ impl NodeStore {
         NodeStore { nodes: Slab::new(alloc) }
     }
 
+    /// Sees that there is memory for so many nodes in all. It is no access to a node.
+    #[inline]
+    pub fn reserve(&mut self, nodes: usize) -> Result<(), AllocError> {
+        let more = nodes.saturating_sub(self.nodes.len());
+        self.nodes.reserve_exact(more)
+    }
+
+    /// How many nodes there is memory for.
+    #[inline]
+    pub fn room(&self) -> usize {
+        self.nodes.capacity()
+    }
+
     /// The key that the next node gets. It is no access to a node.
     #[inline]
     pub fn next_key(&self) -> usize {

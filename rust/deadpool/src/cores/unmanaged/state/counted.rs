@@ -50,16 +50,45 @@ impl<T> Core<T> {
         }
     }
 
-    /// The number of the ticket that the next get in the queue has.
+    /// The greatest number that the ticket of the next get in the queue may have. If there is room for that get it is
+    /// below the room.
     #[inline]
-    pub fn next_get(&self) -> usize {
-        self.gets.next_number()
+    pub fn most_next_get(&self) -> usize {
+        self.gets.most_next_number()
     }
 
-    /// The number of the ticket that the next add in the queue has.
+    /// The greatest number that the ticket of the next add in the queue may have. If there is room for that add it is
+    /// below the room.
     #[inline]
-    pub fn next_add(&self) -> usize {
-        self.adds.next_number()
+    pub fn most_next_add(&self) -> usize {
+        self.adds.most_next_number()
+    }
+
+    /// How many gets the queue has room for.
+    #[inline]
+    pub fn gets_room(&self) -> usize {
+        self.gets.room()
+    }
+
+    /// How many adds the queue has room for.
+    #[inline]
+    pub fn adds_room(&self) -> usize {
+        self.adds.room()
+    }
+
+    /// Whether each queue has room for all that may wait in it and all that may be granted what they ask for. As long
+    /// as it has, none is refused for want of memory.
+    #[inline]
+    pub fn has_room_for_waiting(&self) -> bool {
+        let most = self.most_listed();
+        let room = self.gets_room().min(self.adds_room());
+        most <= room.min(usize::MAX / 2)
+    }
+
+    // How many a queue lists at most, or the greatest number.
+    #[inline]
+    pub(super) fn most_listed(&self) -> usize {
+        self.max_waiting.saturating_add(self.limit)
     }
 
     // How many idle objects no get was granted.
