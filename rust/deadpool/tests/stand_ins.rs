@@ -202,6 +202,30 @@ fn a_slab_without_memory_gives_a_value_back_and_is_as_before() {
     assert!(times_refused > 1);
 }
 
+#[test]
+fn a_slab_with_room_for_values_takes_them_without_memory_under_keys_below_it() {
+    for (kept, gone, more) in [(0, 0, 5), (3, 0, 4), (4, 2, 1), (4, 2, 10), (0, 6, 3)] {
+        let mut slab = Slab::new(Global);
+        (0..kept + gone).for_each(|value| assert_eq!(slab.insert(value), Ok(value)));
+        (kept..kept + gone).for_each(|key| assert_eq!(slab.try_remove(key), Some(key)));
+        let next = slab.vacant_key();
+        for additional in [usize::MAX, isize::MAX as usize] {
+            assert_eq!(slab.reserve_exact(additional), Err(AllocError));
+        }
+        assert_eq!(slab.reserve_exact(more), Ok(()));
+        assert_eq!((slab.len(), slab.vacant_key()), (kept, next));
+        let room = slab.capacity();
+        assert!(kept + more <= room);
+        for value in kept..room {
+            let key = without_memory(|| slab.insert(value)).expect("room");
+            assert!(key < room);
+        }
+        assert_eq!((slab.len(), slab.capacity()), (room, room));
+        assert_eq!(refused(|| slab.reserve_exact(1)), Err(AllocError));
+        assert_eq!(without_memory(|| slab.reserve_exact(0)), Ok(()));
+    }
+}
+
 fn list_of(items: &[usize]) -> rattle::Vec<usize> {
     let mut list = rattle::Vec::new(Global);
     items.iter().for_each(|item| assert_eq!(list.push(*item), Ok(())));

@@ -1,5 +1,5 @@
 //! Values under keys that the slab picks.
-use super::Global;
+use super::{AllocError, Global};
 
 pub(crate) struct Slab<T> {
     /// A value, or the key that was vacant before this one.
@@ -18,6 +18,17 @@ impl<T> Slab<T> {
     #[inline]
     pub(crate) fn len(&self) -> usize {
         self.len
+    }
+
+    /// How many values fit without more memory.
+    pub(crate) fn capacity(&self) -> usize {
+        self.places.capacity()
+    }
+
+    /// If it ends well there is memory for so many values more. If not, the values and the next key are as they were.
+    pub(crate) fn reserve_exact(&mut self, additional: usize) -> Result<(), AllocError> {
+        let vacant = self.places.len() - self.len;
+        self.places.try_reserve_exact(additional.saturating_sub(vacant)).map_err(|_| AllocError)
     }
 
     /// The value under a key, if there is one.
