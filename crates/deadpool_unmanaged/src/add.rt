@@ -113,7 +113,8 @@ impl<T: Drop> AddState<T> {
     }
 
     /// Brings the object to the pool, with at most one step. If the add is refused, the object comes back with the
-    /// cause. An add that joins the queue has the ticket that `next_add` told. An add that has ended stays pending.
+    /// cause. The ticket of an add that joins the queue has no greater number than `most_next_add` told, and with room
+    /// for all that may wait none is refused for want of memory. An add that has ended stays pending.
     pub fn poll(&mut self, core: &mut Core<T>) -> Poll<Result<(), (T, PoolError)>>
         ensures polls { PollsAdd self.old core.old.pool result self.new core.new.pool }
         ensures memory { IsWithoutMemory result → IsFull core.old.adds_room (listed core.old.pool.adds) }

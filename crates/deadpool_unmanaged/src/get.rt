@@ -113,8 +113,9 @@ impl GetState {
     }
 
     /// Asks the pool for an object, with at most one step. A wait above zero needs a runtime, which is looked for
-    /// before the pool is asked. A get that joins the queue has the ticket that `next_get` told. A get that has ended
-    /// stays pending.
+    /// before the pool is asked. The ticket of a get that joins the queue has no greater number than `most_next_get`
+    /// told, and with room for all that may wait none is refused for want of memory. A get that has ended stays
+    /// pending.
     pub fn poll<T: Drop>(
         &mut self,
         core: &mut Core<T>,
