@@ -67,12 +67,14 @@ const CALLS: [Call; 12] = [
 ];
 
 impl Call {
-    // Handles are counts of what is shared, and an idle object is handed out as it is.
+    // Handles are counts of what is shared, an idle object is handed out as it is, and where there is room to wait none
+    // is taken.
     fn takes_memory(self) -> bool {
         match self {
             Call::Build | Call::Journal | Call::Resize | Call::Retain => true,
-            Call::Queue | Call::QueueWithRoom | Call::Drain => true,
-            Call::Clone | Call::Weak | Call::Upgrade | Call::ObjectPool | Call::Get => false,
+            Call::Queue | Call::Drain => true,
+            Call::Clone | Call::Weak | Call::Upgrade | Call::ObjectPool => false,
+            Call::Get | Call::QueueWithRoom => false,
         }
     }
 
@@ -399,16 +401,4 @@ fn calls_of_a_shared_pool_that_find_no_memory(rt: HostRuntime) -> Result<(), Fai
     }
     println!(rt; "{refused} refusals")?;
     Ok(())
-}
-
-// Its waker is all that a get needs memory for that finds its place in the queue made.
-#[test]
-fn a_get_that_has_room_to_wait_needs_less_memory(rt: HostRuntime) -> Result<(), Fail> {
-    let mut hoard = Hoard::new(rt.alloc())?;
-    let refused = try_call(rt, &mut hoard, Call::Queue)?;
-    let with_room = try_call(rt, &mut hoard, Call::QueueWithRoom)?;
-    if with_room < refused {
-        return Ok(());
-    }
-    Err(Fail::new(format_args!("refused {with_room} times with room, and {refused} times without")))
 }
